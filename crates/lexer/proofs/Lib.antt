@@ -1,0 +1,3 @@
+pub mod LexLaws
+pub mod PlaceLaws
+pub mod ReadLaws

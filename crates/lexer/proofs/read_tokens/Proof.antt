@@ -1,0 +1,43 @@
+-- `read_tokens` gives what `lex` gives of a rule that passed, and the refusal of another. Assumes nothing.
+use denote.Ref.{now}
+use mathlib.Core.Path.{sym, _∙_}
+use lib.ListN.{length}
+use Rattle.lexer.proofs.ReadLaws.{passed-has-room, passed-reads, refused-reads}
+use borrow.Author.Needs.{needs}
+use Rattle.lexer.proofs.read_tokens.Statement.{statement}
+use Rattle.lexer.proofs.read_tokens.Tie as tie
+
+check-rule-requires : tie.Need-check-rule-requires
+check-rule-requires c κs = search needs
+
+enum-known-r : tie.Need-enum-known-r
+enum-known-r c = search needs
+
+enum-told : tie.Need-enum-told
+enum-told c = search needs
+
+lex-requires : tie.Need-lex-requires
+lex-requires c κs = search needs
+
+returns : tie.Need-returns
+returns c = refused-reads (sym (c .before .before .before .check-rule .ensures) ∙ c .before .r .given .1)
+
+same-length : tie.Need-same-length
+same-length c = search needs
+
+returns-2 : tie.Need-returns-2
+returns-2 c =
+    let e = sym (c .before .before .before .before .before .before .check-rule .ensures) ∙ c .before .before .before .before .enum-told .given .1 in
+    passed-reads e (passed-has-room (now (c .before .before .before .before .before .before .before .before .before .args .rule)) (length (now (c .before .before .before .before .before .before .before .before .before .args .tokens))) (c .before .before .before .before .before .before .before .before .before .args .tree) (c .before .before .before .before .before .before .before .before .before .args .errors) e) (c .before .before .lex .ensures)
+
+pub read-tokens-spec : {M : Type 1} → statement M
+read-tokens-spec =
+    tie.close
+    (tie.spec
+    check-rule-requires
+    enum-known-r
+    enum-told
+    lex-requires
+    returns
+    same-length
+    returns-2)

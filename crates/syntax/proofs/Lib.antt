@@ -1,0 +1,5 @@
+pub mod BoolLaws
+pub mod EveryByte
+pub mod TextLaws
+pub mod TableLaws
+pub mod Utf8Laws

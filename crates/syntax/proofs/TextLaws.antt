@@ -1,0 +1,52 @@
+-- Texts at a place, and two texts compared byte by byte. Assumes nothing.
+use mathlib.Core.Path.{_≡_, refl, sym, ap, _∙_}
+use mathlib.Core.Bool.{true, false}
+use mathlib.Core.List.{List, [], _∷_}
+use Prim.Native.Nat.{ℕ, suc, _+_, _≤_, _<_}
+use native.Mathlib.Numerals.{add-one}
+use native.Mathlib.Omega.{arith}
+use borrow.Author.Tests.{eq-eqb, ne-eqb}
+use lib.Dec.{eqb}
+use lib.ListN.{length, drop, getD, drop-of-length-le}
+use lib.Seq.{drop-cons}
+use Rattle.syntax.specs.Text.{same}
+use Rattle.syntax.proofs.BoolLaws.{and-false}
+
+-- the text from a place on: its first byte, and the text from the next place on
+pub from : (s : List ℕ) (i : ℕ) → i < length s → drop i s ≡ getD s i 0 ∷ drop (i + 1) s
+from s i h = rw (add-one, drop-cons s i 0)
+
+-- two texts of one length, compared up to i: what is left of them is the same where they are
+pub record Compared (x y : List ℕ) (i : ℕ) : Type 0 where
+  pub long : length x ≡ length y
+  pub within : i ≤ length x
+  pub rests : same (drop i x) (drop i y) ≡ same x y
+
+pub same-start : {x y : List ℕ} → length x ≡ length y → Compared x y 0
+same-start e = record { long = e; within = omega arith; rests = refl }
+
+module _ {x y : List ℕ} {i : ℕ} (c : Compared x y i) where
+  pub same-goes : i < length y → getD x i 0 ≡ getD y i 0 → Compared x y (i + 1)
+  same-goes h e =
+      let k : i < length x = omega (arith, c .long) in
+      record {
+        long = c .long;
+        within = omega arith;
+        rests = sym (rw (from x i k, from y i h, eq-eqb _ _ e)) ∙ c .rests;
+      }
+
+  pub same-stops : i < length y → (getD x i 0 ≡ getD y i 0 → ⊥) → false ≡ same x y
+  same-stops h e =
+      let k : i < length x = omega (arith, c .long) in
+      sym (rw (from x i k, from y i h, ne-eqb _ _ e)) ∙ c .rests
+
+  pub same-ends : length y ≤ i → true ≡ same x y
+  same-ends h =
+      let k : length x ≤ i = omega (arith, c .long) in
+      sym (rw (drop-of-length-le x k, drop-of-length-le y h)) ∙ c .rests
+
+pub same-lengths : (x y : List ℕ) → (length x ≡ length y → ⊥) → same x y ≡ false
+same-lengths [] [] h = absurd (h refl)
+same-lengths [] (b ∷ y) h = refl
+same-lengths (a ∷ x) [] h = refl
+same-lengths (a ∷ x) (b ∷ y) h = rw (same-lengths x y (λ e. h (ap suc e))) (and-false (eqb a b))

@@ -1,0 +1,19 @@
+use borrow.Author.Tests.{eq-eqb, ne-eqb}
+use Rattle.syntax.specs.Utf8Scan.{leadLow}
+use Rattle.syntax.proofs.utf8.lead_low.Statement.{statement}
+use Rattle.syntax.proofs.utf8.lead_low.Tie as tie
+
+returns : tie.Need-returns
+unfolding leadLow
+returns c = simp (eq-eqb _ _ (c .if1 .taken))
+
+returns-2 : tie.Need-returns-2
+unfolding leadLow
+returns-2 c = simp (ne-eqb _ _ (c .before .if1 .left), eq-eqb _ _ (c .if2 .taken))
+
+returns-3 : tie.Need-returns-3
+unfolding leadLow
+returns-3 c = simp (ne-eqb _ _ (c .before .if1 .left), ne-eqb _ _ (c .if2 .left))
+
+pub lead-low-spec : {M : Type 1} → statement M
+lead-low-spec = tie.close (tie.spec returns returns-2 returns-3)

@@ -1,0 +1,6 @@
+pub mod Kind
+pub mod Refusal
+pub mod Text
+pub mod Table
+pub mod Utf8
+pub mod Utf8Scan
