@@ -97,3 +97,7 @@ CONTAINS-EXPR = 29
 
 abbrev pub COUNT-COMPARE-EXPR : ℕ
 COUNT-COMPARE-EXPR = 30
+
+-- `__LAST`: no token and no node has it. It stands for the kind of a token that is not there
+abbrev pub NONE : ℕ
+NONE = 31

@@ -1,3 +1,4 @@
+pub mod Form
 pub mod Kind
 pub mod Refusal
 pub mod Text

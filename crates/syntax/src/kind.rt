@@ -66,3 +66,6 @@ pub const IDENT_EXPR: u32 = 28;
 pub const CONTAINS_EXPR: u32 = 29;
 
 pub const COUNT_COMPARE_EXPR: u32 = 30;
+
+// `__LAST`: no token and no node has it. It stands for the kind of a token that is not there.
+pub const NONE: u32 = 31;

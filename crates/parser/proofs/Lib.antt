@@ -1,0 +1,4 @@
+pub mod GreenLaws
+pub mod TokenLaws
+pub mod WritingLaws
+pub mod Vectors

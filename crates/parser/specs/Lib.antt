@@ -1,0 +1,5 @@
+pub mod Green
+pub mod Look
+pub mod Parse
+pub mod Rows
+pub mod Writing
