@@ -1,6 +1,6 @@
 -- Laws of the lexer's definitions: token by token, tiling, joints. Assumes nothing.
 use mathlib.Core.Path.{_≡_, refl, sym, ap, _∙_, subst}
-use mathlib.Core.Bool.{Bool, true, false, cond, _&&_}
+use mathlib.Core.Bool.{Bool, true, false, cond, _&&_, and-assoc}
 use mathlib.Core.List.{List, [], _∷_, _++_, append-assoc}
 use Prim.Native.Nat.{ℕ, zero, suc, _+_, _*_, _-_, _≤_, _<_, zero-le, suc-le-suc}
 use native.Mathlib.Nat.{le-of-suc-le-suc, not-suc-le-zero}
@@ -10,7 +10,7 @@ use lib.ListN.{length, take, drop, getD, take-append-drop, length-append, length
 use lib.Seq.{drop-drop, length-take-le, take-append-le}
 use Rattle.syntax.specs.Kind.{DOT, L-PAREN, R-PAREN}
 use Rattle.syntax.specs.Text.{is}
-use Rattle.syntax.proofs.BoolLaws.{whether, and-left, and-right, and-assoc}
+use Rattle.syntax.proofs.BoolLaws.{whether, and-left, and-right}
 use Rattle.syntax.proofs.TextLaws.{from}
 use Rattle.lexer.specs.declared.Shape.{Shape}
 use Rattle.lexer.specs.declared.Shape.the-variants.{Blanks, Quoted, Symbol, Operator, Digits, Word, Character}
@@ -257,7 +257,7 @@ joined-append (t ∷ x) y = rw (joined-append x y) (sym (append-assoc (t .text) 
 pub closed-append : (x y : List Token) → closed (x ++ y) ≡ closed x && closed y
 unfolding closed
 closed-append [] y = refl
-closed-append (t ∷ x) y = rw (closed-append x y) (and-assoc (isClosed t) (closed x) (closed y))
+closed-append (t ∷ x) y = rw (closed-append x y) (sym (and-assoc (isClosed t) (closed x) (closed y)))
 
 pub openersIn-append : (x y : List Token) → openersIn (x ++ y) ≡ openersIn x + openersIn y
 unfolding openersIn

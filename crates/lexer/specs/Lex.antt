@@ -7,6 +7,7 @@ use lib.Dec.{eqb}
 use lib.ListN.{length, take, drop}
 use Rattle.syntax.specs.Kind.{WHITESPACE, IDENT, STRING-LIT, INT-LIT, L-PAREN, AND-KW, OR-KW, NOT-KW, ERROR}
 use Rattle.syntax.specs.Text.{ascii, is, same}
+use Rattle.syntax.specs.Utf8.{isCharacter}
 use Rattle.lexer.specs.declared.Shape.{Shape}
 use Rattle.lexer.specs.declared.Shape.the-variants.{Blanks, Quoted, Symbol, Operator, Digits, Word, Character}
 use Rattle.lexer.specs.Bytes.{shapeOf, goesOn, isAsciiWhitespace, isAsciiDigit, isIdentContinue, isTrailing}
@@ -122,3 +123,9 @@ unfoldable pub closed : List Token → Bool
 unfolding isClosed
 closed [] = true
 closed (t ∷ ts) = isClosed t && closed ts
+
+-- lexer.rs, 01: each ERROR token is one whole UTF-8 character; a lone `=` or `!` and a form feed are one too
+unfoldable pub errorsAreCharacters : List Token → Bool
+unfolding isCharacter
+errorsAreCharacters [] = true
+errorsAreCharacters (t ∷ ts) = (not (eqb (t .kind) ERROR) || isCharacter (t .text)) && errorsAreCharacters ts

@@ -22,11 +22,3 @@ and-left false q h = h
 pub and-right : (p q : Bool) → T (p && q) → T q
 and-right true q h = h
 and-right false q h = absurd h
-
-pub and-false : (t : Bool) → t && false ≡ false
-and-false true = refl
-and-false false = refl
-
-pub and-assoc : (p q r : Bool) → p && (q && r) ≡ (p && q) && r
-and-assoc true q r = refl
-and-assoc false q r = refl

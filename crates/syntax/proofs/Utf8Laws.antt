@@ -1,7 +1,7 @@
 -- Laws of UTF-8: well-formedness byte by byte, what `utf8.rt` keeps of the bytes read, and texts one after the other.
 -- Assumes nothing.
 use mathlib.Core.Path.{_≡_, refl, sym, ap, ap₂, _∙_, subst}
-use mathlib.Core.Bool.{Bool, true, false, cond, _&&_}
+use mathlib.Core.Bool.{Bool, true, false, cond, _&&_, and-false}
 use mathlib.Core.List.{List, [], _∷_, _++_}
 use Prim.Native.Nat.{ℕ, zero, suc, _-_, _≤_, _<_}
 use native.Mathlib.Omega.{arith}
@@ -10,7 +10,7 @@ use lib.Dec.{T, eqb, leb, leb→le, eqb→eq}
 use lib.ListN.{length}
 use Rattle.syntax.specs.Utf8.{Range, to, within, After, ill, needs, after, wellFrom, utf8}
 use Rattle.syntax.specs.Utf8Scan.{ILL, trails, pending, leadCount, leadLow, leadHigh, Steps}
-use Rattle.syntax.proofs.BoolLaws.{whether, and-left, and-right, and-false}
+use Rattle.syntax.proofs.BoolLaws.{whether, and-left, and-right}
 use Rattle.syntax.proofs.EveryByte.{at-each, below}
 
 -- well-formedness, byte by byte

@@ -67,3 +67,16 @@ wellFrom (b ∷ s) (r ∷ rs) = elim (within r b) [ true ↦ wellFrom s rs | fal
 unfoldable pub utf8 : List ℕ → Bool
 unfolding wellFrom
 utf8 s = wellFrom s []
+
+-- whether s is one byte in each of the ranges rs, and nothing more
+unfoldable pub inRanges : List ℕ → List Range → Bool
+inRanges [] [] = true
+inRanges [] (r ∷ rs) = false
+inRanges (b ∷ s) [] = false
+inRanges (b ∷ s) (r ∷ rs) = within r b && inRanges s rs
+
+-- whether a text is one character: a first byte of the table, what must follow it, and nothing more
+unfoldable pub isCharacter : List ℕ → Bool
+unfolding after inRanges
+isCharacter [] = false
+isCharacter (b ∷ s) = elim (after b) [ ill ↦ false | needs rs ↦ inRanges s rs ]
