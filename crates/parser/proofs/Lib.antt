@@ -1,4 +1,5 @@
 pub mod GreenLaws
 pub mod TokenLaws
 pub mod WritingLaws
+pub mod LookLaws
 pub mod Vectors

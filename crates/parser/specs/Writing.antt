@@ -5,9 +5,9 @@ use mathlib.Core.List.{List, [], _∷_}
 use lib.ListN.{length, take, drop, set}
 use lib.Seq.{sets}
 use Rattle.lexer.specs.Lex.{Token, tokenRows}
-use Rattle.parser.specs.Green.{size, height, width}
-use Rattle.parser.specs.Look.{skipWs}
-use Rattle.parser.specs.Parse.{Parser}
+use Rattle.parser.specs.Green.{size, height, width, span}
+use Rattle.parser.specs.Look.{skipWs, tailOf}
+use Rattle.parser.specs.Parse.{Parsed, Parser}
 use Rattle.parser.specs.Rows.{treeRows, errorRows}
 use Rattle.parser.specs.declared.Cursor.{Cursor}
 
@@ -16,6 +16,13 @@ pub record Ready (ts : List Token) (tokens : List ℕ) (c : Cursor) : Type 0 whe
   pub rows : tokens ≡ tokenRows 0 ts
   pub within : c .token ≤ length ts
   pub byte : c .byte ≡ width (take (c .token) ts)
+
+-- r stands past the next token
+pub record Past (ts : List Token) (tokens : List ℕ) (c r : Cursor) : Type 0 where
+  pub ready : Ready ts tokens r
+  pub token : r .token ≡ c .token + 1
+  pub here : drop (r .token) ts ≡ tailOf (drop (c .token) ts)
+  pub error : r .error ≡ c .error
 
 -- r stands at the first token from c on that is no blank, or at the end
 pub record Skipped (ts : List Token) (tokens : List ℕ) (c r : Cursor) : Type 0 where
@@ -34,16 +41,21 @@ pub record Asks (ts : List Token) (tokens t e : List ℕ) (level : ℕ) (c : Cur
   pub room : c .error + 4 * length (p (drop (c .token) ts) .errors) ≤ length e
   pub deep : level + height (p (drop (c .token) ts) .made) < 2 ^ 32
 
--- p was done at a level: the tables went from t₀ and e₀ to t₁ and e₁, the cursor from c to r
-pub record Did (ts : List Token) (t₀ t₁ e₀ e₁ : List ℕ) (level : ℕ) (c r : Cursor) (p : Parser) : Type 0 where
-  pub tree : t₁ ≡ sets t₀ (c .row) (treeRows level (c .byte) (p (drop (c .token) ts) .made))
-  pub errors : e₁ ≡ sets e₀ (c .error) (errorRows (width ts) (p (drop (c .token) ts) .errors))
-  pub row : r .row ≡ c .row + 4 * size (p (drop (c .token) ts) .made)
-  pub error : r .error ≡ c .error + 4 * length (p (drop (c .token) ts) .errors)
-  pub rest : drop (r .token) ts ≡ p (drop (c .token) ts) .rest
+-- the reading x was written at a level: the tables went from t₀ and e₀ to t₁ and e₁, the cursor from c to r
+pub record Wrote (ts : List Token) (t₀ t₁ e₀ e₁ : List ℕ) (level : ℕ) (c r : Cursor) (x : Parsed) : Type 0 where
+  pub tree : t₁ ≡ sets t₀ (c .row) (treeRows level (c .byte) (x .made))
+  pub errors : e₁ ≡ sets e₀ (c .error) (errorRows (width ts) (x .errors))
+  pub row : r .row ≡ c .row + 4 * size (x .made)
+  pub error : r .error ≡ c .error + 4 * length (x .errors)
+  pub rest : drop (r .token) ts ≡ x .rest
+  pub ahead : c .token ≤ r .token
   pub within : r .token ≤ length ts
   pub place : r .byte ≡ width (take (r .token) ts)
-  pub span : r .byte ≡ c .byte + Rattle.parser.specs.Green.span (p (drop (c .token) ts) .made)
+  pub bytes : r .byte ≡ c .byte + span (x .made)
+
+-- p was done: what it reads from c on was written
+pub record Did (ts : List Token) (t₀ t₁ e₀ e₁ : List ℕ) (level : ℕ) (c r : Cursor) (p : Parser) : Type 0 where
+  pub wrote : Wrote ts t₀ t₁ e₀ e₁ level c r (p (drop (c .token) ts))
 
 -- a node's row was written at c, its end still its start; r is the cursor past it
 pub record Started (t₀ t₁ : List ℕ) (k level : ℕ) (c r : Cursor) : Type 0 where

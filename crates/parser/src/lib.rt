@@ -13,7 +13,7 @@ ghost use Rattle.syntax.specs.Text.{ascii, same};
 ghost use Rattle.lexer.specs.Lex.{lex, tokenRows};
 ghost use Rattle.parser.specs.Look.{headKind, headText, currentKind, atKind, atText, atIdent, peekKind, atMessageDot, atField, atPredicateMethod, atPlainMethod, isComparison, hasCountCompareAhead, hasBinaryOpAtLevel};
 ghost use Rattle.parser.specs.Parse.{next, nextIsIdent, fails, failsAhead, eatWs, bump, expect, expectIdent, literal, callExpr, identExpr, containsExpr, compareExpr, simpleAtom, predicateArgs, noArgs, noMethod, parseMethod, parseDotCall, parse, OrExpr, OrRest, AndExpr, AndRest, Atom, Calls, parseSource, parsePipeline, parsePipelineOrCountCompare, remaining, leftOver, parseRoot};
-ghost use Rattle.parser.specs.Writing.{Ready, Skipped, Fits, Asks, Did, Started, Finished};
+ghost use Rattle.parser.specs.Writing.{Ready, Past, Skipped, Fits, Asks, Did, Started, Finished};
 
 // Where the parser stands: the next token and its first byte, and the next places of the tree and the error table.
 struct Cursor {
@@ -671,10 +671,13 @@ fn take_remaining(rule: &[u8], tokens: &[u32], tree: &mut [u32], level: u32, c: 
     ensures { λ r. ⌜ ((e : List ℕ) → Did (lex (now (rule .entry))) (now (tree .entry)) (now (tree .exit)) e e level c r remaining) ⌝ }
 {
     let mut d = c;
-    while next_kind(rule, tokens, d) != kind::NONE {
+    loop {
+        let i = d.token;
+        if tokens.len() <= 3 * i {
+            return d;
+        }
         d = put_token(rule, tokens, tree, level, d);
     }
-    d
 }
 
 // The next token, as a leaf; at the end of text nothing.
@@ -735,19 +738,27 @@ fn fail(
     requires { ⌜ c .error + 4 ≤ length (now errors) ⌝ }
     ensures { λ r. ⌜ ((t : List ℕ) (level : ℕ) → Did (lex (now (rule .entry))) t t (now (errors .entry)) (now (errors .exit)) level c r (fails form expected)) ⌝ }
 {
-    let i = c.token;
     let at = c.error;
-    let mut end = c.byte;
-    if 3 * i < tokens.len() {
-        end = tokens[3 * i + 2];
-    }
+    let end = found_end(rule, tokens, c);
     put_row(errors, at, form, expected, c.byte, end);
     Cursor {
-        token: i,
+        token: c.token,
         byte: c.byte,
         row: c.row,
         error: at + 4,
     }
+}
+
+// Where the next token ends; at the end of text, there.
+fn found_end(rule: &[u8], tokens: &[u32], c: Cursor) -> u32
+    requires { ⌜ Ready (lex (now rule)) (now tokens) c ⌝ }
+    ensures { λ r. ⌜ r ≡ c .byte + length (headText (drop (c .token) (lex (now (rule .entry))))) ⌝ }
+{
+    let i = c.token;
+    if 3 * i < tokens.len() {
+        return tokens[3 * i + 2];
+    }
+    c.byte
 }
 
 // An error row at the first token that is no blank, or at the end of text.
@@ -810,17 +821,11 @@ fn peek_kind(rule: &[u8], tokens: &[u32], c: Cursor) -> u32
     ensures { λ r. ⌜ r ≡ peekKind (drop (c .token) (lex (now (rule .entry)))) ⌝ }
 {
     let a = skip_ws(rule, tokens, c);
-    let i = a.token;
-    if tokens.len() <= 3 * i {
+    if tokens.len() <= 3 * a.token {
         return kind::NONE;
     }
-    let past = Cursor {
-        token: i + 1,
-        byte: tokens[3 * i + 2],
-        row: a.row,
-        error: a.error,
-    };
-    current_kind(rule, tokens, past)
+    let b = past_token(rule, tokens, a);
+    current_kind(rule, tokens, b)
 }
 
 // The place of the first token that is no blank, or the end of text.
@@ -830,15 +835,24 @@ fn skip_ws(rule: &[u8], tokens: &[u32], c: Cursor) -> Cursor
 {
     let mut d = c;
     while next_kind(rule, tokens, d) == kind::WHITESPACE {
-        let i = d.token;
-        d = Cursor {
-            token: i + 1,
-            byte: tokens[3 * i + 2],
-            row: d.row,
-            error: d.error,
-        };
+        d = past_token(rule, tokens, d);
     }
     d
+}
+
+// The place past the next token.
+fn past_token(rule: &[u8], tokens: &[u32], c: Cursor) -> Cursor
+    requires { ⌜ Ready (lex (now rule)) (now tokens) c ⌝ }
+    requires { ⌜ 3 * c .token < length (now tokens) ⌝ }
+    ensures { λ r. ⌜ Past (lex (now (rule .entry))) (now (tokens .entry)) c r ⌝ }
+{
+    let i = c.token;
+    Cursor {
+        token: i + 1,
+        byte: tokens[3 * i + 2],
+        row: c.row,
+        error: c.error,
+    }
 }
 
 // The kind of the next token; NONE at the end of text.

@@ -1,43 +1,43 @@
+-- `eat_ws` writes blanks, and going on from each place ends as the whole does. Assumes nothing.
+use denote.Ref.{now}
+use mathlib.Core.Path.{sym, _∙_}
+use mathlib.Core.List.{[]}
+use Prim.Native.Nat.{_-_}
+use lib.ListN.{length, drop}
+use Rattle.lexer.specs.Lex.{lex}
+use Rattle.parser.specs.Parse.{eatWs}
+use Rattle.parser.proofs.TokenLaws.{some-token}
+use Rattle.parser.proofs.LookLaws.{Going, going-start, going-end, going-next, going-fits, eat-blank, eat-stop, next-ahead}
+use native.Mathlib.Omega.{arith}
 use Rattle.parser.proofs.eat_ws.Statement.{statement}
 use Rattle.parser.proofs.eat_ws.Tie as tie
-use Rattle.parser.proofs.eat_ws.Reads as reads
-use Rattle.parser.proofs.eat_ws.Lts as lts
-use Rattle.parser.proofs.next_kind.Reads as next-kind-reads
-use Rattle.parser.proofs.put_token.Reads as put-token-reads
 
 abbrev Inv-loop : tie.InvT-loop
-Inv-loop rule tokens tree₀ level d₀ tree d = ?
+Inv-loop rule tokens tree₀ level d₀ tree d = Going (lex rule) tokens tree₀ tree level d₀ d eatWs
 
 abbrev μ-loop : tie.MeasureT-loop
-μ-loop rule tokens tree₀ level d₀ tree d = ?
+μ-loop rule tokens tree₀ level d₀ tree d = length (lex rule) - d .token
 
--- src/lib.rt:662:5
 loop-holds : tie.Need-loop-holds Inv-loop μ-loop
-loop-holds c = ?
+loop-holds c = going-start (c .before .before .before .pre)
 
--- src/lib.rt:662:11
 next-kind-requires : tie.Need-next-kind-requires Inv-loop μ-loop
-next-kind-requires c κs = ?
+next-kind-requires c κs = c .loop .inv .fits .ready
 
--- src/lib.rt:663:9
 put-token-requires : tie.Need-put-token-requires Inv-loop μ-loop
-put-token-requires c κs = ?
+put-token-requires c κs = going-fits (c .before .before .before .loop .inv) (eat-blank _ (sym (c .before .before .next-kind .ensures) ∙ c .before .if1 .taken))
 
--- src/lib.rt:662:5
 loop-less : tie.Need-loop-less Inv-loop μ-loop
-loop-less c = ?
+loop-less c = omega (arith, next-ahead (c .before .before .before .before .before .before .loop .inv .fits .ready) (some-token (c .before .before .before .before .before .before .loop .inv .fits .ready) 0 (sym (c .before .before .before .before .before .next-kind .ensures) ∙ c .before .before .before .before .if1 .taken) (λ e. omega arith)) (c .before .before .put-token .ensures []), c .before .before .put-token .ensures [] .wrote .within)
 
--- src/lib.rt:662:5
 loop-again : tie.Need-loop-again Inv-loop μ-loop
-loop-again c = ?
+loop-again c = going-next (c .before .before .before .before .before .before .loop .inv) (eat-blank _ (sym (c .before .before .before .before .before .next-kind .ensures) ∙ c .before .before .before .before .if1 .taken)) (c .before .before .put-token .ensures)
 
--- src/lib.rt:657:1
 same-length : tie.Need-same-length Inv-loop μ-loop
-same-length c = ?
+same-length c = c .before .before .loop .inv .long
 
--- src/lib.rt:657:1
 returns : tie.Need-returns Inv-loop μ-loop
-returns c = ?
+returns c = going-end (c .before .before .loop .inv) (eat-stop _ (λ e. c .if1 .left (c .before .next-kind .ensures ∙ e)))
 
 pub eat-ws-spec : {M : Type 1} → statement M
 eat-ws-spec =

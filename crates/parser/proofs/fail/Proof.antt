@@ -1,56 +1,23 @@
+-- `fail` writes an error row at the next token. Assumes nothing.
+use Rattle.parser.proofs.WritingLaws.{did-fail}
 use borrow.Author.Needs.{needs}
 use Rattle.parser.proofs.fail.Statement.{statement}
 use Rattle.parser.proofs.fail.Tie as tie
-use Rattle.parser.proofs.fail.Reads as reads
-use Rattle.parser.proofs.fail.Lts as lts
-use Rattle.parser.proofs.put_row.Reads as put-row-reads
 
--- src/lib.rt:741:8
-mul-if1 : tie.Need-mul-if1
-mul-if1 c = ?
+found-end-requires : tie.Need-found-end-requires
+found-end-requires c κs = search needs
 
--- src/lib.rt:742:22
-mul-end : tie.Need-mul-end
-mul-end c = search needs
-
--- src/lib.rt:742:22
-add-end : tie.Need-add-end
-add-end c = search needs
-
--- src/lib.rt:742:15
-mul-end-2 : tie.Need-mul-end-2
-mul-end-2 c = search needs
-
--- src/lib.rt:742:15
-shared-slice-read-end : tie.Need-shared-slice-read-end
-shared-slice-read-end c = ?
-
--- src/lib.rt:744:5
 put-row-requires : tie.Need-put-row-requires
 put-row-requires c κs = search needs
 
--- src/lib.rt:749:16
-add-t10 : tie.Need-add-t10
-add-t10 c = search needs
+add-t12 : tie.Need-add-t12
+add-t12 c = search needs
 
--- src/lib.rt:726:1
 same-length : tie.Need-same-length
 same-length c = search needs
 
--- src/lib.rt:726:1
 returns : tie.Need-returns
-returns c = ?
+returns c = did-fail _ _ _ (c .before .before .before .before .before .before .before .before .pre .0) (c .before .before .before .before .found-end .ensures) (c .before .before .put-row .ensures)
 
 pub fail-spec : {M : Type 1} → statement M
-fail-spec =
-    tie.close
-    (tie.spec
-    mul-if1
-    mul-end
-    add-end
-    mul-end-2
-    shared-slice-read-end
-    put-row-requires
-    add-t10
-    same-length
-    returns)
+fail-spec = tie.close (tie.spec found-end-requires put-row-requires add-t12 same-length returns)

@@ -1,26 +1,24 @@
+-- `next_is_ident` asks for the kind and then the text. Assumes nothing.
+use mathlib.Core.Path.{sym, _∙_}
+use borrow.Author.Tests.{eq-eqb, ne-eqb}
+use Rattle.parser.specs.Parse.{nextIsIdent}
 use borrow.Author.Needs.{needs}
 use Rattle.parser.proofs.next_is_ident.Statement.{statement}
 use Rattle.parser.proofs.next_is_ident.Tie as tie
-use Rattle.parser.proofs.next_is_ident.Reads as reads
-use Rattle.parser.proofs.next_is_ident.Lts as lts
-use Rattle.parser.proofs.next_is_text.Reads as next-is-text-reads
-use Rattle.parser.proofs.next_kind.Reads as next-kind-reads
 
--- src/lib.rt:861:8
 next-kind-requires : tie.Need-next-kind-requires
 next-kind-requires c κs = search needs
 
--- src/lib.rt:862:9
 next-is-text-requires : tie.Need-next-is-text-requires
 next-is-text-requires c κs = search needs
 
--- src/lib.rt:862:9
 returns : tie.Need-returns
-returns c = ?
+unfolding nextIsIdent
+returns c = rw (eq-eqb _ _ (sym (c .before .before .next-kind .ensures) ∙ c .before .if1 .taken)) (c .next-is-text .ensures)
 
--- src/lib.rt:857:1
 returns-2 : tie.Need-returns-2
-returns-2 c = ?
+unfolding nextIsIdent
+returns-2 c = rw (ne-eqb _ _ (λ e. c .if1 .left (c .before .next-kind .ensures ∙ e)))
 
 pub next-is-ident-spec : {M : Type 1} → statement M
 next-is-ident-spec =

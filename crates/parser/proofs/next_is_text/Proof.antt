@@ -1,85 +1,76 @@
+-- `next_is_text` compares the part of the rule that is the next token. Assumes nothing.
+use denote.Ref.{now}
+use mathlib.Core.Path.{_≡_, sym, ap, _∙_}
+use mathlib.Core.List.{List}
+use Prim.Native.Nat.{ℕ, _+_, _-_, _*_, _<_, _≤_}
+use lib.ListN.{length, take, drop, getD}
+use Rattle.syntax.specs.Text.{same}
+use Rattle.lexer.specs.Lex.{lex}
+use Rattle.parser.specs.Look.{headText}
+use Rattle.parser.specs.Writing.{Ready}
+use Rattle.parser.specs.declared.Cursor.{Cursor}
+use Rattle.parser.proofs.TokenLaws.{table-length, at-end, Part, part}
+use native.Mathlib.Omega.{arith}
 use borrow.Author.Needs.{needs}
 use Rattle.parser.proofs.next_is_text.Statement.{statement}
 use Rattle.parser.proofs.next_is_text.Tie as tie
-use Rattle.parser.proofs.next_is_text.Reads as reads
-use Rattle.parser.proofs.next_is_text.Lts as lts
-use Rattle.syntax.proofs.text.same.Reads as same-reads
 
--- src/lib.rt:873:8
 mul-if1 : tie.Need-mul-if1
-mul-if1 c = ?
+mul-if1 c = omega (arith, c .before .before .before .pre .within, table-length (c .before .before .before .pre))
 
--- src/lib.rt:874:28
 mul-first : tie.Need-mul-first
 mul-first c = search needs
 
--- src/lib.rt:874:28
 add-first : tie.Need-add-first
 add-first c = search needs
 
--- src/lib.rt:874:21
 mul-first-2 : tie.Need-mul-first-2
 mul-first-2 c = search needs
 
--- src/lib.rt:874:21
 shared-slice-read-first : tie.Need-shared-slice-read-first
-shared-slice-read-first c = ?
+shared-slice-read-first c = omega (arith, table-length (c .before .before .before .before .before .pre))
 
--- src/lib.rt:874:21
 cast-first : tie.Need-cast-first
-cast-first c = ?
+cast-first c = omega (arith, part (c .before .before .before .before .before .pre) (c .before .if1 .taken) .ordered, part (c .before .before .before .before .before .pre) (c .before .if1 .taken) .within)
 
--- src/lib.rt:875:26
 mul-end : tie.Need-mul-end
 mul-end c = search needs
 
--- src/lib.rt:875:26
 add-end : tie.Need-add-end
 add-end c = search needs
 
--- src/lib.rt:875:19
 mul-end-2 : tie.Need-mul-end-2
 mul-end-2 c = search needs
 
--- src/lib.rt:875:19
 shared-slice-read-end : tie.Need-shared-slice-read-end
-shared-slice-read-end c = ?
+shared-slice-read-end c = omega (arith, table-length (c .before .before .before .before .before .before .pre))
 
--- src/lib.rt:875:19
 cast-end : tie.Need-cast-end
-cast-end c = ?
+cast-end c = omega (arith, part (c .before .before .before .before .before .before .pre) (c .before .before .if1 .taken) .within)
 
--- src/lib.rt:876:27
 sub-same : tie.Need-sub-same
-sub-same c = ?
+sub-same c = omega (arith, part (c .before .before .before .before .before .before .pre) (c .before .before .if1 .taken) .ordered)
 
--- src/lib.rt:876:27
 part-same-start : tie.Need-part-same-start
-part-same-start c = ?
+part-same-start c = omega (arith, part (c .before .before .before .before .before .before .pre) (c .before .before .if1 .taken) .ordered)
 
--- src/lib.rt:876:27
 part-same-end : tie.Need-part-same-end
-part-same-end c = ?
+part-same-end c = omega (arith, part (c .before .before .before .before .before .before .pre) (c .before .before .if1 .taken) .within)
 
--- src/lib.rt:876:9
 same-requires : tie.Need-same-requires
 same-requires c κs = search needs
 
--- src/lib.rt:876:9
 returns : tie.Need-returns
-returns c = ?
+returns c = c .same .ensures ∙ ap (λ (u : List ℕ). same u (now (c .before .before .before .before .before .before .before .before .args .word))) (part (c .before .before .before .before .before .before .before .before .pre) (c .before .before .before .before .if1 .taken) .text)
 
--- src/lib.rt:878:16
 slice-aggregate-same : tie.Need-slice-aggregate-same
 slice-aggregate-same c = search needs
 
--- src/lib.rt:878:5
 same-requires-2 : tie.Need-same-requires-2
 same-requires-2 c κs = search needs
 
--- src/lib.rt:868:1
 returns-2 : tie.Need-returns-2
-returns-2 c = ?
+returns-2 c = c .same2 .ensures ∙ sym (rw (at-end (c .before .before .before .before .before .before .pre) (c .before .before .if1 .left)))
 
 pub next-is-text-spec : {M : Type 1} → statement M
 next-is-text-spec =

@@ -1,65 +1,53 @@
+-- `put_token` writes the next token as a leaf. Assumes nothing.
+use Rattle.parser.proofs.TokenLaws.{table-length}
+use Rattle.parser.proofs.WritingLaws.{did-next, did-next-end}
+use Rattle.parser.proofs.LookLaws.{next-room}
+use native.Mathlib.Omega.{arith}
 use borrow.Author.Needs.{needs}
 use Rattle.parser.proofs.put_token.Statement.{statement}
 use Rattle.parser.proofs.put_token.Tie as tie
-use Rattle.parser.proofs.put_token.Reads as reads
-use Rattle.parser.proofs.put_token.Lts as lts
-use Rattle.parser.proofs.put_row.Reads as put-row-reads
 
--- src/lib.rt:687:24
 mul-if1 : tie.Need-mul-if1
-mul-if1 c = ?
+mul-if1 c = omega (arith, c .before .before .before .pre .ready .within, table-length (c .before .before .before .pre .ready))
 
--- src/lib.rt:688:9
 returns : tie.Need-returns
-returns c = ?
+returns c = λ e. did-next-end (c .before .before .before .before .pre .ready) (c .if1 .taken)
 
--- src/lib.rt:690:22
 mul-end : tie.Need-mul-end
 mul-end c = search needs
 
--- src/lib.rt:690:22
 add-end : tie.Need-add-end
 add-end c = search needs
 
--- src/lib.rt:690:15
 mul-end-2 : tie.Need-mul-end-2
 mul-end-2 c = search needs
 
--- src/lib.rt:690:15
 shared-slice-read-end : tie.Need-shared-slice-read-end
-shared-slice-read-end c = ?
+shared-slice-read-end c = omega (arith, table-length (c .before .before .before .before .before .pre .ready))
 
--- src/lib.rt:691:30
 mul-put-row : tie.Need-mul-put-row
 mul-put-row c = search needs
 
--- src/lib.rt:691:23
 mul-put-row-2 : tie.Need-mul-put-row-2
 mul-put-row-2 c = search needs
 
--- src/lib.rt:691:23
 shared-slice-read-put-row : tie.Need-shared-slice-read-put-row
 shared-slice-read-put-row c = search needs
 
--- src/lib.rt:691:5
 put-row-requires : tie.Need-put-row-requires
-put-row-requires c κs = ?
+put-row-requires c κs = next-room (c .before .before .before .before .before .before .before .pre) (c .before .before .before .if1 .left)
 
--- src/lib.rt:693:16
 add-t12 : tie.Need-add-t12
 add-t12 c = search needs
 
--- src/lib.rt:695:14
 add-t9 : tie.Need-add-t9
 add-t9 c = search needs
 
--- src/lib.rt:681:1
 same-length : tie.Need-same-length
 same-length c = search needs
 
--- src/lib.rt:681:1
 returns-2 : tie.Need-returns-2
-returns-2 c = ?
+returns-2 c = λ e. did-next (c .before .before .before .before .before .before .before .before .before .before .pre .ready) (c .before .before .before .before .before .before .if1 .left) (c .before .before .put-row .ensures)
 
 pub put-token-spec : {M : Type 1} → statement M
 put-token-spec =

@@ -1,43 +1,41 @@
+-- `take_remaining` writes all tokens left, and going on from each place ends as the whole does. Assumes nothing.
+use mathlib.Core.List.{[]}
+use Prim.Native.Nat.{_-_}
+use lib.ListN.{length}
+use Rattle.lexer.specs.Lex.{lex}
+use Rattle.parser.specs.Parse.{remaining}
+use Rattle.parser.proofs.TokenLaws.{table-length}
+use Rattle.parser.proofs.LookLaws.{Going, going-start, going-end, going-next, going-fits, remaining-next, remaining-end, next-ahead}
+use native.Mathlib.Omega.{arith}
 use Rattle.parser.proofs.take_remaining.Statement.{statement}
 use Rattle.parser.proofs.take_remaining.Tie as tie
-use Rattle.parser.proofs.take_remaining.Reads as reads
-use Rattle.parser.proofs.take_remaining.Lts as lts
-use Rattle.parser.proofs.next_kind.Reads as next-kind-reads
-use Rattle.parser.proofs.put_token.Reads as put-token-reads
 
 abbrev Inv-loop : tie.InvT-loop
-Inv-loop rule tokens tree₀ level d₀ tree d = ?
+Inv-loop rule tokens tree₀ level d₀ tree d = Going (lex rule) tokens tree₀ tree level d₀ d remaining
 
 abbrev μ-loop : tie.MeasureT-loop
-μ-loop rule tokens tree₀ level d₀ tree d = ?
+μ-loop rule tokens tree₀ level d₀ tree d = length (lex rule) - d .token
 
--- src/lib.rt:674:5
 loop-holds : tie.Need-loop-holds Inv-loop μ-loop
-loop-holds c = ?
+loop-holds c = going-start (c .before .before .before .pre)
 
--- src/lib.rt:674:11
-next-kind-requires : tie.Need-next-kind-requires Inv-loop μ-loop
-next-kind-requires c κs = ?
+mul-if1 : tie.Need-mul-if1 Inv-loop μ-loop
+mul-if1 c = omega (arith, c .loop .inv .fits .ready .within, table-length (c .loop .inv .fits .ready))
 
--- src/lib.rt:675:9
-put-token-requires : tie.Need-put-token-requires Inv-loop μ-loop
-put-token-requires c κs = ?
-
--- src/lib.rt:674:5
-loop-less : tie.Need-loop-less Inv-loop μ-loop
-loop-less c = ?
-
--- src/lib.rt:674:5
-loop-again : tie.Need-loop-again Inv-loop μ-loop
-loop-again c = ?
-
--- src/lib.rt:669:1
 same-length : tie.Need-same-length Inv-loop μ-loop
-same-length c = ?
+same-length c = c .before .loop .inv .long
 
--- src/lib.rt:669:1
 returns : tie.Need-returns Inv-loop μ-loop
-returns c = ?
+returns c = going-end (c .before .loop .inv) (remaining-end (c .before .loop .inv .fits .ready) (c .if1 .taken))
+
+put-token-requires : tie.Need-put-token-requires Inv-loop μ-loop
+put-token-requires c κs = going-fits (c .before .before .loop .inv) (remaining-next (c .before .before .loop .inv .fits .ready) (c .before .if1 .left))
+
+loop-less : tie.Need-loop-less Inv-loop μ-loop
+loop-less c = omega (arith, next-ahead (c .before .before .before .before .before .loop .inv .fits .ready) (c .before .before .before .before .if1 .left) (c .before .before .put-token .ensures []), c .before .before .put-token .ensures [] .wrote .within)
+
+loop-again : tie.Need-loop-again Inv-loop μ-loop
+loop-again c = going-next (c .before .before .before .before .before .loop .inv) (remaining-next (c .before .before .before .before .before .loop .inv .fits .ready) (c .before .before .before .before .if1 .left)) (c .before .before .put-token .ensures)
 
 pub take-remaining-spec : {M : Type 1} → statement M
 take-remaining-spec =
@@ -46,9 +44,9 @@ take-remaining-spec =
     Inv-loop
     μ-loop
     loop-holds
-    next-kind-requires
+    mul-if1
+    same-length
+    returns
     put-token-requires
     loop-less
-    loop-again
-    same-length
-    returns)
+    loop-again)

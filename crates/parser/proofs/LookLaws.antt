@@ -1,0 +1,189 @@
+-- Looks ahead and blanks, token by token, and the loops over them. Assumes nothing.
+use mathlib.Core.Path.{_≡_, refl, sym, ap, _∙_}
+use mathlib.Core.List.{List, [], _∷_}
+use mathlib.Core.Bool.{Bool, true, false, _&&_, and-false}
+use Prim.Native.Nat.{ℕ, zero, suc, _+_, _*_, _-_, _≤_, _<_}
+use native.Mathlib.Omega.{arith}
+use borrow.Author.Tests.{eq-eqb, ne-eqb}
+use lib.Dec.{eqb}
+use lib.ListN.{length, take, drop, getD, length-drop}
+use Rattle.syntax.specs.Kind.{WHITESPACE, L-PAREN, R-PAREN, INT-LIT, NONE}
+use Rattle.lexer.specs.Lex.{Token}
+use Rattle.parser.specs.Look.{isBlank, skipWs, headKind, headText, tailOf, isComparison, endsInComparison, opAhead}
+use Rattle.parser.specs.Green.{size}
+use Rattle.parser.specs.Parse.{Parser, done, next, _▹_, join, eatWs, remaining}
+use Rattle.parser.specs.Writing.{Ready, Past, Skipped, Fits, Did}
+use Rattle.parser.specs.declared.Cursor.{Cursor}
+use Rattle.parser.proofs.TokenLaws.{Row, row, at-end, table-length, some-token}
+use Rattle.parser.proofs.WritingLaws.{did-done, did-then, did-as, fits-as, fits-first, fits-then, tree-long}
+
+-- ---- blanks
+
+module _ (ts : List Token) where
+  pub skip-blank : headKind ts ≡ WHITESPACE → skipWs ts ≡ skipWs (tailOf ts)
+  unfolding skipWs
+  skip-blank e = go ts e
+    where
+      go : (us : List Token) → headKind us ≡ WHITESPACE → skipWs us ≡ skipWs (tailOf us)
+      go [] q = refl
+      go (t ∷ us) q = rw (eq-eqb _ _ q, skipWs)
+
+  pub skip-stop : (headKind ts ≡ WHITESPACE → ⊥) → skipWs ts ≡ ts
+  unfolding skipWs
+  skip-stop n = go ts n
+    where
+      go : (us : List Token) → (headKind us ≡ WHITESPACE → ⊥) → skipWs us ≡ us
+      go [] q = refl
+      go (t ∷ us) q = rw (ne-eqb _ _ q, skipWs)
+
+  pub eat-blank : headKind ts ≡ WHITESPACE → eatWs ts ≡ (next ▹ eatWs) ts
+  unfolding eatWs _▹_ next
+  eat-blank e = go ts e
+    where
+      go : (us : List Token) → headKind us ≡ WHITESPACE → eatWs us ≡ (next ▹ eatWs) us
+      go [] q = let z : _≡_ {A = ℕ} NONE WHITESPACE = q in absurd (omega arith)
+      go (t ∷ us) q = rw (eq-eqb _ _ q, eatWs)
+
+  pub eat-stop : (headKind ts ≡ WHITESPACE → ⊥) → eatWs ts ≡ done ts
+  unfolding eatWs done
+  eat-stop n = go ts n
+    where
+      go : (us : List Token) → (headKind us ≡ WHITESPACE → ⊥) → eatWs us ≡ done us
+      go [] q = refl
+      go (t ∷ us) q = rw (ne-eqb _ _ q, eatWs)
+
+-- the place of the first token that is no blank is looked for from d on as from c on
+pub record Skipping (ts : List Token) (tokens : List ℕ) (c d : Cursor) : Type 0 where
+  pub ready : Ready ts tokens d
+  pub same : skipWs (drop (d .token) ts) ≡ skipWs (drop (c .token) ts)
+  pub error : d .error ≡ c .error
+
+pub skipping-start : {ts : List Token} {tokens : List ℕ} {c : Cursor} → Ready ts tokens c → Skipping ts tokens c c
+skipping-start r = record { ready = r; same = refl; error = refl }
+
+module _ {ts : List Token} {tokens : List ℕ} {c d : Cursor} (s : Skipping ts tokens c d) where
+  pub skipping-past : {a : Cursor} → headKind (drop (d .token) ts) ≡ WHITESPACE → Past ts tokens d a → Skipping ts tokens c a
+  skipping-past e p =
+      record {
+        ready = p .ready;
+        same = ap skipWs (p .here) ∙ sym (skip-blank (drop (d .token) ts) e) ∙ s .same;
+        error = p .error ∙ s .error;
+      }
+
+  pub skipping-end : (headKind (drop (d .token) ts) ≡ WHITESPACE → ⊥) → Skipped ts tokens c d
+  skipping-end n = record { ready = s .ready; here = sym (skip-stop (drop (d .token) ts) n) ∙ s .same; error = s .error }
+
+-- ---- a loop over tokens: doing p from d on ends as doing it from c on
+
+pub record Going (ts : List Token) (tokens t₀ t : List ℕ) (l : ℕ) (c d : Cursor) (p : Parser) : Type 0 where
+  pub fits : Fits ts tokens t d p
+  pub rest : (e u : List ℕ) (r : Cursor) → Did ts t u e e l d r p → Did ts t₀ u e e l c r p
+  pub long : length t ≡ length t₀
+
+pub going-start : {ts : List Token} {tokens t : List ℕ} {l : ℕ} {c : Cursor} {p : Parser} → Fits ts tokens t c p → Going ts tokens t t l c c p
+going-start f = record { fits = f; rest = λ e u r a. a; long = refl }
+
+module _ {ts : List Token} {tokens t₀ t : List ℕ} {l : ℕ} {c d : Cursor} {p : Parser} (g : Going ts tokens t₀ t l c d p) where
+  pub going-end : p (drop (d .token) ts) ≡ done (drop (d .token) ts) → (e : List ℕ) → Did ts t₀ t e e l c d p
+  going-end h e = g .rest e t d (did-as h (did-done (g .fits .ready)))
+
+  pub going-next : {t₁ : List ℕ} {a : Cursor} → p (drop (d .token) ts) ≡ (next ▹ p) (drop (d .token) ts)
+      → ((e : List ℕ) → Did ts t t₁ e e l d a next) → Going ts tokens t₀ t₁ l c a p
+  going-next h a =
+      record {
+        fits = fits-then next p (fits-as h (g .fits)) (a []);
+        rest = λ e u r b. g .rest e u r (did-as h (did-then (a e) b));
+        long = tree-long (a []) ∙ g .long;
+      }
+
+  pub going-fits : p (drop (d .token) ts) ≡ (next ▹ p) (drop (d .token) ts) → Fits ts tokens t d next
+  going-fits h = fits-first next p (fits-as h (g .fits))
+
+-- all tokens left
+module _ {ts : List Token} {tokens : List ℕ} {c : Cursor} (r : Ready ts tokens c) where
+  pub remaining-next : 3 * c .token < length tokens → remaining (drop (c .token) ts) ≡ (next ▹ remaining) (drop (c .token) ts)
+  unfolding remaining _▹_ next
+  remaining-next h = let w = row r h in rw (w .here)
+
+  pub remaining-end : length tokens ≤ 3 * c .token → remaining (drop (c .token) ts) ≡ done (drop (c .token) ts)
+  unfolding remaining done
+  remaining-end h = rw (at-end r h)
+
+-- room for the next token's row
+pub next-room : {ts : List Token} {tokens t : List ℕ} {c : Cursor} → Fits ts tokens t c next → 3 * c .token < length tokens → c .row + 4 ≤ length t
+unfolding next size
+next-room {ts} {c = c} f h =
+    let w = row (f .ready) h in
+    let e : size (next (drop (c .token) ts) .made) ≡ 1 = rw (w .here) in
+    omega (arith, f .room)
+
+-- a token was taken
+pub next-ahead : {ts : List Token} {tokens t₀ t₁ e₀ e₁ : List ℕ} {l : ℕ} {c d : Cursor} → Ready ts tokens c → 3 * c .token < length tokens
+    → Did ts t₀ t₁ e₀ e₁ l c d next → c .token < d .token
+unfolding next
+next-ahead {ts} {c = c} {d = d} r h a =
+    let w = row r h in
+    let e : drop (d .token) ts ≡ drop (c .token + 1) ts = a .wrote .rest ∙ rw (w .here) in
+    omega (arith, ap length e, length-drop (d .token) ts, length-drop (c .token + 1) ts, a .wrote .within, table-length r)
+
+-- ---- the two looks far ahead, a token at a time; k is the kind that the table has at i
+
+module _ {tokens : List ℕ} {ts : List Token} {i : ℕ} (w : Row 0 tokens ts i) where
+  module _ (second last : ℕ) where
+    pub ends-blank : getD tokens (3 * i) 0 ≡ WHITESPACE → endsInComparison second last (drop (i + 1) ts) ≡ endsInComparison second last (drop i ts)
+    unfolding endsInComparison
+    ends-blank e = rw (w .here, eq-eqb (w .token .kind) WHITESPACE (sym (w .kind) ∙ e), endsInComparison)
+
+    pub ends-solid : (getD tokens (3 * i) 0 ≡ WHITESPACE → ⊥)
+        → endsInComparison last (getD tokens (3 * i) 0) (drop (i + 1) ts) ≡ endsInComparison second last (drop i ts)
+    unfolding endsInComparison
+    ends-solid n = rw (w .kind, w .here, ne-eqb (w .token .kind) WHITESPACE (λ q. n (w .kind ∙ q)), endsInComparison)
+
+  module _ (op depth : ℕ) (found : Bool) where
+    pub op-blank : getD tokens (3 * i) 0 ≡ WHITESPACE → opAhead op depth found (drop (i + 1) ts) ≡ opAhead op depth found (drop i ts)
+    unfolding opAhead
+    op-blank e = rw (w .here, eq-eqb (w .token .kind) WHITESPACE (sym (w .kind) ∙ e), opAhead)
+
+    module _ (n : getD tokens (3 * i) 0 ≡ WHITESPACE → ⊥) where
+      solid : eqb (w .token .kind) WHITESPACE ≡ false
+      solid = ne-eqb _ _ (λ q. n (w .kind ∙ q))
+
+      pub op-open : getD tokens (3 * i) 0 ≡ L-PAREN → opAhead op (depth + 1) true (drop (i + 1) ts) ≡ opAhead op depth found (drop i ts)
+      unfolding opAhead
+      op-open e = rw (w .here, solid, eq-eqb (w .token .kind) L-PAREN (sym (w .kind) ∙ e), opAhead)
+
+      module _ (m : getD tokens (3 * i) 0 ≡ L-PAREN → ⊥) where
+        no-open : eqb (w .token .kind) L-PAREN ≡ false
+        no-open = ne-eqb _ _ (λ q. m (w .kind ∙ q))
+
+        module _ (e : getD tokens (3 * i) 0 ≡ R-PAREN) where
+          pub op-shut : depth ≡ 0 → false ≡ opAhead op depth found (drop i ts)
+          unfolding opAhead
+          op-shut z = rw (w .here, solid, no-open, eq-eqb (w .token .kind) R-PAREN (sym (w .kind) ∙ e), eq-eqb depth 0 z, opAhead)
+
+          pub op-close : (depth ≡ 0 → ⊥) → opAhead op (depth - 1) found (drop (i + 1) ts) ≡ opAhead op depth found (drop i ts)
+          unfolding opAhead
+          op-close z = rw (w .here, solid, no-open, eq-eqb (w .token .kind) R-PAREN (sym (w .kind) ∙ e), ne-eqb depth 0 z, opAhead)
+
+        module _ (o : getD tokens (3 * i) 0 ≡ R-PAREN → ⊥) where
+          no-close : eqb (w .token .kind) R-PAREN ≡ false
+          no-close = ne-eqb _ _ (λ q. o (w .kind ∙ q))
+
+          pub op-other : eqb (w .token .kind) op && (eqb depth 0 && found) ≡ false
+              → opAhead op depth true (drop (i + 1) ts) ≡ opAhead op depth found (drop i ts)
+          unfolding opAhead
+          op-other e = rw (w .here, solid, no-open, no-close, e, opAhead)
+
+          pub op-past : (getD tokens (3 * i) 0 ≡ op → ⊥) → opAhead op depth true (drop (i + 1) ts) ≡ opAhead op depth found (drop i ts)
+          op-past a = op-other (rw (ne-eqb (w .token .kind) op (λ q. a (w .kind ∙ q))))
+
+          pub op-deep : (depth ≡ 0 → ⊥) → opAhead op depth true (drop (i + 1) ts) ≡ opAhead op depth found (drop i ts)
+          op-deep a = op-other (rw (ne-eqb depth 0 a) (and-false (eqb (w .token .kind) op)))
+
+          pub op-first : depth ≡ 0 → found ≡ false → opAhead op depth true (drop (i + 1) ts) ≡ opAhead op depth found (drop i ts)
+          op-first a f = op-other (rw (f, eq-eqb depth 0 a) (and-false (eqb (w .token .kind) op)))
+
+          pub op-here : getD tokens (3 * i) 0 ≡ op → depth ≡ 0 → found ≡ true → true ≡ opAhead op depth found (drop i ts)
+          unfolding opAhead
+          op-here a z f =
+              rw (w .here, solid, no-open, no-close, eq-eqb (w .token .kind) op (sym (w .kind) ∙ a), eq-eqb depth 0 z, f, opAhead)

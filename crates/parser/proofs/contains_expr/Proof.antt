@@ -1,0 +1,100 @@
+use Rattle.parser.proofs.contains_expr.Statement.{statement}
+use Rattle.parser.proofs.contains_expr.Tie as tie
+use Rattle.parser.proofs.contains_expr.Reads as reads
+use Rattle.parser.proofs.contains_expr.Lts as lts
+use Rattle.parser.proofs.bump.Reads as bump-reads
+use Rattle.parser.proofs.expect.Reads as expect-reads
+use Rattle.parser.proofs.expect_contains.Reads as expect-contains-reads
+use Rattle.parser.proofs.finish_node.Reads as finish-node-reads
+use Rattle.parser.proofs.literal.Reads as literal-reads
+use Rattle.parser.proofs.start_node.Reads as start-node-reads
+
+-- src/lib.rt:562:9
+start-node-requires : tie.Need-start-node-requires
+start-node-requires c κs = ?
+
+-- src/lib.rt:563:38
+add-bump : tie.Need-add-bump
+add-bump c = ?
+
+-- src/lib.rt:563:9
+bump-requires : tie.Need-bump-requires
+bump-requires c κs = ?
+
+-- src/lib.rt:564:48
+add-expect : tie.Need-add-expect
+add-expect c = ?
+
+-- src/lib.rt:564:9
+expect-requires : tie.Need-expect-requires
+expect-requires c κs = ?
+
+-- src/lib.rt:565:57
+add-expect-contains : tie.Need-add-expect-contains
+add-expect-contains c = ?
+
+-- src/lib.rt:565:9
+expect-contains-requires : tie.Need-expect-contains-requires
+expect-contains-requires c κs = ?
+
+-- src/lib.rt:566:48
+add-expect-2 : tie.Need-add-expect-2
+add-expect-2 c = ?
+
+-- src/lib.rt:566:9
+expect-requires-2 : tie.Need-expect-requires-2
+expect-requires-2 c κs = ?
+
+-- src/lib.rt:567:49
+add-literal : tie.Need-add-literal
+add-literal c = ?
+
+-- src/lib.rt:567:9
+literal-requires : tie.Need-literal-requires
+literal-requires c κs = ?
+
+-- src/lib.rt:568:48
+add-expect-3 : tie.Need-add-expect-3
+add-expect-3 c = ?
+
+-- src/lib.rt:568:9
+expect-requires-3 : tie.Need-expect-requires-3
+expect-requires-3 c κs = ?
+
+-- src/lib.rt:569:5
+finish-node-requires : tie.Need-finish-node-requires
+finish-node-requires c κs = ?
+
+-- src/lib.rt:551:1
+same-length : tie.Need-same-length
+same-length c = ?
+
+-- src/lib.rt:551:1
+same-length-2 : tie.Need-same-length-2
+same-length-2 c = ?
+
+-- src/lib.rt:551:1
+returns : tie.Need-returns
+returns c = ?
+
+pub contains-expr-spec : {M : Type 1} → statement M
+contains-expr-spec =
+    tie.close
+    (tie.spec
+    start-node-requires
+    add-bump
+    bump-requires
+    add-expect
+    expect-requires
+    add-expect-contains
+    expect-contains-requires
+    add-expect-2
+    expect-requires-2
+    add-literal
+    literal-requires
+    add-expect-3
+    expect-requires-3
+    finish-node-requires
+    same-length
+    same-length-2
+    returns)
