@@ -1,7 +1,7 @@
 -- Looks ahead and blanks, token by token, and the loops over them. Assumes nothing.
 use mathlib.Core.Path.{_≡_, refl, sym, ap, _∙_}
 use mathlib.Core.List.{List, [], _∷_}
-use mathlib.Core.Bool.{Bool, true, false, _&&_, and-false}
+use mathlib.Core.Bool.{Bool, true, false, _&&_, and-true, and-false}
 use Prim.Native.Nat.{ℕ, zero, suc, _+_, _*_, _-_, _≤_, _<_}
 use native.Mathlib.Omega.{arith}
 use borrow.Author.Tests.{eq-eqb, ne-eqb}
@@ -9,10 +9,10 @@ use lib.Dec.{eqb}
 use lib.ListN.{length, take, drop, getD, length-drop}
 use Rattle.syntax.specs.Kind.{WHITESPACE, L-PAREN, R-PAREN, INT-LIT, NONE}
 use Rattle.lexer.specs.Lex.{Token}
-use Rattle.parser.specs.Look.{isBlank, skipWs, headKind, headText, tailOf, isComparison, endsInComparison, opAhead}
+use Rattle.parser.specs.Look.{isBlank, skipWs, headKind, headText, tailOf, currentKind, atKind, isComparison, endsInComparison, opAhead}
 use Rattle.parser.specs.Green.{size}
-use Rattle.parser.specs.Parse.{Parser, done, next, _▹_, join, eatWs, remaining}
-use Rattle.parser.specs.Writing.{Ready, Past, Skipped, Fits, Did}
+use Rattle.parser.specs.Parse.{Parser, done, next, fails, failsAhead, _▹_, join, eatWs, nextIs, remaining}
+use Rattle.parser.specs.Writing.{Ready, Past, Skipped, Fits, Asks, Did}
 use Rattle.parser.specs.declared.Cursor.{Cursor}
 use Rattle.parser.proofs.TokenLaws.{Row, row, at-end, table-length, some-token}
 use Rattle.parser.proofs.WritingLaws.{did-done, did-then, did-as, fits-as, fits-first, fits-then, tree-long}
@@ -187,3 +187,44 @@ module _ {tokens : List ℕ} {ts : List Token} {i : ℕ} (w : Row 0 tokens ts i)
           unfolding opAhead
           op-here a z f =
               rw (w .here, solid, no-open, no-close, eq-eqb (w .token .kind) op (sym (w .kind) ∙ a), eq-eqb depth 0 z, f, opAhead)
+
+-- at the end of the tokens
+pub op-end : (op depth : ℕ) (found : Bool) {ts : List Token} → ts ≡ [] → false ≡ opAhead op depth found ts
+unfolding opAhead
+op-end op depth found e = rw e
+
+pub ends-integer : (second last : ℕ) {ts : List Token} → ts ≡ [] → last ≡ INT-LIT → isComparison second ≡ endsInComparison second last ts
+unfolding endsInComparison
+ends-integer second last e q = rw (e, eq-eqb _ _ q) (sym (and-true (isComparison second)))
+
+pub ends-other : (second last : ℕ) {ts : List Token} → ts ≡ [] → (last ≡ INT-LIT → ⊥) → false ≡ endsInComparison second last ts
+unfolding endsInComparison
+ends-other second last e n = rw (e, ne-eqb _ _ n) (sym (and-false (isComparison second)))
+
+-- ---- tests of the code as tests of the definitions
+
+module _ (ts : List Token) where
+  pub at-yes : {r k : ℕ} → r ≡ currentKind ts → r ≡ k → atKind k ts ≡ true
+  unfolding atKind
+  at-yes e q = eq-eqb _ _ (sym e ∙ q)
+
+  pub at-no : {r k : ℕ} → r ≡ currentKind ts → (r ≡ k → ⊥) → atKind k ts ≡ false
+  unfolding atKind
+  at-no e n = ne-eqb _ _ (λ q. n (e ∙ q))
+
+  pub next-yes : {r k : ℕ} → r ≡ headKind ts → r ≡ k → nextIs k ts ≡ true
+  unfolding nextIs
+  next-yes e q = eq-eqb _ _ (sym e ∙ q)
+
+  pub next-no : {r k : ℕ} → r ≡ headKind ts → (r ≡ k → ⊥) → nextIs k ts ≡ false
+  unfolding nextIs
+  next-no e n = ne-eqb _ _ (λ q. n (e ∙ q))
+
+-- room for an error's row
+pub fail-room : {ts : List Token} {tokens t e : List ℕ} {l : ℕ} {c : Cursor} (form k : ℕ) → Asks ts tokens t e l c (fails form k) → c .error + 4 ≤ length e
+unfolding fails
+fail-room form k f = omega (arith, f .room)
+
+pub fail-ahead-room : {ts : List Token} {tokens t e : List ℕ} {l : ℕ} {c : Cursor} (form : ℕ) → Asks ts tokens t e l c (failsAhead form) → c .error + 4 ≤ length e
+unfolding failsAhead
+fail-ahead-room form f = omega (arith, f .room)

@@ -1,69 +1,59 @@
+-- `at_field` gives `atField`, word by word. Assumes nothing.
+use mathlib.Core.Path.{sym, _∙_}
+use Rattle.parser.specs.Look.{atField}
 use borrow.Author.Needs.{needs}
 use Rattle.parser.proofs.at_field.Statement.{statement}
 use Rattle.parser.proofs.at_field.Tie as tie
-use Rattle.parser.proofs.at_field.Reads as reads
-use Rattle.parser.proofs.at_field.Lts as lts
-use Rattle.parser.proofs.at_ident.Reads as at-ident-reads
 
--- src/lib.rt:498:31
 slice-aggregate-at-ident : tie.Need-slice-aggregate-at-ident
 slice-aggregate-at-ident c = search needs
 
--- src/lib.rt:498:8
 at-ident-requires : tie.Need-at-ident-requires
 at-ident-requires c κs = search needs
 
--- src/lib.rt:499:9
 returns : tie.Need-returns
-returns c = ?
+unfolding atField
+returns c = rw (sym (c .before .at-ident .ensures) ∙ c .if1 .taken)
 
--- src/lib.rt:501:31
 slice-aggregate-at-ident-2 : tie.Need-slice-aggregate-at-ident-2
 slice-aggregate-at-ident-2 c = search needs
 
--- src/lib.rt:501:8
 at-ident-requires-2 : tie.Need-at-ident-requires-2
 at-ident-requires-2 c κs = search needs
 
--- src/lib.rt:502:9
 returns-2 : tie.Need-returns-2
-returns-2 c = ?
+unfolding atField
+returns-2 c = rw (sym (c .before .before .before .before .at-ident .ensures) ∙ c .before .before .before .if1 .left, sym (c .before .at-ident2 .ensures) ∙ c .if2 .taken)
 
--- src/lib.rt:504:31
 slice-aggregate-at-ident-3 : tie.Need-slice-aggregate-at-ident-3
 slice-aggregate-at-ident-3 c = search needs
 
--- src/lib.rt:504:8
 at-ident-requires-3 : tie.Need-at-ident-requires-3
 at-ident-requires-3 c κs = search needs
 
--- src/lib.rt:505:9
 returns-3 : tie.Need-returns-3
-returns-3 c = ?
+unfolding atField
+returns-3 c = rw (sym (c .before .before .before .before .before .before .before .at-ident .ensures) ∙ c .before .before .before .before .before .before .if1 .left, sym (c .before .before .before .before .at-ident2 .ensures) ∙ c .before .before .before .if2 .left, sym (c .before .at-ident3 .ensures) ∙ c .if3 .taken)
 
--- src/lib.rt:507:31
 slice-aggregate-at-ident-4 : tie.Need-slice-aggregate-at-ident-4
 slice-aggregate-at-ident-4 c = search needs
 
--- src/lib.rt:507:8
 at-ident-requires-4 : tie.Need-at-ident-requires-4
 at-ident-requires-4 c κs = search needs
 
--- src/lib.rt:508:9
 returns-4 : tie.Need-returns-4
-returns-4 c = ?
+unfolding atField
+returns-4 c = rw (sym (c .before .before .before .before .before .before .before .before .before .before .at-ident .ensures) ∙ c .before .before .before .before .before .before .before .before .before .if1 .left, sym (c .before .before .before .before .before .before .before .at-ident2 .ensures) ∙ c .before .before .before .before .before .before .if2 .left, sym (c .before .before .before .before .at-ident3 .ensures) ∙ c .before .before .before .if3 .left, sym (c .before .at-ident4 .ensures) ∙ c .if4 .taken)
 
--- src/lib.rt:510:28
 slice-aggregate-at-ident-5 : tie.Need-slice-aggregate-at-ident-5
 slice-aggregate-at-ident-5 c = search needs
 
--- src/lib.rt:510:5
 at-ident-requires-5 : tie.Need-at-ident-requires-5
 at-ident-requires-5 c κs = search needs
 
--- src/lib.rt:494:1
 returns-5 : tie.Need-returns-5
-returns-5 c = ?
+unfolding atField
+returns-5 c = rw (sym (c .before .before .before .before .before .before .before .before .before .before .before .before .at-ident .ensures) ∙ c .before .before .before .before .before .before .before .before .before .before .before .if1 .left, sym (c .before .before .before .before .before .before .before .before .before .at-ident2 .ensures) ∙ c .before .before .before .before .before .before .before .before .if2 .left, sym (c .before .before .before .before .before .before .at-ident3 .ensures) ∙ c .before .before .before .before .before .if3 .left, sym (c .before .before .before .at-ident4 .ensures) ∙ c .before .before .if4 .left) (c .at-ident5 .ensures)
 
 pub at-field-spec : {M : Type 1} → statement M
 at-field-spec =

@@ -1,22 +1,23 @@
+-- `at_ident` asks for the first token that is no blank. Assumes nothing.
+use denote.Ref.{now}
+use mathlib.Core.Path.{_∙_, ap}
+use mathlib.Core.List.{List}
+use Rattle.lexer.specs.Lex.{Token}
+use Rattle.parser.specs.Look.{atIdent}
+use Rattle.parser.specs.Parse.{nextIsIdent}
 use borrow.Author.Needs.{needs}
 use Rattle.parser.proofs.at_ident.Statement.{statement}
 use Rattle.parser.proofs.at_ident.Tie as tie
-use Rattle.parser.proofs.at_ident.Reads as reads
-use Rattle.parser.proofs.at_ident.Lts as lts
-use Rattle.parser.proofs.next_is_ident.Reads as next-is-ident-reads
-use Rattle.parser.proofs.skip_ws.Reads as skip-ws-reads
 
--- src/lib.rt:805:9
 skip-ws-requires : tie.Need-skip-ws-requires
 skip-ws-requires c κs = search needs
 
--- src/lib.rt:806:5
 next-is-ident-requires : tie.Need-next-is-ident-requires
-next-is-ident-requires c κs = search needs
+next-is-ident-requires c κs = c .skip-ws .ensures .ready
 
--- src/lib.rt:801:1
 returns : tie.Need-returns
-returns c = ?
+unfolding atIdent nextIsIdent
+returns c = c .next-is-ident .ensures ∙ ap (λ (u : List Token). nextIsIdent (now (c .before .before .before .before .before .args .word)) u) (c .before .skip-ws .ensures .here)
 
 pub at-ident-spec : {M : Type 1} → statement M
 at-ident-spec = tie.close (tie.spec skip-ws-requires next-is-ident-requires returns)

@@ -1,33 +1,29 @@
+-- `at_plain_method` gives `atPlainMethod`, word by word. Assumes nothing.
+use mathlib.Core.Path.{sym, _∙_}
+use Rattle.parser.specs.Look.{atPlainMethod}
 use borrow.Author.Needs.{needs}
 use Rattle.parser.proofs.at_plain_method.Statement.{statement}
 use Rattle.parser.proofs.at_plain_method.Tie as tie
-use Rattle.parser.proofs.at_plain_method.Reads as reads
-use Rattle.parser.proofs.at_plain_method.Lts as lts
-use Rattle.parser.proofs.at_text.Reads as at-text-reads
 
--- src/lib.rt:248:30
 slice-aggregate-at-text : tie.Need-slice-aggregate-at-text
 slice-aggregate-at-text c = search needs
 
--- src/lib.rt:248:8
 at-text-requires : tie.Need-at-text-requires
 at-text-requires c κs = search needs
 
--- src/lib.rt:249:9
 returns : tie.Need-returns
-returns c = ?
+unfolding atPlainMethod
+returns c = rw (sym (c .before .at-text .ensures) ∙ c .if1 .taken)
 
--- src/lib.rt:251:27
 slice-aggregate-at-text-2 : tie.Need-slice-aggregate-at-text-2
 slice-aggregate-at-text-2 c = search needs
 
--- src/lib.rt:251:5
 at-text-requires-2 : tie.Need-at-text-requires-2
 at-text-requires-2 c κs = search needs
 
--- src/lib.rt:244:1
 returns-2 : tie.Need-returns-2
-returns-2 c = ?
+unfolding atPlainMethod
+returns-2 c = rw (sym (c .before .before .before .at-text .ensures) ∙ c .before .before .if1 .left) (c .at-text2 .ensures)
 
 pub at-plain-method-spec : {M : Type 1} → statement M
 at-plain-method-spec =

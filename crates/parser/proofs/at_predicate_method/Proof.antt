@@ -1,57 +1,49 @@
+-- `at_predicate_method` gives `atPredicateMethod`, word by word. Assumes nothing.
+use mathlib.Core.Path.{sym, _∙_}
+use Rattle.parser.specs.Look.{atPredicateMethod}
 use borrow.Author.Needs.{needs}
 use Rattle.parser.proofs.at_predicate_method.Statement.{statement}
 use Rattle.parser.proofs.at_predicate_method.Tie as tie
-use Rattle.parser.proofs.at_predicate_method.Reads as reads
-use Rattle.parser.proofs.at_predicate_method.Lts as lts
-use Rattle.parser.proofs.at_text.Reads as at-text-reads
 
--- src/lib.rt:231:30
 slice-aggregate-at-text : tie.Need-slice-aggregate-at-text
 slice-aggregate-at-text c = search needs
 
--- src/lib.rt:231:8
 at-text-requires : tie.Need-at-text-requires
 at-text-requires c κs = search needs
 
--- src/lib.rt:232:9
 returns : tie.Need-returns
-returns c = ?
+unfolding atPredicateMethod
+returns c = rw (sym (c .before .at-text .ensures) ∙ c .if1 .taken)
 
--- src/lib.rt:234:30
 slice-aggregate-at-text-2 : tie.Need-slice-aggregate-at-text-2
 slice-aggregate-at-text-2 c = search needs
 
--- src/lib.rt:234:8
 at-text-requires-2 : tie.Need-at-text-requires-2
 at-text-requires-2 c κs = search needs
 
--- src/lib.rt:235:9
 returns-2 : tie.Need-returns-2
-returns-2 c = ?
+unfolding atPredicateMethod
+returns-2 c = rw (sym (c .before .before .before .before .at-text .ensures) ∙ c .before .before .before .if1 .left, sym (c .before .at-text2 .ensures) ∙ c .if2 .taken)
 
--- src/lib.rt:237:30
 slice-aggregate-at-text-3 : tie.Need-slice-aggregate-at-text-3
 slice-aggregate-at-text-3 c = search needs
 
--- src/lib.rt:237:8
 at-text-requires-3 : tie.Need-at-text-requires-3
 at-text-requires-3 c κs = search needs
 
--- src/lib.rt:238:9
 returns-3 : tie.Need-returns-3
-returns-3 c = ?
+unfolding atPredicateMethod
+returns-3 c = rw (sym (c .before .before .before .before .before .before .before .at-text .ensures) ∙ c .before .before .before .before .before .before .if1 .left, sym (c .before .before .before .before .at-text2 .ensures) ∙ c .before .before .before .if2 .left, sym (c .before .at-text3 .ensures) ∙ c .if3 .taken)
 
--- src/lib.rt:240:27
 slice-aggregate-at-text-4 : tie.Need-slice-aggregate-at-text-4
 slice-aggregate-at-text-4 c = search needs
 
--- src/lib.rt:240:5
 at-text-requires-4 : tie.Need-at-text-requires-4
 at-text-requires-4 c κs = search needs
 
--- src/lib.rt:227:1
 returns-4 : tie.Need-returns-4
-returns-4 c = ?
+unfolding atPredicateMethod
+returns-4 c = rw (sym (c .before .before .before .before .before .before .before .before .before .at-text .ensures) ∙ c .before .before .before .before .before .before .before .before .if1 .left, sym (c .before .before .before .before .before .before .at-text2 .ensures) ∙ c .before .before .before .before .before .if2 .left, sym (c .before .before .before .at-text3 .ensures) ∙ c .before .before .if3 .left) (c .at-text4 .ensures)
 
 pub at-predicate-method-spec : {M : Type 1} → statement M
 at-predicate-method-spec =

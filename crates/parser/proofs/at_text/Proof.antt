@@ -1,22 +1,23 @@
+-- `at_text` compares the first token that is no blank. Assumes nothing.
+use denote.Ref.{now}
+use mathlib.Core.Path.{_∙_, ap}
+use mathlib.Core.List.{List}
+use Rattle.syntax.specs.Text.{same}
+use Rattle.lexer.specs.Lex.{Token}
+use Rattle.parser.specs.Look.{headText, atText}
 use borrow.Author.Needs.{needs}
 use Rattle.parser.proofs.at_text.Statement.{statement}
 use Rattle.parser.proofs.at_text.Tie as tie
-use Rattle.parser.proofs.at_text.Reads as reads
-use Rattle.parser.proofs.at_text.Lts as lts
-use Rattle.parser.proofs.next_is_text.Reads as next-is-text-reads
-use Rattle.parser.proofs.skip_ws.Reads as skip-ws-reads
 
--- src/lib.rt:814:9
 skip-ws-requires : tie.Need-skip-ws-requires
 skip-ws-requires c κs = search needs
 
--- src/lib.rt:815:5
 next-is-text-requires : tie.Need-next-is-text-requires
-next-is-text-requires c κs = search needs
+next-is-text-requires c κs = c .skip-ws .ensures .ready
 
--- src/lib.rt:810:1
 returns : tie.Need-returns
-returns c = ?
+unfolding atText
+returns c = c .next-is-text .ensures ∙ ap (λ (u : List Token). same (headText u) (now (c .before .before .before .before .before .args .word))) (c .before .skip-ws .ensures .here)
 
 pub at-text-spec : {M : Type 1} → statement M
 at-text-spec = tie.close (tie.spec skip-ws-requires next-is-text-requires returns)

@@ -1,26 +1,25 @@
-use borrow.Author.Needs.{needs}
+-- `bump` eats blanks and then takes a token. Assumes nothing.
+use mathlib.Core.List.{[]}
+use Rattle.parser.specs.Parse.{bump}
+use Rattle.parser.proofs.WritingLaws.{did-then, fits-first, fits-then, tree-long}
 use Rattle.parser.proofs.bump.Statement.{statement}
 use Rattle.parser.proofs.bump.Tie as tie
-use Rattle.parser.proofs.bump.Reads as reads
-use Rattle.parser.proofs.bump.Lts as lts
-use Rattle.parser.proofs.eat_ws.Reads as eat-ws-reads
-use Rattle.parser.proofs.put_token.Reads as put-token-reads
 
--- src/lib.rt:652:9
 eat-ws-requires : tie.Need-eat-ws-requires
-eat-ws-requires c κs = ?
+unfolding bump
+eat-ws-requires c κs = fits-first _ _ (c .before .before .before .before .pre)
 
--- src/lib.rt:653:5
 put-token-requires : tie.Need-put-token-requires
-put-token-requires c κs = ?
+unfolding bump
+put-token-requires c κs = fits-then _ _ (c .before .before .before .before .before .before .before .before .pre) (c .before .before .before .eat-ws .ensures [])
 
--- src/lib.rt:648:1
 same-length : tie.Need-same-length
-same-length c = search needs
+unfolding bump
+same-length c = tree-long (did-then (c .before .before .before .before .before .before .eat-ws .ensures []) (c .before .before .put-token .ensures []))
 
--- src/lib.rt:648:1
 returns : tie.Need-returns
-returns c = ?
+unfolding bump
+returns c = λ e. did-then (c .before .before .before .before .before .before .eat-ws .ensures e) (c .before .before .put-token .ensures e)
 
 pub bump-spec : {M : Type 1} → statement M
 bump-spec = tie.close (tie.spec eat-ws-requires put-token-requires same-length returns)

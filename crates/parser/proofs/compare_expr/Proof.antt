@@ -1,57 +1,53 @@
-use borrow.Author.Needs.{needs}
+-- `compare_expr` follows `compareExpr`. Assumes nothing.
+use mathlib.Core.Path.{_∙_}
+use Rattle.parser.specs.Parse.{compareExpr}
+use Rattle.parser.proofs.WritingLaws.{did-then, asks-first, asks-then, tree-long, errors-long, node-room, node-level, asks-node, did-node, started-long, finished-long, finish-room}
 use Rattle.parser.proofs.compare_expr.Statement.{statement}
 use Rattle.parser.proofs.compare_expr.Tie as tie
-use Rattle.parser.proofs.compare_expr.Reads as reads
-use Rattle.parser.proofs.compare_expr.Lts as lts
-use Rattle.parser.proofs.bump.Reads as bump-reads
-use Rattle.parser.proofs.expect.Reads as expect-reads
-use Rattle.parser.proofs.finish_node.Reads as finish-node-reads
-use Rattle.parser.proofs.literal.Reads as literal-reads
-use Rattle.parser.proofs.start_node.Reads as start-node-reads
 
--- src/lib.rt:584:9
 start-node-requires : tie.Need-start-node-requires
-start-node-requires c κs = ?
+unfolding compareExpr
+start-node-requires c κs = node-room _ _ (c .before .before .before .before .before .pre)
 
--- src/lib.rt:585:38
 add-bump : tie.Need-add-bump
-add-bump c = ?
+unfolding compareExpr
+add-bump c = record { fits = node-level _ _ (c .before .before .before .before .before .before .before .before .before .pre) }
 
--- src/lib.rt:585:9
 bump-requires : tie.Need-bump-requires
-bump-requires c κs = ?
+unfolding compareExpr
+bump-requires c κs = (asks-first _ _ (asks-first _ _ (asks-node _ _ (c .before .before .before .before .before .before .before .before .before .pre) (c .before .before .before .start-node .ensures)))) .fits
 
--- src/lib.rt:586:48
 add-expect : tie.Need-add-expect
-add-expect c = ?
+unfolding compareExpr
+add-expect c = record { fits = node-level _ _ (c .before .before .before .before .before .before .before .before .before .before .before .before .before .before .pre) }
 
--- src/lib.rt:586:9
 expect-requires : tie.Need-expect-requires
-expect-requires c κs = ?
+unfolding compareExpr
+expect-requires c κs = (asks-then _ _ (asks-first _ _ (asks-node _ _ (c .before .before .before .before .before .before .before .before .before .before .before .before .before .before .pre) (c .before .before .before .before .before .before .before .before .start-node .ensures))) (c .before .before .before .before .bump .ensures _))
 
--- src/lib.rt:587:49
 add-literal : tie.Need-add-literal
-add-literal c = ?
+unfolding compareExpr
+add-literal c = record { fits = node-level _ _ (c .before .before .before .before .before .before .before .before .before .before .before .before .before .before .before .before .before .before .before .before .before .pre) }
 
--- src/lib.rt:587:9
 literal-requires : tie.Need-literal-requires
-literal-requires c κs = ?
+unfolding compareExpr
+literal-requires c κs = (asks-then _ _ (asks-node _ _ (c .before .before .before .before .before .before .before .before .before .before .before .before .before .before .before .before .before .before .before .before .before .pre) (c .before .before .before .before .before .before .before .before .before .before .before .before .before .before .before .start-node .ensures)) (did-then (c .before .before .before .before .before .before .before .before .before .before .before .bump .ensures _) (c .before .before .before .before .before .before .expect .ensures)))
 
--- src/lib.rt:588:5
 finish-node-requires : tie.Need-finish-node-requires
-finish-node-requires c κs = ?
+unfolding compareExpr
+finish-node-requires c κs = finish-room (node-room _ _ (c .before .before .before .before .before .before .before .before .before .before .before .before .before .before .before .before .before .before .before .before .before .before .before .before .before .before .before .pre)) (c .before .before .before .before .before .before .before .before .before .before .before .before .before .before .before .before .before .before .before .before .before .start-node .ensures) (did-then (did-then (c .before .before .before .before .before .before .before .before .before .before .before .before .before .before .before .before .before .bump .ensures _) (c .before .before .before .before .before .before .before .before .before .before .before .before .expect .ensures)) (c .before .before .before .before .before .literal .ensures))
 
--- src/lib.rt:573:1
 same-length : tie.Need-same-length
-same-length c = ?
+unfolding compareExpr
+same-length c = finished-long (c .before .before .finish-node .ensures) ∙ tree-long (did-then (did-then (c .before .before .before .before .before .before .before .before .before .before .before .before .before .before .before .before .before .before .before .before .bump .ensures _) (c .before .before .before .before .before .before .before .before .before .before .before .before .before .before .before .expect .ensures)) (c .before .before .before .before .before .before .before .before .literal .ensures)) ∙ started-long (c .before .before .before .before .before .before .before .before .before .before .before .before .before .before .before .before .before .before .before .before .before .before .before .before .start-node .ensures)
 
--- src/lib.rt:573:1
 same-length-2 : tie.Need-same-length-2
-same-length-2 c = search needs
+unfolding compareExpr
+same-length-2 c = errors-long (did-then (did-then (c .before .before .before .before .before .before .before .before .before .before .before .before .before .before .before .before .before .before .before .before .bump .ensures _) (c .before .before .before .before .before .before .before .before .before .before .before .before .before .before .before .expect .ensures)) (c .before .before .before .before .before .before .before .before .literal .ensures))
 
--- src/lib.rt:573:1
 returns : tie.Need-returns
-returns c = ?
+unfolding compareExpr
+returns c = (did-node (c .before .before .before .before .before .before .before .before .before .before .before .before .before .before .before .before .before .before .before .before .before .before .before .before .start-node .ensures) (did-then (did-then (c .before .before .before .before .before .before .before .before .before .before .before .before .before .before .before .before .before .before .before .before .bump .ensures _) (c .before .before .before .before .before .before .before .before .before .before .before .before .before .before .before .expect .ensures)) (c .before .before .before .before .before .before .before .before .literal .ensures)) (c .before .before .finish-node .ensures))
 
 pub compare-expr-spec : {M : Type 1} → statement M
 compare-expr-spec =

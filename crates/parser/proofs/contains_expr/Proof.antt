@@ -1,81 +1,77 @@
+-- `contains_expr` follows `containsExpr`. Assumes nothing.
+use mathlib.Core.Path.{_∙_}
+use Rattle.parser.specs.Parse.{containsExpr}
+use Rattle.parser.proofs.WritingLaws.{did-then, asks-first, asks-then, tree-long, errors-long, node-room, node-level, asks-node, did-node, started-long, finished-long, finish-room}
 use Rattle.parser.proofs.contains_expr.Statement.{statement}
 use Rattle.parser.proofs.contains_expr.Tie as tie
-use Rattle.parser.proofs.contains_expr.Reads as reads
-use Rattle.parser.proofs.contains_expr.Lts as lts
-use Rattle.parser.proofs.bump.Reads as bump-reads
-use Rattle.parser.proofs.expect.Reads as expect-reads
-use Rattle.parser.proofs.expect_contains.Reads as expect-contains-reads
-use Rattle.parser.proofs.finish_node.Reads as finish-node-reads
-use Rattle.parser.proofs.literal.Reads as literal-reads
-use Rattle.parser.proofs.start_node.Reads as start-node-reads
 
--- src/lib.rt:562:9
 start-node-requires : tie.Need-start-node-requires
-start-node-requires c κs = ?
+unfolding containsExpr
+start-node-requires c κs = node-room _ _ (c .before .before .before .before .before .pre)
 
--- src/lib.rt:563:38
 add-bump : tie.Need-add-bump
-add-bump c = ?
+unfolding containsExpr
+add-bump c = record { fits = node-level _ _ (c .before .before .before .before .before .before .before .before .before .pre) }
 
--- src/lib.rt:563:9
 bump-requires : tie.Need-bump-requires
-bump-requires c κs = ?
+unfolding containsExpr
+bump-requires c κs = (asks-first _ _ (asks-first _ _ (asks-first _ _ (asks-first _ _ (asks-first _ _ (asks-node _ _ (c .before .before .before .before .before .before .before .before .before .pre) (c .before .before .before .start-node .ensures))))))) .fits
 
--- src/lib.rt:564:48
 add-expect : tie.Need-add-expect
-add-expect c = ?
+unfolding containsExpr
+add-expect c = record { fits = node-level _ _ (c .before .before .before .before .before .before .before .before .before .before .before .before .before .before .pre) }
 
--- src/lib.rt:564:9
 expect-requires : tie.Need-expect-requires
-expect-requires c κs = ?
+unfolding containsExpr
+expect-requires c κs = (asks-then _ _ (asks-first _ _ (asks-first _ _ (asks-first _ _ (asks-first _ _ (asks-node _ _ (c .before .before .before .before .before .before .before .before .before .before .before .before .before .before .pre) (c .before .before .before .before .before .before .before .before .start-node .ensures)))))) (c .before .before .before .before .bump .ensures _))
 
--- src/lib.rt:565:57
 add-expect-contains : tie.Need-add-expect-contains
-add-expect-contains c = ?
+unfolding containsExpr
+add-expect-contains c = record { fits = node-level _ _ (c .before .before .before .before .before .before .before .before .before .before .before .before .before .before .before .before .before .before .before .before .before .pre) }
 
--- src/lib.rt:565:9
 expect-contains-requires : tie.Need-expect-contains-requires
-expect-contains-requires c κs = ?
+unfolding containsExpr
+expect-contains-requires c κs = (asks-then _ _ (asks-first _ _ (asks-first _ _ (asks-first _ _ (asks-node _ _ (c .before .before .before .before .before .before .before .before .before .before .before .before .before .before .before .before .before .before .before .before .before .pre) (c .before .before .before .before .before .before .before .before .before .before .before .before .before .before .before .start-node .ensures))))) (did-then (c .before .before .before .before .before .before .before .before .before .before .before .bump .ensures _) (c .before .before .before .before .before .before .expect .ensures)))
 
--- src/lib.rt:566:48
 add-expect-2 : tie.Need-add-expect-2
-add-expect-2 c = ?
+unfolding containsExpr
+add-expect-2 c = record { fits = node-level _ _ (c .before .before .before .before .before .before .before .before .before .before .before .before .before .before .before .before .before .before .before .before .before .before .before .before .before .before .before .before .pre) }
 
--- src/lib.rt:566:9
 expect-requires-2 : tie.Need-expect-requires-2
-expect-requires-2 c κs = ?
+unfolding containsExpr
+expect-requires-2 c κs = (asks-then _ _ (asks-first _ _ (asks-first _ _ (asks-node _ _ (c .before .before .before .before .before .before .before .before .before .before .before .before .before .before .before .before .before .before .before .before .before .before .before .before .before .before .before .before .pre) (c .before .before .before .before .before .before .before .before .before .before .before .before .before .before .before .before .before .before .before .before .before .before .start-node .ensures)))) (did-then (did-then (c .before .before .before .before .before .before .before .before .before .before .before .before .before .before .before .before .before .before .bump .ensures _) (c .before .before .before .before .before .before .before .before .before .before .before .before .before .expect .ensures)) (c .before .before .before .before .before .before .expect-contains .ensures)))
 
--- src/lib.rt:567:49
 add-literal : tie.Need-add-literal
-add-literal c = ?
+unfolding containsExpr
+add-literal c = record { fits = node-level _ _ (c .before .before .before .before .before .before .before .before .before .before .before .before .before .before .before .before .before .before .before .before .before .before .before .before .before .before .before .before .before .before .before .before .before .before .before .pre) }
 
--- src/lib.rt:567:9
 literal-requires : tie.Need-literal-requires
-literal-requires c κs = ?
+unfolding containsExpr
+literal-requires c κs = (asks-then _ _ (asks-first _ _ (asks-node _ _ (c .before .before .before .before .before .before .before .before .before .before .before .before .before .before .before .before .before .before .before .before .before .before .before .before .before .before .before .before .before .before .before .before .before .before .before .pre) (c .before .before .before .before .before .before .before .before .before .before .before .before .before .before .before .before .before .before .before .before .before .before .before .before .before .before .before .before .before .start-node .ensures))) (did-then (did-then (did-then (c .before .before .before .before .before .before .before .before .before .before .before .before .before .before .before .before .before .before .before .before .before .before .before .before .before .bump .ensures _) (c .before .before .before .before .before .before .before .before .before .before .before .before .before .before .before .before .before .before .before .before .expect .ensures)) (c .before .before .before .before .before .before .before .before .before .before .before .before .before .expect-contains .ensures)) (c .before .before .before .before .before .before .expect2 .ensures)))
 
--- src/lib.rt:568:48
 add-expect-3 : tie.Need-add-expect-3
-add-expect-3 c = ?
+unfolding containsExpr
+add-expect-3 c = record { fits = node-level _ _ (c .before .before .before .before .before .before .before .before .before .before .before .before .before .before .before .before .before .before .before .before .before .before .before .before .before .before .before .before .before .before .before .before .before .before .before .before .before .before .before .before .before .before .pre) }
 
--- src/lib.rt:568:9
 expect-requires-3 : tie.Need-expect-requires-3
-expect-requires-3 c κs = ?
+unfolding containsExpr
+expect-requires-3 c κs = (asks-then _ _ (asks-node _ _ (c .before .before .before .before .before .before .before .before .before .before .before .before .before .before .before .before .before .before .before .before .before .before .before .before .before .before .before .before .before .before .before .before .before .before .before .before .before .before .before .before .before .before .pre) (c .before .before .before .before .before .before .before .before .before .before .before .before .before .before .before .before .before .before .before .before .before .before .before .before .before .before .before .before .before .before .before .before .before .before .before .before .start-node .ensures)) (did-then (did-then (did-then (did-then (c .before .before .before .before .before .before .before .before .before .before .before .before .before .before .before .before .before .before .before .before .before .before .before .before .before .before .before .before .before .before .before .before .bump .ensures _) (c .before .before .before .before .before .before .before .before .before .before .before .before .before .before .before .before .before .before .before .before .before .before .before .before .before .before .before .expect .ensures)) (c .before .before .before .before .before .before .before .before .before .before .before .before .before .before .before .before .before .before .before .before .expect-contains .ensures)) (c .before .before .before .before .before .before .before .before .before .before .before .before .before .expect2 .ensures)) (c .before .before .before .before .before .before .literal .ensures)))
 
--- src/lib.rt:569:5
 finish-node-requires : tie.Need-finish-node-requires
-finish-node-requires c κs = ?
+unfolding containsExpr
+finish-node-requires c κs = finish-room (node-room _ _ (c .before .before .before .before .before .before .before .before .before .before .before .before .before .before .before .before .before .before .before .before .before .before .before .before .before .before .before .before .before .before .before .before .before .before .before .before .before .before .before .before .before .before .before .before .before .before .before .before .pre)) (c .before .before .before .before .before .before .before .before .before .before .before .before .before .before .before .before .before .before .before .before .before .before .before .before .before .before .before .before .before .before .before .before .before .before .before .before .before .before .before .before .before .before .start-node .ensures) (did-then (did-then (did-then (did-then (did-then (c .before .before .before .before .before .before .before .before .before .before .before .before .before .before .before .before .before .before .before .before .before .before .before .before .before .before .before .before .before .before .before .before .before .before .before .before .before .before .bump .ensures _) (c .before .before .before .before .before .before .before .before .before .before .before .before .before .before .before .before .before .before .before .before .before .before .before .before .before .before .before .before .before .before .before .before .before .expect .ensures)) (c .before .before .before .before .before .before .before .before .before .before .before .before .before .before .before .before .before .before .before .before .before .before .before .before .before .before .expect-contains .ensures)) (c .before .before .before .before .before .before .before .before .before .before .before .before .before .before .before .before .before .before .before .expect2 .ensures)) (c .before .before .before .before .before .before .before .before .before .before .before .before .literal .ensures)) (c .before .before .before .before .before .expect3 .ensures))
 
--- src/lib.rt:551:1
 same-length : tie.Need-same-length
-same-length c = ?
+unfolding containsExpr
+same-length c = finished-long (c .before .before .finish-node .ensures) ∙ tree-long (did-then (did-then (did-then (did-then (did-then (c .before .before .before .before .before .before .before .before .before .before .before .before .before .before .before .before .before .before .before .before .before .before .before .before .before .before .before .before .before .before .before .before .before .before .before .before .before .before .before .before .before .bump .ensures _) (c .before .before .before .before .before .before .before .before .before .before .before .before .before .before .before .before .before .before .before .before .before .before .before .before .before .before .before .before .before .before .before .before .before .before .before .before .expect .ensures)) (c .before .before .before .before .before .before .before .before .before .before .before .before .before .before .before .before .before .before .before .before .before .before .before .before .before .before .before .before .before .expect-contains .ensures)) (c .before .before .before .before .before .before .before .before .before .before .before .before .before .before .before .before .before .before .before .before .before .before .expect2 .ensures)) (c .before .before .before .before .before .before .before .before .before .before .before .before .before .before .before .literal .ensures)) (c .before .before .before .before .before .before .before .before .expect3 .ensures)) ∙ started-long (c .before .before .before .before .before .before .before .before .before .before .before .before .before .before .before .before .before .before .before .before .before .before .before .before .before .before .before .before .before .before .before .before .before .before .before .before .before .before .before .before .before .before .before .before .before .start-node .ensures)
 
--- src/lib.rt:551:1
 same-length-2 : tie.Need-same-length-2
-same-length-2 c = ?
+unfolding containsExpr
+same-length-2 c = errors-long (did-then (did-then (did-then (did-then (did-then (c .before .before .before .before .before .before .before .before .before .before .before .before .before .before .before .before .before .before .before .before .before .before .before .before .before .before .before .before .before .before .before .before .before .before .before .before .before .before .before .before .before .bump .ensures _) (c .before .before .before .before .before .before .before .before .before .before .before .before .before .before .before .before .before .before .before .before .before .before .before .before .before .before .before .before .before .before .before .before .before .before .before .before .expect .ensures)) (c .before .before .before .before .before .before .before .before .before .before .before .before .before .before .before .before .before .before .before .before .before .before .before .before .before .before .before .before .before .expect-contains .ensures)) (c .before .before .before .before .before .before .before .before .before .before .before .before .before .before .before .before .before .before .before .before .before .before .expect2 .ensures)) (c .before .before .before .before .before .before .before .before .before .before .before .before .before .before .before .literal .ensures)) (c .before .before .before .before .before .before .before .before .expect3 .ensures))
 
--- src/lib.rt:551:1
 returns : tie.Need-returns
-returns c = ?
+unfolding containsExpr
+returns c = (did-node (c .before .before .before .before .before .before .before .before .before .before .before .before .before .before .before .before .before .before .before .before .before .before .before .before .before .before .before .before .before .before .before .before .before .before .before .before .before .before .before .before .before .before .before .before .before .start-node .ensures) (did-then (did-then (did-then (did-then (did-then (c .before .before .before .before .before .before .before .before .before .before .before .before .before .before .before .before .before .before .before .before .before .before .before .before .before .before .before .before .before .before .before .before .before .before .before .before .before .before .before .before .before .bump .ensures _) (c .before .before .before .before .before .before .before .before .before .before .before .before .before .before .before .before .before .before .before .before .before .before .before .before .before .before .before .before .before .before .before .before .before .before .before .before .expect .ensures)) (c .before .before .before .before .before .before .before .before .before .before .before .before .before .before .before .before .before .before .before .before .before .before .before .before .before .before .before .before .before .expect-contains .ensures)) (c .before .before .before .before .before .before .before .before .before .before .before .before .before .before .before .before .before .before .before .before .before .before .expect2 .ensures)) (c .before .before .before .before .before .before .before .before .before .before .before .before .before .before .before .literal .ensures)) (c .before .before .before .before .before .before .before .before .expect3 .ensures)) (c .before .before .finish-node .ensures))
 
 pub contains-expr-spec : {M : Type 1} → statement M
 contains-expr-spec =

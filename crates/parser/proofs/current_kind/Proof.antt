@@ -1,22 +1,18 @@
+-- `current_kind` looks at the first token that is no blank. Assumes nothing.
+use mathlib.Core.Path.{_∙_, ap}
+use Rattle.parser.specs.Look.{headKind}
 use borrow.Author.Needs.{needs}
 use Rattle.parser.proofs.current_kind.Statement.{statement}
 use Rattle.parser.proofs.current_kind.Tie as tie
-use Rattle.parser.proofs.current_kind.Reads as reads
-use Rattle.parser.proofs.current_kind.Lts as lts
-use Rattle.parser.proofs.next_kind.Reads as next-kind-reads
-use Rattle.parser.proofs.skip_ws.Reads as skip-ws-reads
 
--- src/lib.rt:796:9
 skip-ws-requires : tie.Need-skip-ws-requires
 skip-ws-requires c κs = search needs
 
--- src/lib.rt:797:5
 next-kind-requires : tie.Need-next-kind-requires
-next-kind-requires c κs = search needs
+next-kind-requires c κs = c .skip-ws .ensures .ready
 
--- src/lib.rt:792:1
 returns : tie.Need-returns
-returns c = ?
+returns c = c .next-kind .ensures ∙ ap headKind (c .before .skip-ws .ensures .here)
 
 pub current-kind-spec : {M : Type 1} → statement M
 current-kind-spec = tie.close (tie.spec skip-ws-requires next-kind-requires returns)

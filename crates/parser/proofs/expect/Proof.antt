@@ -1,48 +1,46 @@
-use borrow.Author.Needs.{needs}
+-- `expect` follows `expect`. Assumes nothing.
+use mathlib.Core.List.{[]}
+use Rattle.parser.specs.Parse.{expect}
+use Rattle.parser.proofs.WritingLaws.{did-then, asks-first, asks-then, tree-long, errors-long, ready-then, asks-true, asks-false, did-true, did-false}
+use Rattle.parser.proofs.LookLaws.{next-yes, next-no, fail-room}
 use Rattle.parser.proofs.expect.Statement.{statement}
 use Rattle.parser.proofs.expect.Tie as tie
-use Rattle.parser.proofs.expect.Reads as reads
-use Rattle.parser.proofs.expect.Lts as lts
-use Rattle.parser.proofs.eat_ws.Reads as eat-ws-reads
-use Rattle.parser.proofs.fail.Reads as fail-reads
-use Rattle.parser.proofs.next_kind.Reads as next-kind-reads
-use Rattle.parser.proofs.put_token.Reads as put-token-reads
 
--- src/lib.rt:621:9
 eat-ws-requires : tie.Need-eat-ws-requires
-eat-ws-requires c κs = ?
+unfolding expect
+eat-ws-requires c κs = asks-first _ _ (c .before .before .before .before .before .pre) .fits
 
--- src/lib.rt:622:8
 next-kind-requires : tie.Need-next-kind-requires
-next-kind-requires c κs = ?
+unfolding expect
+next-kind-requires c κs = ready-then (c .before .before .eat-ws .ensures []) (c .before .before .before .before .before .before .before .before .pre .fits .ready)
 
--- src/lib.rt:623:9
 put-token-requires : tie.Need-put-token-requires
-put-token-requires c κs = ?
+unfolding expect
+put-token-requires c κs = asks-true _ _ _ (next-yes _ (c .before .before .next-kind .ensures) (c .before .if1 .taken)) (asks-then _ _ (c .before .before .before .before .before .before .before .before .before .before .before .pre) (c .before .before .before .before .before .eat-ws .ensures _)) .fits
 
--- src/lib.rt:623:9
 same-length : tie.Need-same-length
-same-length c = search needs
+unfolding expect
+same-length c = tree-long (did-then (c .before .before .before .before .before .before .before .before .eat-ws .ensures []) (c .before .before .put-token .ensures []))
 
--- src/lib.rt:623:9
 returns : tie.Need-returns
-returns c = ?
+unfolding expect
+returns c = did-then (c .before .before .before .before .before .before .before .before .eat-ws .ensures _) (did-true _ _ _ (next-yes _ (c .before .before .before .before .before .next-kind .ensures) (c .before .before .before .before .if1 .taken)) (c .before .before .put-token .ensures _))
 
--- src/lib.rt:625:5
 fail-requires : tie.Need-fail-requires
-fail-requires c κs = ?
+unfolding expect
+fail-requires c κs = ((asks-then _ _ (c .before .before .before .before .before .before .before .before .before .before .before .pre) (c .before .before .before .before .before .eat-ws .ensures _)) .fits .ready, fail-room _ _ (asks-false _ _ _ (next-no _ (c .before .before .next-kind .ensures) (c .before .if1 .left)) (asks-then _ _ (c .before .before .before .before .before .before .before .before .before .before .before .pre) (c .before .before .before .before .before .eat-ws .ensures _))))
 
--- src/lib.rt:609:1
 same-length-2 : tie.Need-same-length-2
-same-length-2 c = search needs
+unfolding expect
+same-length-2 c = tree-long (c .before .before .before .before .before .before .before .before .eat-ws .ensures [])
 
--- src/lib.rt:609:1
 same-length-3 : tie.Need-same-length-3
-same-length-3 c = search needs
+unfolding expect
+same-length-3 c = errors-long (did-then (c .before .before .before .before .before .before .before .before .eat-ws .ensures _) (did-false _ _ _ (next-no _ (c .before .before .before .before .before .next-kind .ensures) (c .before .before .before .before .if1 .left)) (c .before .before .fail .ensures _ _)))
 
--- src/lib.rt:609:1
 returns-2 : tie.Need-returns-2
-returns-2 c = ?
+unfolding expect
+returns-2 c = (did-then (c .before .before .before .before .before .before .before .before .eat-ws .ensures _) (did-false _ _ _ (next-no _ (c .before .before .before .before .before .next-kind .ensures) (c .before .before .before .before .if1 .left)) (c .before .before .fail .ensures _ _)))
 
 pub expect-spec : {M : Type 1} → statement M
 expect-spec =

@@ -1,52 +1,51 @@
+-- `expect_contains` follows `expectIdent`. Assumes nothing.
+use mathlib.Core.Path.{sym, _∙_}
+use mathlib.Core.List.{[]}
+use Rattle.parser.specs.Parse.{expectIdent}
+use Rattle.parser.proofs.WritingLaws.{did-then, asks-first, asks-then, tree-long, errors-long, ready-then, asks-true, asks-false, did-true, did-false}
+use Rattle.parser.proofs.LookLaws.{fail-room}
 use borrow.Author.Needs.{needs}
 use Rattle.parser.proofs.expect_contains.Statement.{statement}
 use Rattle.parser.proofs.expect_contains.Tie as tie
-use Rattle.parser.proofs.expect_contains.Reads as reads
-use Rattle.parser.proofs.expect_contains.Lts as lts
-use Rattle.parser.proofs.eat_ws.Reads as eat-ws-reads
-use Rattle.parser.proofs.fail.Reads as fail-reads
-use Rattle.parser.proofs.next_is_ident.Reads as next-is-ident-reads
-use Rattle.parser.proofs.put_token.Reads as put-token-reads
 
--- src/lib.rt:640:9
 eat-ws-requires : tie.Need-eat-ws-requires
-eat-ws-requires c κs = ?
+unfolding expectIdent
+eat-ws-requires c κs = asks-first _ _ (c .before .before .before .before .before .pre) .fits
 
--- src/lib.rt:641:36
 slice-aggregate-next-is-ident : tie.Need-slice-aggregate-next-is-ident
 slice-aggregate-next-is-ident c = search needs
 
--- src/lib.rt:641:8
 next-is-ident-requires : tie.Need-next-is-ident-requires
-next-is-ident-requires c κs = ?
+unfolding expectIdent
+next-is-ident-requires c κs = ready-then (c .before .before .before .eat-ws .ensures []) (c .before .before .before .before .before .before .before .before .before .pre .fits .ready)
 
--- src/lib.rt:642:9
 put-token-requires : tie.Need-put-token-requires
-put-token-requires c κs = ?
+unfolding expectIdent
+put-token-requires c κs = asks-true _ _ _ (sym (c .before .before .next-is-ident .ensures) ∙ c .before .if1 .taken) (asks-then _ _ (c .before .before .before .before .before .before .before .before .before .before .before .before .pre) (c .before .before .before .before .before .before .eat-ws .ensures _)) .fits
 
--- src/lib.rt:642:9
 same-length : tie.Need-same-length
-same-length c = search needs
+unfolding expectIdent
+same-length c = tree-long (did-then (c .before .before .before .before .before .before .before .before .before .eat-ws .ensures []) (c .before .before .put-token .ensures []))
 
--- src/lib.rt:642:9
 returns : tie.Need-returns
-returns c = ?
+unfolding expectIdent
+returns c = did-then (c .before .before .before .before .before .before .before .before .before .eat-ws .ensures _) (did-true _ _ _ (sym (c .before .before .before .before .before .next-is-ident .ensures) ∙ c .before .before .before .before .if1 .taken) (c .before .before .put-token .ensures _))
 
--- src/lib.rt:644:5
 fail-requires : tie.Need-fail-requires
-fail-requires c κs = ?
+unfolding expectIdent
+fail-requires c κs = ((asks-then _ _ (c .before .before .before .before .before .before .before .before .before .before .before .before .pre) (c .before .before .before .before .before .before .eat-ws .ensures _)) .fits .ready, fail-room _ _ (asks-false _ _ _ (sym (c .before .before .next-is-ident .ensures) ∙ c .before .if1 .left) (asks-then _ _ (c .before .before .before .before .before .before .before .before .before .before .before .before .pre) (c .before .before .before .before .before .before .eat-ws .ensures _))))
 
--- src/lib.rt:629:1
 same-length-2 : tie.Need-same-length-2
-same-length-2 c = search needs
+unfolding expectIdent
+same-length-2 c = tree-long (c .before .before .before .before .before .before .before .before .before .eat-ws .ensures [])
 
--- src/lib.rt:629:1
 same-length-3 : tie.Need-same-length-3
-same-length-3 c = search needs
+unfolding expectIdent
+same-length-3 c = errors-long (did-then (c .before .before .before .before .before .before .before .before .before .eat-ws .ensures _) (did-false _ _ _ (sym (c .before .before .before .before .before .next-is-ident .ensures) ∙ c .before .before .before .before .if1 .left) (c .before .before .fail .ensures _ _)))
 
--- src/lib.rt:629:1
 returns-2 : tie.Need-returns-2
-returns-2 c = ?
+unfolding expectIdent
+returns-2 c = (did-then (c .before .before .before .before .before .before .before .before .before .eat-ws .ensures _) (did-false _ _ _ (sym (c .before .before .before .before .before .next-is-ident .ensures) ∙ c .before .before .before .before .if1 .left) (c .before .before .fail .ensures _ _)))
 
 pub expect-contains-spec : {M : Type 1} → statement M
 expect-contains-spec =

@@ -1,105 +1,107 @@
+-- `has_binary_op_at_level` scans the tokens left, and going on from each token ends as the whole does. Assumes nothing.
+use denote.Ref.{now}
+use mathlib.Core.Path.{_≡_, refl, sym, _∙_}
+use Prim.Native.Nat.{_-_, _≤_}
+use lib.ListN.{length, drop}
+use Rattle.lexer.specs.Lex.{lex, tokenRows}
+use Rattle.parser.specs.Look.{opAhead, hasBinaryOpAtLevel}
+use Rattle.parser.proofs.TokenLaws.{Row, rows-length, row-in, none-in}
+use Rattle.parser.proofs.LookLaws.{op-blank, op-open, op-shut, op-close, op-past, op-deep, op-first, op-here, op-end}
+use native.Mathlib.Omega.{arith}
 use Rattle.parser.proofs.has_binary_op_at_level.Statement.{statement}
 use Rattle.parser.proofs.has_binary_op_at_level.Tie as tie
-use Rattle.parser.proofs.has_binary_op_at_level.Reads as reads
-use Rattle.parser.proofs.has_binary_op_at_level.Lts as lts
 
 abbrev Inv-loop : tie.InvT-loop
-Inv-loop rule tokens op depth₀ found₀ i₀ depth found i = ?
+Inv-loop rule tokens op depth₀ found₀ i₀ depth found i = (i ≤ length (lex rule)) × (tokens ≡ tokenRows 0 (lex rule)) × (depth ≤ i) × (opAhead op depth found (drop i (lex rule)) ≡ hasBinaryOpAtLevel op (drop i₀ (lex rule)))
 
 abbrev μ-loop : tie.MeasureT-loop
-μ-loop rule tokens op depth₀ found₀ i₀ depth found i = ?
+μ-loop rule tokens op depth₀ found₀ i₀ depth found i = length (lex rule) - i
 
--- src/lib.rt:400:5
 loop-holds : tie.Need-loop-holds Inv-loop μ-loop
-loop-holds c = ?
+unfolding hasBinaryOpAtLevel
+loop-holds c = (c .pre .within, c .pre .rows, omega arith, refl)
 
--- src/lib.rt:400:11
 mul-loop : tie.Need-mul-loop Inv-loop μ-loop
-mul-loop c = ?
+mul-loop c = omega (arith, rows-length (lex (now (c .before .args .rule))) (c .loop .inv .1))
 
--- src/lib.rt:401:24
 mul-k : tie.Need-mul-k Inv-loop μ-loop
-mul-k c = ?
+mul-k c = omega (arith, rows-length (lex (now (c .before .before .args .rule))) (c .before .loop .inv .1))
 
--- src/lib.rt:401:17
 mul-k-2 : tie.Need-mul-k-2 Inv-loop μ-loop
-mul-k-2 c = ?
+mul-k-2 c = omega (arith, rows-length (lex (now (c .before .before .args .rule))) (c .before .loop .inv .1))
 
--- src/lib.rt:401:17
 shared-slice-read-k : tie.Need-shared-slice-read-k Inv-loop μ-loop
-shared-slice-read-k c = ?
+shared-slice-read-k c = omega (arith, rows-length (lex (now (c .before .before .before .args .rule))) (c .before .before .loop .inv .1))
 
--- src/lib.rt:402:9
 add-i : tie.Need-add-i Inv-loop μ-loop
-add-i c = ?
+add-i c = omega (arith, rows-length (lex (now (c .before .before .before .args .rule))) (c .before .before .loop .inv .1))
 
--- src/lib.rt:400:5
 loop-less : tie.Need-loop-less Inv-loop μ-loop
-loop-less c = ?
+loop-less c = omega (arith, rows-length (lex (now (c .before .before .before .before .args .rule))) (c .before .before .before .loop .inv .1), c .before .before .loop-test .taken)
 
--- src/lib.rt:400:5
 loop-again : tie.Need-loop-again Inv-loop μ-loop
-loop-again c = ?
+loop-again c =
+    let w = row-in (lex (now (c .before .before .before .before .args .rule))) (c .before .before .before .loop .inv .1) (c .before .before .before .loop .i) (c .before .before .loop-test .taken) in
+    (omega (arith, rows-length (lex (now (c .before .before .before .before .args .rule))) (c .before .before .before .loop .inv .1), c .before .before .loop-test .taken), c .before .before .before .loop .inv .1, omega arith, op-blank w _ _ _ (c .if1 .taken) ∙ c .before .before .before .loop .inv .3)
 
--- src/lib.rt:404:13
 add-depth : tie.Need-add-depth Inv-loop μ-loop
-add-depth c = ?
+add-depth c = omega (arith, rows-length (lex (now (c .before .before .before .before .before .args .rule))) (c .before .before .before .before .loop .inv .1))
 
--- src/lib.rt:400:5
 loop-less-2 : tie.Need-loop-less-2 Inv-loop μ-loop
-loop-less-2 c = ?
+loop-less-2 c = omega (arith, rows-length (lex (now (c .before .before .before .before .before .args .rule))) (c .before .before .before .before .loop .inv .1), c .before .before .before .loop-test .taken)
 
--- src/lib.rt:400:5
 loop-again-2 : tie.Need-loop-again-2 Inv-loop μ-loop
-loop-again-2 c = ?
+loop-again-2 c =
+    let w = row-in (lex (now (c .before .before .before .before .before .args .rule))) (c .before .before .before .before .loop .inv .1) (c .before .before .before .before .loop .i) (c .before .before .before .loop-test .taken) in
+    (omega (arith, rows-length (lex (now (c .before .before .before .before .before .args .rule))) (c .before .before .before .before .loop .inv .1), c .before .before .before .loop-test .taken), c .before .before .before .before .loop .inv .1, omega (arith, c .before .before .before .before .loop .inv .2), op-open w _ _ _ (c .before .if1 .left) (c .if2 .taken) ∙ c .before .before .before .before .loop .inv .3)
 
--- src/lib.rt:408:17
 returns : tie.Need-returns Inv-loop μ-loop
-returns c = ?
+returns c =
+    let w = row-in (lex (now (c .before .before .before .before .before .before .before .args .rule))) (c .before .before .before .before .before .before .loop .inv .1) (c .before .before .before .before .before .before .loop .i) (c .before .before .before .before .before .loop-test .taken) in
+    op-shut w _ _ _ (c .before .before .before .if1 .left) (c .before .before .if2 .left) (c .before .if3 .taken) (c .if4 .taken) ∙ c .before .before .before .before .before .before .loop .inv .3
 
--- src/lib.rt:410:13
 sub-depth : tie.Need-sub-depth Inv-loop μ-loop
-sub-depth c = ?
+sub-depth c = omega arith
 
--- src/lib.rt:400:5
 loop-less-3 : tie.Need-loop-less-3 Inv-loop μ-loop
-loop-less-3 c = ?
+loop-less-3 c = omega (arith, rows-length (lex (now (c .before .before .before .before .before .before .before .args .rule))) (c .before .before .before .before .before .before .loop .inv .1), c .before .before .before .before .before .loop-test .taken)
 
--- src/lib.rt:400:5
 loop-again-3 : tie.Need-loop-again-3 Inv-loop μ-loop
-loop-again-3 c = ?
+loop-again-3 c =
+    let w = row-in (lex (now (c .before .before .before .before .before .before .before .args .rule))) (c .before .before .before .before .before .before .loop .inv .1) (c .before .before .before .before .before .before .loop .i) (c .before .before .before .before .before .loop-test .taken) in
+    (omega (arith, rows-length (lex (now (c .before .before .before .before .before .before .before .args .rule))) (c .before .before .before .before .before .before .loop .inv .1), c .before .before .before .before .before .loop-test .taken), c .before .before .before .before .before .before .loop .inv .1, omega (arith, c .before .before .before .before .before .before .loop .inv .2), op-close w _ _ _ (c .before .before .before .if1 .left) (c .before .before .if2 .left) (c .before .if3 .taken) (c .if4 .left) ∙ c .before .before .before .before .before .before .loop .inv .3)
 
--- src/lib.rt:415:25
 returns-2 : tie.Need-returns-2 Inv-loop μ-loop
-returns-2 c = ?
+returns-2 c =
+    let w = row-in (lex (now (c .before .before .before .before .before .before .before .before .before .args .rule))) (c .before .before .before .before .before .before .before .before .loop .inv .1) (c .before .before .before .before .before .before .before .before .loop .i) (c .before .before .before .before .before .before .before .loop-test .taken) in
+    op-here w _ _ _ (c .before .before .before .before .before .if1 .left) (c .before .before .before .before .if2 .left) (c .before .before .before .if3 .left) (c .before .before .if5 .taken) (c .before .if6 .taken) (c .if7 .taken) ∙ c .before .before .before .before .before .before .before .before .loop .inv .3
 
--- src/lib.rt:400:5
 loop-less-4 : tie.Need-loop-less-4 Inv-loop μ-loop
-loop-less-4 c = ?
+loop-less-4 c = omega (arith, rows-length (lex (now (c .before .before .before .before .before .before .before .before .before .args .rule))) (c .before .before .before .before .before .before .before .before .loop .inv .1), c .before .before .before .before .before .before .before .loop-test .taken)
 
--- src/lib.rt:400:5
 loop-again-4 : tie.Need-loop-again-4 Inv-loop μ-loop
-loop-again-4 c = ?
+loop-again-4 c =
+    let w = row-in (lex (now (c .before .before .before .before .before .before .before .before .before .args .rule))) (c .before .before .before .before .before .before .before .before .loop .inv .1) (c .before .before .before .before .before .before .before .before .loop .i) (c .before .before .before .before .before .before .before .loop-test .taken) in
+    (omega (arith, rows-length (lex (now (c .before .before .before .before .before .before .before .before .before .args .rule))) (c .before .before .before .before .before .before .before .before .loop .inv .1), c .before .before .before .before .before .before .before .loop-test .taken), c .before .before .before .before .before .before .before .before .loop .inv .1, omega (arith, c .before .before .before .before .before .before .before .before .loop .inv .2), op-first w _ _ _ (c .before .before .before .before .before .if1 .left) (c .before .before .before .before .if2 .left) (c .before .before .before .if3 .left) (c .before .if6 .taken) (c .if7 .left) ∙ c .before .before .before .before .before .before .before .before .loop .inv .3)
 
--- src/lib.rt:400:5
 loop-less-5 : tie.Need-loop-less-5 Inv-loop μ-loop
-loop-less-5 c = ?
+loop-less-5 c = omega (arith, rows-length (lex (now (c .before .before .before .before .before .before .before .before .args .rule))) (c .before .before .before .before .before .before .before .loop .inv .1), c .before .before .before .before .before .before .loop-test .taken)
 
--- src/lib.rt:400:5
 loop-again-5 : tie.Need-loop-again-5 Inv-loop μ-loop
-loop-again-5 c = ?
+loop-again-5 c =
+    let w = row-in (lex (now (c .before .before .before .before .before .before .before .before .args .rule))) (c .before .before .before .before .before .before .before .loop .inv .1) (c .before .before .before .before .before .before .before .loop .i) (c .before .before .before .before .before .before .loop-test .taken) in
+    (omega (arith, rows-length (lex (now (c .before .before .before .before .before .before .before .before .args .rule))) (c .before .before .before .before .before .before .before .loop .inv .1), c .before .before .before .before .before .before .loop-test .taken), c .before .before .before .before .before .before .before .loop .inv .1, omega (arith, c .before .before .before .before .before .before .before .loop .inv .2), op-deep w _ _ _ (c .before .before .before .before .if1 .left) (c .before .before .before .if2 .left) (c .before .before .if3 .left) (c .if6 .left) ∙ c .before .before .before .before .before .before .before .loop .inv .3)
 
--- src/lib.rt:400:5
 loop-less-6 : tie.Need-loop-less-6 Inv-loop μ-loop
-loop-less-6 c = ?
+loop-less-6 c = omega (arith, rows-length (lex (now (c .before .before .before .before .before .before .before .args .rule))) (c .before .before .before .before .before .before .loop .inv .1), c .before .before .before .before .before .loop-test .taken)
 
--- src/lib.rt:400:5
 loop-again-6 : tie.Need-loop-again-6 Inv-loop μ-loop
-loop-again-6 c = ?
+loop-again-6 c =
+    let w = row-in (lex (now (c .before .before .before .before .before .before .before .args .rule))) (c .before .before .before .before .before .before .loop .inv .1) (c .before .before .before .before .before .before .loop .i) (c .before .before .before .before .before .loop-test .taken) in
+    (omega (arith, rows-length (lex (now (c .before .before .before .before .before .before .before .args .rule))) (c .before .before .before .before .before .before .loop .inv .1), c .before .before .before .before .before .loop-test .taken), c .before .before .before .before .before .before .loop .inv .1, omega (arith, c .before .before .before .before .before .before .loop .inv .2), op-past w _ _ _ (c .before .before .before .if1 .left) (c .before .before .if2 .left) (c .before .if3 .left) (c .if5 .left) ∙ c .before .before .before .before .before .before .loop .inv .3)
 
--- src/lib.rt:393:1
 returns-3 : tie.Need-returns-3 Inv-loop μ-loop
-returns-3 c = ?
+returns-3 c = op-end _ _ _ (none-in (lex (now (c .before .before .args .rule))) (c .before .loop .inv .1) (c .before .loop .i) (c .loop-test .left)) ∙ c .before .loop .inv .3
 
 pub has-binary-op-at-level-spec : {M : Type 1} → statement M
 has-binary-op-at-level-spec =

@@ -1,66 +1,66 @@
+-- `has_count_compare_ahead` keeps the last two kinds, and going on from each token ends as the whole does. Assumes nothing.
+use denote.Ref.{now}
+use mathlib.Core.Path.{_≡_, refl, sym, _∙_}
+use Prim.Native.Nat.{_-_, _≤_}
+use lib.ListN.{length, drop}
+use Rattle.lexer.specs.Lex.{lex, tokenRows}
+use Rattle.parser.specs.Look.{endsInComparison, hasCountCompareAhead}
+use Rattle.parser.proofs.TokenLaws.{rows-length, row-in, none-in}
+use Rattle.parser.proofs.LookLaws.{ends-blank, ends-solid, ends-integer, ends-other}
+use borrow.Author.Needs.{needs}
+use native.Mathlib.Omega.{arith}
 use Rattle.parser.proofs.has_count_compare_ahead.Statement.{statement}
 use Rattle.parser.proofs.has_count_compare_ahead.Tie as tie
-use Rattle.parser.proofs.has_count_compare_ahead.Reads as reads
-use Rattle.parser.proofs.has_count_compare_ahead.Lts as lts
-use Rattle.parser.proofs.is_comparison.Reads as is-comparison-reads
 
 abbrev Inv-loop : tie.InvT-loop
-Inv-loop rule tokens second₀ last₀ i₀ second last i = ?
+Inv-loop rule tokens second₀ last₀ i₀ second last i = (i ≤ length (lex rule)) × (tokens ≡ tokenRows 0 (lex rule)) × (endsInComparison second last (drop i (lex rule)) ≡ hasCountCompareAhead (drop i₀ (lex rule)))
 
 abbrev μ-loop : tie.MeasureT-loop
-μ-loop rule tokens second₀ last₀ i₀ second last i = ?
+μ-loop rule tokens second₀ last₀ i₀ second last i = length (lex rule) - i
 
--- src/lib.rt:94:5
 loop-holds : tie.Need-loop-holds Inv-loop μ-loop
-loop-holds c = ?
+unfolding hasCountCompareAhead
+loop-holds c = (c .before .before .pre .within, c .before .before .pre .rows, refl)
 
--- src/lib.rt:94:11
 mul-loop : tie.Need-mul-loop Inv-loop μ-loop
-mul-loop c = ?
+mul-loop c = omega (arith, rows-length (lex (now (c .before .before .before .args .rule))) (c .loop .inv .1))
 
--- src/lib.rt:95:24
 mul-k : tie.Need-mul-k Inv-loop μ-loop
-mul-k c = ?
+mul-k c = omega (arith, rows-length (lex (now (c .before .before .before .before .args .rule))) (c .before .loop .inv .1))
 
--- src/lib.rt:95:17
 mul-k-2 : tie.Need-mul-k-2 Inv-loop μ-loop
-mul-k-2 c = ?
+mul-k-2 c = omega (arith, rows-length (lex (now (c .before .before .before .before .args .rule))) (c .before .loop .inv .1))
 
--- src/lib.rt:95:17
 shared-slice-read-k : tie.Need-shared-slice-read-k Inv-loop μ-loop
-shared-slice-read-k c = ?
+shared-slice-read-k c = omega (arith, rows-length (lex (now (c .before .before .before .before .before .args .rule))) (c .before .before .loop .inv .1))
 
--- src/lib.rt:96:9
 add-i : tie.Need-add-i Inv-loop μ-loop
-add-i c = ?
+add-i c = omega (arith, rows-length (lex (now (c .before .before .before .before .before .args .rule))) (c .before .before .loop .inv .1))
 
--- src/lib.rt:94:5
 loop-less : tie.Need-loop-less Inv-loop μ-loop
-loop-less c = ?
+loop-less c = omega (arith, rows-length (lex (now (c .before .before .before .before .before .before .args .rule))) (c .before .before .before .loop .inv .1), c .before .before .loop-test .taken)
 
--- src/lib.rt:94:5
 loop-again : tie.Need-loop-again Inv-loop μ-loop
-loop-again c = ?
+loop-again c =
+    let w = row-in (lex (now (c .before .before .before .before .before .before .args .rule))) (c .before .before .before .loop .inv .1) (c .before .before .before .loop .i) (c .before .before .loop-test .taken) in
+    (omega (arith, rows-length (lex (now (c .before .before .before .before .before .before .args .rule))) (c .before .before .before .loop .inv .1), c .before .before .loop-test .taken), c .before .before .before .loop .inv .1, ends-solid w _ _ (c .if1 .taken) ∙ c .before .before .before .loop .inv .2)
 
--- src/lib.rt:94:5
 loop-less-2 : tie.Need-loop-less-2 Inv-loop μ-loop
-loop-less-2 c = ?
+loop-less-2 c = omega (arith, rows-length (lex (now (c .before .before .before .before .before .before .args .rule))) (c .before .before .before .loop .inv .1), c .before .before .loop-test .taken)
 
--- src/lib.rt:94:5
 loop-again-2 : tie.Need-loop-again-2 Inv-loop μ-loop
-loop-again-2 c = ?
+loop-again-2 c =
+    let w = row-in (lex (now (c .before .before .before .before .before .before .args .rule))) (c .before .before .before .loop .inv .1) (c .before .before .before .loop .i) (c .before .before .loop-test .taken) in
+    (omega (arith, rows-length (lex (now (c .before .before .before .before .before .before .args .rule))) (c .before .before .before .loop .inv .1), c .before .before .loop-test .taken), c .before .before .before .loop .inv .1, ends-blank w _ _ (c .if1 .left) ∙ c .before .before .before .loop .inv .2)
 
--- src/lib.rt:103:9
 is-comparison-requires : tie.Need-is-comparison-requires Inv-loop μ-loop
-is-comparison-requires c κs = ?
+is-comparison-requires c κs = search needs
 
--- src/lib.rt:103:9
 returns : tie.Need-returns Inv-loop μ-loop
-returns c = ?
+returns c = c .is-comparison .ensures ∙ ends-integer _ _ (none-in (lex (now (c .before .before .before .before .before .before .args .rule))) (c .before .before .before .loop .inv .1) (c .before .before .before .loop .i) (c .before .before .loop-test .left)) (c .before .if2 .taken) ∙ c .before .before .before .loop .inv .2
 
--- src/lib.rt:87:1
 returns-2 : tie.Need-returns-2 Inv-loop μ-loop
-returns-2 c = ?
+returns-2 c = ends-other _ _ (none-in (lex (now (c .before .before .before .before .before .args .rule))) (c .before .before .loop .inv .1) (c .before .before .loop .i) (c .before .loop-test .left)) (c .if2 .left) ∙ c .before .before .loop .inv .2
 
 pub has-count-compare-ahead-spec : {M : Type 1} → statement M
 has-count-compare-ahead-spec =

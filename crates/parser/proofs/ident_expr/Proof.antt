@@ -1,35 +1,34 @@
-use borrow.Author.Needs.{needs}
+-- `ident_expr` follows `identExpr`. Assumes nothing.
+use mathlib.Core.Path.{_∙_}
+use mathlib.Core.List.{[]}
+use Rattle.parser.specs.Parse.{identExpr}
+use Rattle.parser.proofs.WritingLaws.{tree-long, node-room, node-level, asks-node, did-node, started-long, finished-long, finish-room}
 use Rattle.parser.proofs.ident_expr.Statement.{statement}
 use Rattle.parser.proofs.ident_expr.Tie as tie
-use Rattle.parser.proofs.ident_expr.Reads as reads
-use Rattle.parser.proofs.ident_expr.Lts as lts
-use Rattle.parser.proofs.bump.Reads as bump-reads
-use Rattle.parser.proofs.finish_node.Reads as finish-node-reads
-use Rattle.parser.proofs.start_node.Reads as start-node-reads
 
--- src/lib.rt:545:9
 start-node-requires : tie.Need-start-node-requires
-start-node-requires c κs = ?
+unfolding identExpr
+start-node-requires c κs = node-room _ _ (c .before .before .before .before .before .pre)
 
--- src/lib.rt:546:38
 add-bump : tie.Need-add-bump
-add-bump c = ?
+unfolding identExpr
+add-bump c = record { fits = node-level _ _ (c .before .before .before .before .before .before .before .before .before .pre) }
 
--- src/lib.rt:546:9
 bump-requires : tie.Need-bump-requires
-bump-requires c κs = ?
+unfolding identExpr
+bump-requires c κs = (asks-node _ _ (c .before .before .before .before .before .before .before .before .before .pre) (c .before .before .before .start-node .ensures)) .fits
 
--- src/lib.rt:547:5
 finish-node-requires : tie.Need-finish-node-requires
-finish-node-requires c κs = ?
+unfolding identExpr
+finish-node-requires c κs = finish-room (node-room _ _ (c .before .before .before .before .before .before .before .before .before .before .before .before .before .pre)) (c .before .before .before .before .before .before .before .start-node .ensures) (c .before .before .before .bump .ensures [])
 
--- src/lib.rt:534:1
 same-length : tie.Need-same-length
-same-length c = search needs
+unfolding identExpr
+same-length c = finished-long (c .before .before .finish-node .ensures) ∙ tree-long (c .before .before .before .before .before .before .bump .ensures []) ∙ started-long (c .before .before .before .before .before .before .before .before .before .before .start-node .ensures)
 
--- src/lib.rt:534:1
 returns : tie.Need-returns
-returns c = ?
+unfolding identExpr
+returns c = (did-node (c .before .before .before .before .before .before .before .before .before .before .start-node .ensures) (c .before .before .before .before .before .before .bump .ensures _) (c .before .before .finish-node .ensures))
 
 pub ident-expr-spec : {M : Type 1} → statement M
 ident-expr-spec =

@@ -1,39 +1,38 @@
-use borrow.Author.Needs.{needs}
+-- `left_over` follows `leftOver`. Assumes nothing.
+use mathlib.Core.List.{[]}
+use Rattle.parser.specs.Parse.{leftOver}
+use Rattle.parser.proofs.WritingLaws.{did-done, did-then, asks-first, asks-then, tree-long, errors-long, asks-false, did-true, did-false}
+use Rattle.parser.proofs.LookLaws.{at-yes, at-no, fail-room}
 use Rattle.parser.proofs.left_over.Statement.{statement}
 use Rattle.parser.proofs.left_over.Tie as tie
-use Rattle.parser.proofs.left_over.Reads as reads
-use Rattle.parser.proofs.left_over.Lts as lts
-use Rattle.parser.proofs.current_kind.Reads as current-kind-reads
-use Rattle.parser.proofs.fail.Reads as fail-reads
-use Rattle.parser.proofs.take_remaining.Reads as take-remaining-reads
 
--- src/lib.rt:57:8
 current-kind-requires : tie.Need-current-kind-requires
-current-kind-requires c κs = search needs
+unfolding leftOver
+current-kind-requires c κs = c .before .before .before .before .pre .fits .ready
 
--- src/lib.rt:58:9
 returns : tie.Need-returns
-returns c = ?
+unfolding leftOver
+returns c = did-true _ _ _ (at-yes _ (c .before .current-kind .ensures) (c .if1 .taken)) (did-done (c .before .before .before .before .before .before .pre .fits .ready))
 
--- src/lib.rt:60:9
 fail-requires : tie.Need-fail-requires
-fail-requires c κs = ?
+unfolding leftOver
+fail-requires c κs = ((asks-first _ _ (asks-false _ _ _ (at-no _ (c .before .before .current-kind .ensures) (c .before .if1 .left)) (c .before .before .before .before .before .before .before .pre))) .fits .ready, fail-room _ _ (asks-first _ _ (asks-false _ _ _ (at-no _ (c .before .before .current-kind .ensures) (c .before .if1 .left)) (c .before .before .before .before .before .before .before .pre))))
 
--- src/lib.rt:61:5
 take-remaining-requires : tie.Need-take-remaining-requires
-take-remaining-requires c κs = ?
+unfolding leftOver
+take-remaining-requires c κs = (asks-then _ _ (asks-false _ _ _ (at-no _ (c .before .before .before .before .before .before .current-kind .ensures) (c .before .before .before .before .before .if1 .left)) (c .before .before .before .before .before .before .before .before .before .before .before .pre)) (c .before .before .before .fail .ensures _ _)) .fits
 
--- src/lib.rt:46:1
 same-length : tie.Need-same-length
-same-length c = search needs
+unfolding leftOver
+same-length c = tree-long (c .before .before .take-remaining .ensures [])
 
--- src/lib.rt:46:1
 same-length-2 : tie.Need-same-length-2
-same-length-2 c = search needs
+unfolding leftOver
+same-length-2 c = errors-long (c .before .before .before .before .before .before .fail .ensures [] 0)
 
--- src/lib.rt:46:1
 returns-2 : tie.Need-returns-2
-returns-2 c = ?
+unfolding leftOver
+returns-2 c = did-false _ _ _ (at-no _ (c .before .before .before .before .before .before .before .before .before .current-kind .ensures) (c .before .before .before .before .before .before .before .before .if1 .left)) (did-then (c .before .before .before .before .before .before .fail .ensures _ _) (c .before .before .take-remaining .ensures _))
 
 pub left-over-spec : {M : Type 1} → statement M
 left-over-spec =

@@ -1,39 +1,37 @@
-use borrow.Author.Needs.{needs}
+-- `literal` follows `literal`. Assumes nothing.
+use mathlib.Core.Path.{_∙_}
+use Rattle.parser.specs.Parse.{literal}
+use Rattle.parser.proofs.WritingLaws.{tree-long, errors-long, node-room, node-level, asks-node, did-node, started-long, finished-long, finish-room}
 use Rattle.parser.proofs.literal.Statement.{statement}
 use Rattle.parser.proofs.literal.Tie as tie
-use Rattle.parser.proofs.literal.Reads as reads
-use Rattle.parser.proofs.literal.Lts as lts
-use Rattle.parser.proofs.expect.Reads as expect-reads
-use Rattle.parser.proofs.finish_node.Reads as finish-node-reads
-use Rattle.parser.proofs.start_node.Reads as start-node-reads
 
--- src/lib.rt:603:9
 start-node-requires : tie.Need-start-node-requires
-start-node-requires c κs = ?
+unfolding literal
+start-node-requires c κs = node-room _ _ (c .before .before .before .before .before .pre)
 
--- src/lib.rt:604:48
 add-expect : tie.Need-add-expect
-add-expect c = ?
+unfolding literal
+add-expect c = record { fits = node-level _ _ (c .before .before .before .before .before .before .before .before .before .before .pre) }
 
--- src/lib.rt:604:9
 expect-requires : tie.Need-expect-requires
-expect-requires c κs = ?
+unfolding literal
+expect-requires c κs = (asks-node _ _ (c .before .before .before .before .before .before .before .before .before .before .pre) (c .before .before .before .before .start-node .ensures))
 
--- src/lib.rt:605:5
 finish-node-requires : tie.Need-finish-node-requires
-finish-node-requires c κs = ?
+unfolding literal
+finish-node-requires c κs = finish-room (node-room _ _ (c .before .before .before .before .before .before .before .before .before .before .before .before .before .before .before .before .pre)) (c .before .before .before .before .before .before .before .before .before .before .start-node .ensures) (c .before .before .before .before .before .expect .ensures)
 
--- src/lib.rt:592:1
 same-length : tie.Need-same-length
-same-length c = search needs
+unfolding literal
+same-length c = finished-long (c .before .before .finish-node .ensures) ∙ tree-long (c .before .before .before .before .before .before .before .before .expect .ensures) ∙ started-long (c .before .before .before .before .before .before .before .before .before .before .before .before .before .start-node .ensures)
 
--- src/lib.rt:592:1
 same-length-2 : tie.Need-same-length-2
-same-length-2 c = search needs
+unfolding literal
+same-length-2 c = errors-long (c .before .before .before .before .before .before .before .before .expect .ensures)
 
--- src/lib.rt:592:1
 returns : tie.Need-returns
-returns c = ?
+unfolding literal
+returns c = (did-node (c .before .before .before .before .before .before .before .before .before .before .before .before .before .start-node .ensures) (c .before .before .before .before .before .before .before .before .expect .ensures) (c .before .before .finish-node .ensures))
 
 pub literal-spec : {M : Type 1} → statement M
 literal-spec =

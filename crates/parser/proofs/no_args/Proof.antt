@@ -1,47 +1,45 @@
-use borrow.Author.Needs.{needs}
+-- `no_args` follows `noArgs`. Assumes nothing.
+use mathlib.Core.Path.{_∙_}
+use Rattle.parser.specs.Parse.{noArgs}
+use Rattle.parser.proofs.WritingLaws.{did-then, asks-first, asks-then, tree-long, errors-long, node-room, node-level, asks-node, did-node, started-long, finished-long, finish-room}
 use Rattle.parser.proofs.no_args.Statement.{statement}
 use Rattle.parser.proofs.no_args.Tie as tie
-use Rattle.parser.proofs.no_args.Reads as reads
-use Rattle.parser.proofs.no_args.Lts as lts
-use Rattle.parser.proofs.expect.Reads as expect-reads
-use Rattle.parser.proofs.finish_node.Reads as finish-node-reads
-use Rattle.parser.proofs.start_node.Reads as start-node-reads
 
--- src/lib.rt:285:9
 start-node-requires : tie.Need-start-node-requires
-start-node-requires c κs = ?
+unfolding noArgs
+start-node-requires c κs = node-room _ _ (c .before .before .before .before .before .pre)
 
--- src/lib.rt:286:48
 add-expect : tie.Need-add-expect
-add-expect c = ?
+unfolding noArgs
+add-expect c = record { fits = node-level _ _ (c .before .before .before .before .before .before .before .before .before .before .pre) }
 
--- src/lib.rt:286:9
 expect-requires : tie.Need-expect-requires
-expect-requires c κs = ?
+unfolding noArgs
+expect-requires c κs = (asks-first _ _ (asks-node _ _ (c .before .before .before .before .before .before .before .before .before .before .pre) (c .before .before .before .before .start-node .ensures)))
 
--- src/lib.rt:287:48
 add-expect-2 : tie.Need-add-expect-2
-add-expect-2 c = ?
+unfolding noArgs
+add-expect-2 c = record { fits = node-level _ _ (c .before .before .before .before .before .before .before .before .before .before .before .before .before .before .before .before .before .pre) }
 
--- src/lib.rt:287:9
 expect-requires-2 : tie.Need-expect-requires-2
-expect-requires-2 c κs = ?
+unfolding noArgs
+expect-requires-2 c κs = (asks-then _ _ (asks-node _ _ (c .before .before .before .before .before .before .before .before .before .before .before .before .before .before .before .before .before .pre) (c .before .before .before .before .before .before .before .before .before .before .before .start-node .ensures)) (c .before .before .before .before .before .before .expect .ensures))
 
--- src/lib.rt:288:5
 finish-node-requires : tie.Need-finish-node-requires
-finish-node-requires c κs = ?
+unfolding noArgs
+finish-node-requires c κs = finish-room (node-room _ _ (c .before .before .before .before .before .before .before .before .before .before .before .before .before .before .before .before .before .before .before .before .before .before .before .pre)) (c .before .before .before .before .before .before .before .before .before .before .before .before .before .before .before .before .before .start-node .ensures) (did-then (c .before .before .before .before .before .before .before .before .before .before .before .before .expect .ensures) (c .before .before .before .before .before .expect2 .ensures))
 
--- src/lib.rt:274:1
 same-length : tie.Need-same-length
-same-length c = search needs
+unfolding noArgs
+same-length c = finished-long (c .before .before .finish-node .ensures) ∙ tree-long (did-then (c .before .before .before .before .before .before .before .before .before .before .before .before .before .before .before .expect .ensures) (c .before .before .before .before .before .before .before .before .expect2 .ensures)) ∙ started-long (c .before .before .before .before .before .before .before .before .before .before .before .before .before .before .before .before .before .before .before .before .start-node .ensures)
 
--- src/lib.rt:274:1
 same-length-2 : tie.Need-same-length-2
-same-length-2 c = search needs
+unfolding noArgs
+same-length-2 c = errors-long (did-then (c .before .before .before .before .before .before .before .before .before .before .before .before .before .before .before .expect .ensures) (c .before .before .before .before .before .before .before .before .expect2 .ensures))
 
--- src/lib.rt:274:1
 returns : tie.Need-returns
-returns c = ?
+unfolding noArgs
+returns c = (did-node (c .before .before .before .before .before .before .before .before .before .before .before .before .before .before .before .before .before .before .before .before .start-node .ensures) (did-then (c .before .before .before .before .before .before .before .before .before .before .before .before .before .before .before .expect .ensures) (c .before .before .before .before .before .before .before .before .expect2 .ensures)) (c .before .before .finish-node .ensures))
 
 pub no-args-spec : {M : Type 1} → statement M
 no-args-spec =

@@ -1,43 +1,42 @@
-use borrow.Author.Needs.{needs}
+-- `no_method` follows `noMethod`. Assumes nothing.
+use mathlib.Core.List.{[]}
+use Rattle.parser.specs.Parse.{noMethod}
+use Rattle.parser.proofs.WritingLaws.{did-done, did-then, asks-first, asks-then, tree-long, errors-long, ready-then, asks-false, did-true, did-false}
+use Rattle.parser.proofs.LookLaws.{at-yes, at-no, fail-ahead-room}
 use Rattle.parser.proofs.no_method.Statement.{statement}
 use Rattle.parser.proofs.no_method.Tie as tie
-use Rattle.parser.proofs.no_method.Reads as reads
-use Rattle.parser.proofs.no_method.Lts as lts
-use Rattle.parser.proofs.bump.Reads as bump-reads
-use Rattle.parser.proofs.current_kind.Reads as current-kind-reads
-use Rattle.parser.proofs.fail_ahead.Reads as fail-ahead-reads
 
--- src/lib.rt:303:9
 fail-ahead-requires : tie.Need-fail-ahead-requires
-fail-ahead-requires c κs = ?
+unfolding noMethod
+fail-ahead-requires c κs = (c .before .before .before .before .before .pre .fits .ready, fail-ahead-room _ (asks-first _ _ (c .before .before .before .before .before .pre)))
 
--- src/lib.rt:304:8
 current-kind-requires : tie.Need-current-kind-requires
-current-kind-requires c κs = ?
+unfolding noMethod
+current-kind-requires c κs = ready-then (c .before .before .fail-ahead .ensures [] 0) (c .before .before .before .before .before .before .before .before .pre .fits .ready)
 
--- src/lib.rt:305:9
 same-length : tie.Need-same-length
-same-length c = search needs
+unfolding noMethod
+same-length c = errors-long (c .before .before .before .before .fail-ahead .ensures [] 0)
 
--- src/lib.rt:305:9
 returns : tie.Need-returns
-returns c = ?
+unfolding noMethod
+returns c = did-then (c .before .before .before .before .fail-ahead .ensures _ _) (did-true _ _ _ (at-yes _ (c .before .current-kind .ensures) (c .if1 .taken)) (did-done (ready-then (c .before .before .before .before .fail-ahead .ensures [] 0) (c .before .before .before .before .before .before .before .before .before .before .pre .fits .ready))))
 
--- src/lib.rt:307:5
 bump-requires : tie.Need-bump-requires
-bump-requires c κs = ?
+unfolding noMethod
+bump-requires c κs = asks-false _ _ _ (at-no _ (c .before .before .current-kind .ensures) (c .before .if1 .left)) (asks-then _ _ (c .before .before .before .before .before .before .before .before .before .before .before .pre) (c .before .before .before .before .before .fail-ahead .ensures _ _)) .fits
 
--- src/lib.rt:292:1
 same-length-2 : tie.Need-same-length-2
-same-length-2 c = search needs
+unfolding noMethod
+same-length-2 c = tree-long (c .before .before .bump .ensures [])
 
--- src/lib.rt:292:1
 same-length-3 : tie.Need-same-length-3
-same-length-3 c = search needs
+unfolding noMethod
+same-length-3 c = errors-long (c .before .before .before .before .before .before .before .before .fail-ahead .ensures [] 0)
 
--- src/lib.rt:292:1
 returns-2 : tie.Need-returns-2
-returns-2 c = ?
+unfolding noMethod
+returns-2 c = did-then (c .before .before .before .before .before .before .before .before .fail-ahead .ensures _ _) (did-false _ _ _ (at-no _ (c .before .before .before .before .before .current-kind .ensures) (c .before .before .before .before .if1 .left)) (c .before .before .bump .ensures _))
 
 pub no-method-spec : {M : Type 1} → statement M
 no-method-spec =

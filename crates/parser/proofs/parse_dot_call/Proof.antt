@@ -1,48 +1,45 @@
-use borrow.Author.Needs.{needs}
+-- `parse_dot_call` follows `parseDotCall`. Assumes nothing.
+use mathlib.Core.Path.{_∙_}
+use Rattle.parser.specs.Parse.{parseDotCall}
+use Rattle.parser.proofs.WritingLaws.{did-then, asks-first, asks-then, tree-long, errors-long, node-room, node-level, asks-node, did-node, started-long, finished-long, finish-room}
 use Rattle.parser.proofs.parse_dot_call.Statement.{statement}
 use Rattle.parser.proofs.parse_dot_call.Tie as tie
-use Rattle.parser.proofs.parse_dot_call.Reads as reads
-use Rattle.parser.proofs.parse_dot_call.Lts as lts
-use Rattle.parser.proofs.expect.Reads as expect-reads
-use Rattle.parser.proofs.finish_node.Reads as finish-node-reads
-use Rattle.parser.proofs.parse_method.Reads as parse-method-reads
-use Rattle.parser.proofs.start_node.Reads as start-node-reads
 
--- src/lib.rt:194:9
 start-node-requires : tie.Need-start-node-requires
-start-node-requires c κs = ?
+unfolding parseDotCall
+start-node-requires c κs = node-room _ _ (c .before .before .before .before .before .pre)
 
--- src/lib.rt:195:48
 add-expect : tie.Need-add-expect
-add-expect c = ?
+unfolding parseDotCall
+add-expect c = record { fits = node-level _ _ (c .before .before .before .before .before .before .before .before .before .before .pre) }
 
--- src/lib.rt:195:9
 expect-requires : tie.Need-expect-requires
-expect-requires c κs = ?
+unfolding parseDotCall
+expect-requires c κs = (asks-first _ _ (asks-node _ _ (c .before .before .before .before .before .before .before .before .before .before .pre) (c .before .before .before .before .start-node .ensures)))
 
--- src/lib.rt:196:54
 add-parse-method : tie.Need-add-parse-method
-add-parse-method c = ?
+unfolding parseDotCall
+add-parse-method c = record { fits = node-level _ _ (c .before .before .before .before .before .before .before .before .before .before .before .before .before .before .before .before .before .pre) }
 
--- src/lib.rt:196:9
 parse-method-requires : tie.Need-parse-method-requires
-parse-method-requires c κs = ?
+unfolding parseDotCall
+parse-method-requires c κs = (asks-then _ _ (asks-node _ _ (c .before .before .before .before .before .before .before .before .before .before .before .before .before .before .before .before .before .pre) (c .before .before .before .before .before .before .before .before .before .before .before .start-node .ensures)) (c .before .before .before .before .before .before .expect .ensures))
 
--- src/lib.rt:197:5
 finish-node-requires : tie.Need-finish-node-requires
-finish-node-requires c κs = ?
+unfolding parseDotCall
+finish-node-requires c κs = finish-room (node-room _ _ (c .before .before .before .before .before .before .before .before .before .before .before .before .before .before .before .before .before .before .before .before .before .before .before .pre)) (c .before .before .before .before .before .before .before .before .before .before .before .before .before .before .before .before .before .start-node .ensures) (did-then (c .before .before .before .before .before .before .before .before .before .before .before .before .expect .ensures) (c .before .before .before .before .before .parse-method .ensures))
 
--- src/lib.rt:183:1
 same-length : tie.Need-same-length
-same-length c = search needs
+unfolding parseDotCall
+same-length c = finished-long (c .before .before .finish-node .ensures) ∙ tree-long (did-then (c .before .before .before .before .before .before .before .before .before .before .before .before .before .before .before .expect .ensures) (c .before .before .before .before .before .before .before .before .parse-method .ensures)) ∙ started-long (c .before .before .before .before .before .before .before .before .before .before .before .before .before .before .before .before .before .before .before .before .start-node .ensures)
 
--- src/lib.rt:183:1
 same-length-2 : tie.Need-same-length-2
-same-length-2 c = search needs
+unfolding parseDotCall
+same-length-2 c = errors-long (did-then (c .before .before .before .before .before .before .before .before .before .before .before .before .before .before .before .expect .ensures) (c .before .before .before .before .before .before .before .before .parse-method .ensures))
 
--- src/lib.rt:183:1
 returns : tie.Need-returns
-returns c = ?
+unfolding parseDotCall
+returns c = (did-node (c .before .before .before .before .before .before .before .before .before .before .before .before .before .before .before .before .before .before .before .before .start-node .ensures) (did-then (c .before .before .before .before .before .before .before .before .before .before .before .before .before .before .before .expect .ensures) (c .before .before .before .before .before .before .before .before .parse-method .ensures)) (c .before .before .finish-node .ensures))
 
 pub parse-dot-call-spec : {M : Type 1} → statement M
 parse-dot-call-spec =

@@ -1,99 +1,94 @@
+-- `parse_method` follows `parseMethod`, test by test. Assumes nothing.
+use mathlib.Core.Path.{sym, _∙_}
+use mathlib.Core.List.{[]}
+use Rattle.parser.specs.Parse.{parseMethod}
+use Rattle.parser.proofs.WritingLaws.{did-then, asks-first, asks-then, tree-long, errors-long, asks-true, asks-false, did-true, did-false}
 use borrow.Author.Needs.{needs}
 use Rattle.parser.proofs.parse_method.Statement.{statement}
 use Rattle.parser.proofs.parse_method.Tie as tie
-use Rattle.parser.proofs.parse_method.Reads as reads
-use Rattle.parser.proofs.parse_method.Lts as lts
-use Rattle.parser.proofs.at_plain_method.Reads as at-plain-method-reads
-use Rattle.parser.proofs.at_predicate_method.Reads as at-predicate-method-reads
-use Rattle.parser.proofs.at_text.Reads as at-text-reads
-use Rattle.parser.proofs.bump.Reads as bump-reads
-use Rattle.parser.proofs.no_args.Reads as no-args-reads
-use Rattle.parser.proofs.no_method.Reads as no-method-reads
-use Rattle.parser.proofs.predicate_args.Reads as predicate-args-reads
 
--- src/lib.rt:212:8
 at-predicate-method-requires : tie.Need-at-predicate-method-requires
-at-predicate-method-requires c κs = search needs
+unfolding parseMethod
+at-predicate-method-requires c κs = c .before .before .before .before .pre .fits .ready
 
--- src/lib.rt:213:13
 bump-requires : tie.Need-bump-requires
-bump-requires c κs = ?
+unfolding parseMethod
+bump-requires c κs = (asks-first _ _ (asks-true _ _ _ (sym (c .before .before .at-predicate-method .ensures) ∙ c .before .if1 .taken) (c .before .before .before .before .before .before .before .pre))) .fits
 
--- src/lib.rt:214:9
 predicate-args-requires : tie.Need-predicate-args-requires
-predicate-args-requires c κs = ?
+unfolding parseMethod
+predicate-args-requires c κs = (asks-then _ _ (asks-true _ _ _ (sym (c .before .before .before .before .before .before .before .at-predicate-method .ensures) ∙ c .before .before .before .before .before .before .if1 .taken) (c .before .before .before .before .before .before .before .before .before .before .before .before .pre)) (c .before .before .before .before .bump .ensures _))
 
--- src/lib.rt:214:9
 same-length : tie.Need-same-length
-same-length c = search needs
+unfolding parseMethod
+same-length c = tree-long (did-then (c .before .before .before .before .before .before .before .before .before .bump .ensures _) (c .before .before .before .before .predicate-args .ensures))
 
--- src/lib.rt:214:9
 same-length-2 : tie.Need-same-length-2
-same-length-2 c = search needs
+unfolding parseMethod
+same-length-2 c = errors-long (did-then (c .before .before .before .before .before .before .before .before .before .bump .ensures _) (c .before .before .before .before .predicate-args .ensures))
 
--- src/lib.rt:214:9
 returns : tie.Need-returns
-returns c = ?
+unfolding parseMethod
+returns c = (did-true _ _ _ (sym (c .before .before .before .before .before .before .before .before .before .before .before .before .at-predicate-method .ensures) ∙ c .before .before .before .before .before .before .before .before .before .before .before .if1 .taken) (did-then (c .before .before .before .before .before .before .before .before .before .bump .ensures _) (c .before .before .before .before .predicate-args .ensures)))
 
--- src/lib.rt:216:30
 slice-aggregate-at-text : tie.Need-slice-aggregate-at-text
 slice-aggregate-at-text c = search needs
 
--- src/lib.rt:216:8
 at-text-requires : tie.Need-at-text-requires
-at-text-requires c κs = search needs
+unfolding parseMethod
+at-text-requires c κs = c .before .before .before .before .before .before .before .pre .fits .ready
 
--- src/lib.rt:217:13
 bump-requires-2 : tie.Need-bump-requires-2
-bump-requires-2 c κs = ?
+unfolding parseMethod
+bump-requires-2 c κs = (asks-first _ _ (asks-true _ _ _ (sym (c .before .before .at-text .ensures) ∙ c .before .if2 .taken) (asks-false _ _ _ (sym (c .before .before .before .before .before .at-predicate-method .ensures) ∙ c .before .before .before .before .if1 .left) (c .before .before .before .before .before .before .before .before .before .before .pre)))) .fits
 
--- src/lib.rt:218:9
 no-args-requires : tie.Need-no-args-requires
-no-args-requires c κs = ?
+unfolding parseMethod
+no-args-requires c κs = (asks-then _ _ (asks-true _ _ _ (sym (c .before .before .before .before .before .before .before .at-text .ensures) ∙ c .before .before .before .before .before .before .if2 .taken) (asks-false _ _ _ (sym (c .before .before .before .before .before .before .before .before .before .before .at-predicate-method .ensures) ∙ c .before .before .before .before .before .before .before .before .before .if1 .left) (c .before .before .before .before .before .before .before .before .before .before .before .before .before .before .before .pre))) (c .before .before .before .before .bump2 .ensures _))
 
--- src/lib.rt:218:9
 same-length-3 : tie.Need-same-length-3
-same-length-3 c = search needs
+unfolding parseMethod
+same-length-3 c = tree-long (did-then (c .before .before .before .before .before .before .before .before .before .bump2 .ensures _) (c .before .before .before .before .no-args .ensures))
 
--- src/lib.rt:218:9
 same-length-4 : tie.Need-same-length-4
-same-length-4 c = search needs
+unfolding parseMethod
+same-length-4 c = errors-long (did-then (c .before .before .before .before .before .before .before .before .before .bump2 .ensures _) (c .before .before .before .before .no-args .ensures))
 
--- src/lib.rt:218:9
 returns-2 : tie.Need-returns-2
-returns-2 c = ?
+unfolding parseMethod
+returns-2 c = (did-false _ _ _ (sym (c .before .before .before .before .before .before .before .before .before .before .before .before .before .before .before .at-predicate-method .ensures) ∙ c .before .before .before .before .before .before .before .before .before .before .before .before .before .before .if1 .left) (did-true _ _ _ (sym (c .before .before .before .before .before .before .before .before .before .before .before .before .at-text .ensures) ∙ c .before .before .before .before .before .before .before .before .before .before .before .if2 .taken) (did-then (c .before .before .before .before .before .before .before .before .before .bump2 .ensures _) (c .before .before .before .before .no-args .ensures))))
 
--- src/lib.rt:220:8
 at-plain-method-requires : tie.Need-at-plain-method-requires
-at-plain-method-requires c κs = search needs
+unfolding parseMethod
+at-plain-method-requires c κs = c .before .before .before .before .before .before .before .before .before .pre .fits .ready
 
--- src/lib.rt:221:9
 bump-requires-3 : tie.Need-bump-requires-3
-bump-requires-3 c κs = ?
+unfolding parseMethod
+bump-requires-3 c κs = (asks-true _ _ _ (sym (c .before .before .at-plain-method .ensures) ∙ c .before .if3 .taken) (asks-false _ _ _ (sym (c .before .before .before .before .at-text .ensures) ∙ c .before .before .before .if2 .left) (asks-false _ _ _ (sym (c .before .before .before .before .before .before .before .at-predicate-method .ensures) ∙ c .before .before .before .before .before .before .if1 .left) (c .before .before .before .before .before .before .before .before .before .before .before .before .pre)))) .fits
 
--- src/lib.rt:221:9
 same-length-5 : tie.Need-same-length-5
-same-length-5 c = search needs
+unfolding parseMethod
+same-length-5 c = tree-long (c .before .before .bump3 .ensures [])
 
--- src/lib.rt:221:9
 returns-3 : tie.Need-returns-3
-returns-3 c = ?
+unfolding parseMethod
+returns-3 c = (did-false _ _ _ (sym (c .before .before .before .before .before .before .before .before .before .before .at-predicate-method .ensures) ∙ c .before .before .before .before .before .before .before .before .before .if1 .left) (did-false _ _ _ (sym (c .before .before .before .before .before .before .before .at-text .ensures) ∙ c .before .before .before .before .before .before .if2 .left) (did-true _ _ _ (sym (c .before .before .before .before .before .at-plain-method .ensures) ∙ c .before .before .before .before .if3 .taken) (c .before .before .bump3 .ensures _))))
 
--- src/lib.rt:223:5
 no-method-requires : tie.Need-no-method-requires
-no-method-requires c κs = ?
+unfolding parseMethod
+no-method-requires c κs = (asks-false _ _ _ (sym (c .before .before .before .at-plain-method .ensures) ∙ c .before .before .if3 .left) (asks-false _ _ _ (sym (c .before .before .before .before .before .at-text .ensures) ∙ c .before .before .before .before .if2 .left) (asks-false _ _ _ (sym (c .before .before .before .before .before .before .before .before .at-predicate-method .ensures) ∙ c .before .before .before .before .before .before .before .if1 .left) (c .before .before .before .before .before .before .before .before .before .before .before .before .before .pre))))
 
--- src/lib.rt:201:1
 same-length-6 : tie.Need-same-length-6
-same-length-6 c = search needs
+unfolding parseMethod
+same-length-6 c = tree-long (c .before .before .before .before .no-method .ensures)
 
--- src/lib.rt:201:1
 same-length-7 : tie.Need-same-length-7
-same-length-7 c = search needs
+unfolding parseMethod
+same-length-7 c = errors-long (c .before .before .before .before .no-method .ensures)
 
--- src/lib.rt:201:1
 returns-4 : tie.Need-returns-4
-returns-4 c = ?
+unfolding parseMethod
+returns-4 c = (did-false _ _ _ (sym (c .before .before .before .before .before .before .before .before .before .before .before .before .before .at-predicate-method .ensures) ∙ c .before .before .before .before .before .before .before .before .before .before .before .before .if1 .left) (did-false _ _ _ (sym (c .before .before .before .before .before .before .before .before .before .before .at-text .ensures) ∙ c .before .before .before .before .before .before .before .before .before .if2 .left) (did-false _ _ _ (sym (c .before .before .before .before .before .before .before .before .at-plain-method .ensures) ∙ c .before .before .before .before .before .before .before .if3 .left) (c .before .before .before .before .no-method .ensures))))
 
 pub parse-method-spec : {M : Type 1} → statement M
 parse-method-spec =

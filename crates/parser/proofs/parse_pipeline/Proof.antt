@@ -1,48 +1,45 @@
-use borrow.Author.Needs.{needs}
+-- `parse_pipeline` follows `parsePipeline`. Assumes nothing.
+use mathlib.Core.Path.{_∙_}
+use Rattle.parser.specs.Parse.{parsePipeline}
+use Rattle.parser.proofs.WritingLaws.{did-then, asks-first, asks-then, tree-long, errors-long, node-room, node-level, asks-node, did-node, started-long, finished-long, finish-room}
 use Rattle.parser.proofs.parse_pipeline.Statement.{statement}
 use Rattle.parser.proofs.parse_pipeline.Tie as tie
-use Rattle.parser.proofs.parse_pipeline.Reads as reads
-use Rattle.parser.proofs.parse_pipeline.Lts as lts
-use Rattle.parser.proofs.finish_node.Reads as finish-node-reads
-use Rattle.parser.proofs.parse_calls.Reads as parse-calls-reads
-use Rattle.parser.proofs.parse_source.Reads as parse-source-reads
-use Rattle.parser.proofs.start_node.Reads as start-node-reads
 
--- src/lib.rt:135:9
 start-node-requires : tie.Need-start-node-requires
-start-node-requires c κs = ?
+unfolding parsePipeline
+start-node-requires c κs = node-room _ _ (c .before .before .before .before .before .pre)
 
--- src/lib.rt:136:54
 add-parse-source : tie.Need-add-parse-source
-add-parse-source c = ?
+unfolding parsePipeline
+add-parse-source c = record { fits = node-level _ _ (c .before .before .before .before .before .before .before .before .before .before .pre) }
 
--- src/lib.rt:136:9
 parse-source-requires : tie.Need-parse-source-requires
-parse-source-requires c κs = ?
+unfolding parsePipeline
+parse-source-requires c κs = (asks-first _ _ (asks-node _ _ (c .before .before .before .before .before .before .before .before .before .before .pre) (c .before .before .before .before .start-node .ensures)))
 
--- src/lib.rt:137:53
 add-parse-calls : tie.Need-add-parse-calls
-add-parse-calls c = ?
+unfolding parsePipeline
+add-parse-calls c = record { fits = node-level _ _ (c .before .before .before .before .before .before .before .before .before .before .before .before .before .before .before .before .before .pre) }
 
--- src/lib.rt:137:9
 parse-calls-requires : tie.Need-parse-calls-requires
-parse-calls-requires c κs = ?
+unfolding parsePipeline
+parse-calls-requires c κs = (asks-then _ _ (asks-node _ _ (c .before .before .before .before .before .before .before .before .before .before .before .before .before .before .before .before .before .pre) (c .before .before .before .before .before .before .before .before .before .before .before .start-node .ensures)) (c .before .before .before .before .before .before .parse-source .ensures))
 
--- src/lib.rt:138:5
 finish-node-requires : tie.Need-finish-node-requires
-finish-node-requires c κs = ?
+unfolding parsePipeline
+finish-node-requires c κs = finish-room (node-room _ _ (c .before .before .before .before .before .before .before .before .before .before .before .before .before .before .before .before .before .before .before .before .before .before .before .pre)) (c .before .before .before .before .before .before .before .before .before .before .before .before .before .before .before .before .before .start-node .ensures) (did-then (c .before .before .before .before .before .before .before .before .before .before .before .before .parse-source .ensures) (c .before .before .before .before .before .parse-calls .ensures))
 
--- src/lib.rt:124:1
 same-length : tie.Need-same-length
-same-length c = search needs
+unfolding parsePipeline
+same-length c = finished-long (c .before .before .finish-node .ensures) ∙ tree-long (did-then (c .before .before .before .before .before .before .before .before .before .before .before .before .before .before .before .parse-source .ensures) (c .before .before .before .before .before .before .before .before .parse-calls .ensures)) ∙ started-long (c .before .before .before .before .before .before .before .before .before .before .before .before .before .before .before .before .before .before .before .before .start-node .ensures)
 
--- src/lib.rt:124:1
 same-length-2 : tie.Need-same-length-2
-same-length-2 c = search needs
+unfolding parsePipeline
+same-length-2 c = errors-long (did-then (c .before .before .before .before .before .before .before .before .before .before .before .before .before .before .before .parse-source .ensures) (c .before .before .before .before .before .before .before .before .parse-calls .ensures))
 
--- src/lib.rt:124:1
 returns : tie.Need-returns
-returns c = ?
+unfolding parsePipeline
+returns c = (did-node (c .before .before .before .before .before .before .before .before .before .before .before .before .before .before .before .before .before .before .before .before .start-node .ensures) (did-then (c .before .before .before .before .before .before .before .before .before .before .before .before .before .before .before .parse-source .ensures) (c .before .before .before .before .before .before .before .before .parse-calls .ensures)) (c .before .before .finish-node .ensures))
 
 pub parse-pipeline-spec : {M : Type 1} → statement M
 parse-pipeline-spec =

@@ -1,77 +1,73 @@
-use borrow.Author.Needs.{needs}
+-- `parse_pipeline_or_count_compare` follows its definition. Assumes nothing.
+use mathlib.Core.Path.{sym, _∙_}
+use Rattle.parser.specs.Parse.{parsePipelineOrCountCompare}
+use Rattle.parser.proofs.WritingLaws.{did-then, asks-first, asks-then, tree-long, errors-long, node-room, node-level, asks-node, did-node, started-long, finished-long, finish-room, asks-true, asks-false, did-true, did-false}
 use Rattle.parser.proofs.parse_pipeline_or_count_compare.Statement.{statement}
 use Rattle.parser.proofs.parse_pipeline_or_count_compare.Tie as tie
-use Rattle.parser.proofs.parse_pipeline_or_count_compare.Reads as reads
-use Rattle.parser.proofs.parse_pipeline_or_count_compare.Lts as lts
-use Rattle.parser.proofs.bump.Reads as bump-reads
-use Rattle.parser.proofs.finish_node.Reads as finish-node-reads
-use Rattle.parser.proofs.has_count_compare_ahead.Reads as has-count-compare-ahead-reads
-use Rattle.parser.proofs.parse_pipeline.Reads as parse-pipeline-reads
-use Rattle.parser.proofs.start_node.Reads as start-node-reads
 
--- src/lib.rt:76:8
 has-count-compare-ahead-requires : tie.Need-has-count-compare-ahead-requires
-has-count-compare-ahead-requires c κs = search needs
+unfolding parsePipelineOrCountCompare
+has-count-compare-ahead-requires c κs = c .before .before .before .before .pre .fits .ready
 
--- src/lib.rt:77:13
 start-node-requires : tie.Need-start-node-requires
-start-node-requires c κs = ?
+unfolding parsePipelineOrCountCompare
+start-node-requires c κs = node-room _ _ (asks-true _ _ _ (sym (c .before .before .has-count-compare-ahead .ensures) ∙ c .before .if1 .taken) (c .before .before .before .before .before .before .before .pre))
 
--- src/lib.rt:78:60
 add-parse-pipeline : tie.Need-add-parse-pipeline
-add-parse-pipeline c = ?
+unfolding parsePipelineOrCountCompare
+add-parse-pipeline c = record { fits = node-level _ _ (asks-true _ _ _ (sym (c .before .before .before .before .before .before .before .has-count-compare-ahead .ensures) ∙ c .before .before .before .before .before .before .if1 .taken) (c .before .before .before .before .before .before .before .before .before .before .before .before .pre)) }
 
--- src/lib.rt:78:13
 parse-pipeline-requires : tie.Need-parse-pipeline-requires
-parse-pipeline-requires c κs = ?
+unfolding parsePipelineOrCountCompare
+parse-pipeline-requires c κs = (asks-first _ _ (asks-first _ _ (asks-node _ _ (asks-true _ _ _ (sym (c .before .before .before .before .before .before .before .has-count-compare-ahead .ensures) ∙ c .before .before .before .before .before .before .if1 .taken) (c .before .before .before .before .before .before .before .before .before .before .before .before .pre)) (c .before .before .before .before .start-node .ensures))))
 
--- src/lib.rt:79:42
 add-bump : tie.Need-add-bump
-add-bump c = ?
+unfolding parsePipelineOrCountCompare
+add-bump c = record { fits = node-level _ _ (asks-true _ _ _ (sym (c .before .before .before .before .before .before .before .before .before .before .before .before .before .has-count-compare-ahead .ensures) ∙ c .before .before .before .before .before .before .before .before .before .before .before .before .if1 .taken) (c .before .before .before .before .before .before .before .before .before .before .before .before .before .before .before .before .before .before .pre)) }
 
--- src/lib.rt:79:13
 bump-requires : tie.Need-bump-requires
-bump-requires c κs = ?
+unfolding parsePipelineOrCountCompare
+bump-requires c κs = (asks-then _ _ (asks-first _ _ (asks-node _ _ (asks-true _ _ _ (sym (c .before .before .before .before .before .before .before .before .before .before .before .before .before .has-count-compare-ahead .ensures) ∙ c .before .before .before .before .before .before .before .before .before .before .before .before .if1 .taken) (c .before .before .before .before .before .before .before .before .before .before .before .before .before .before .before .before .before .before .pre)) (c .before .before .before .before .before .before .before .before .before .before .start-node .ensures))) (c .before .before .before .before .before .parse-pipeline .ensures)) .fits
 
--- src/lib.rt:80:42
 add-bump-2 : tie.Need-add-bump-2
-add-bump-2 c = ?
+unfolding parsePipelineOrCountCompare
+add-bump-2 c = record { fits = node-level _ _ (asks-true _ _ _ (sym (c .before .before .before .before .before .before .before .before .before .before .before .before .before .before .before .before .before .has-count-compare-ahead .ensures) ∙ c .before .before .before .before .before .before .before .before .before .before .before .before .before .before .before .before .if1 .taken) (c .before .before .before .before .before .before .before .before .before .before .before .before .before .before .before .before .before .before .before .before .before .before .pre)) }
 
--- src/lib.rt:80:13
 bump-requires-2 : tie.Need-bump-requires-2
-bump-requires-2 c κs = ?
+unfolding parsePipelineOrCountCompare
+bump-requires-2 c κs = (asks-then _ _ (asks-node _ _ (asks-true _ _ _ (sym (c .before .before .before .before .before .before .before .before .before .before .before .before .before .before .before .before .before .has-count-compare-ahead .ensures) ∙ c .before .before .before .before .before .before .before .before .before .before .before .before .before .before .before .before .if1 .taken) (c .before .before .before .before .before .before .before .before .before .before .before .before .before .before .before .before .before .before .before .before .before .before .pre)) (c .before .before .before .before .before .before .before .before .before .before .before .before .before .before .start-node .ensures)) (did-then (c .before .before .before .before .before .before .before .before .before .parse-pipeline .ensures) (c .before .before .before .bump .ensures _))) .fits
 
--- src/lib.rt:81:9
 finish-node-requires : tie.Need-finish-node-requires
-finish-node-requires c κs = ?
+unfolding parsePipelineOrCountCompare
+finish-node-requires c κs = finish-room (node-room _ _ (asks-true _ _ _ (sym (c .before .before .before .before .before .before .before .before .before .before .before .before .before .before .before .before .before .before .before .before .before .has-count-compare-ahead .ensures) ∙ c .before .before .before .before .before .before .before .before .before .before .before .before .before .before .before .before .before .before .before .before .if1 .taken) (c .before .before .before .before .before .before .before .before .before .before .before .before .before .before .before .before .before .before .before .before .before .before .before .before .before .before .pre))) (c .before .before .before .before .before .before .before .before .before .before .before .before .before .before .before .before .before .before .start-node .ensures) (did-then (did-then (c .before .before .before .before .before .before .before .before .before .before .before .before .before .parse-pipeline .ensures) (c .before .before .before .before .before .before .before .bump .ensures _)) (c .before .before .before .bump2 .ensures _))
 
--- src/lib.rt:81:9
 same-length : tie.Need-same-length
-same-length c = ?
+unfolding parsePipelineOrCountCompare
+same-length c = finished-long (c .before .before .finish-node .ensures) ∙ tree-long (did-then (did-then (c .before .before .before .before .before .before .before .before .before .before .before .before .before .before .before .before .parse-pipeline .ensures) (c .before .before .before .before .before .before .before .before .before .before .bump .ensures _)) (c .before .before .before .before .before .before .bump2 .ensures _)) ∙ started-long (c .before .before .before .before .before .before .before .before .before .before .before .before .before .before .before .before .before .before .before .before .before .start-node .ensures)
 
--- src/lib.rt:81:9
 same-length-2 : tie.Need-same-length-2
-same-length-2 c = search needs
+unfolding parsePipelineOrCountCompare
+same-length-2 c = errors-long (did-then (did-then (c .before .before .before .before .before .before .before .before .before .before .before .before .before .before .before .before .parse-pipeline .ensures) (c .before .before .before .before .before .before .before .before .before .before .bump .ensures _)) (c .before .before .before .before .before .before .bump2 .ensures _))
 
--- src/lib.rt:81:9
 returns : tie.Need-returns
-returns c = ?
+unfolding parsePipelineOrCountCompare
+returns c = did-true _ _ _ (sym (c .before .before .before .before .before .before .before .before .before .before .before .before .before .before .before .before .before .before .before .before .before .before .before .before .has-count-compare-ahead .ensures) ∙ c .before .before .before .before .before .before .before .before .before .before .before .before .before .before .before .before .before .before .before .before .before .before .before .if1 .taken) (did-node (c .before .before .before .before .before .before .before .before .before .before .before .before .before .before .before .before .before .before .before .before .before .start-node .ensures) (did-then (did-then (c .before .before .before .before .before .before .before .before .before .before .before .before .before .before .before .before .parse-pipeline .ensures) (c .before .before .before .before .before .before .before .before .before .before .bump .ensures _)) (c .before .before .before .before .before .before .bump2 .ensures _)) (c .before .before .finish-node .ensures))
 
--- src/lib.rt:83:5
 parse-pipeline-requires-2 : tie.Need-parse-pipeline-requires-2
-parse-pipeline-requires-2 c κs = ?
+unfolding parsePipelineOrCountCompare
+parse-pipeline-requires-2 c κs = (asks-false _ _ _ (sym (c .before .before .before .has-count-compare-ahead .ensures) ∙ c .before .before .if1 .left) (c .before .before .before .before .before .before .before .before .pre))
 
--- src/lib.rt:65:1
 same-length-3 : tie.Need-same-length-3
-same-length-3 c = search needs
+unfolding parsePipelineOrCountCompare
+same-length-3 c = tree-long (c .before .before .before .before .parse-pipeline2 .ensures)
 
--- src/lib.rt:65:1
 same-length-4 : tie.Need-same-length-4
-same-length-4 c = search needs
+unfolding parsePipelineOrCountCompare
+same-length-4 c = errors-long (c .before .before .before .before .parse-pipeline2 .ensures)
 
--- src/lib.rt:65:1
 returns-2 : tie.Need-returns-2
-returns-2 c = ?
+unfolding parsePipelineOrCountCompare
+returns-2 c = did-false _ _ _ (sym (c .before .before .before .before .before .before .before .before .has-count-compare-ahead .ensures) ∙ c .before .before .before .before .before .before .before .if1 .left) (c .before .before .before .before .parse-pipeline2 .ensures)
 
 pub parse-pipeline-or-count-compare-spec : {M : Type 1} → statement M
 parse-pipeline-or-count-compare-spec =

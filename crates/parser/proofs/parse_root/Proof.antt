@@ -1,57 +1,53 @@
-use borrow.Author.Needs.{needs}
+-- `parse_root` follows `parseRoot`. Assumes nothing.
+use mathlib.Core.Path.{_∙_}
+use Rattle.parser.specs.Parse.{parseRoot}
+use Rattle.parser.proofs.WritingLaws.{did-then, asks-first, asks-then, tree-long, errors-long, node-room, node-level, asks-node, did-node, started-long, finished-long, finish-room}
 use Rattle.parser.proofs.parse_root.Statement.{statement}
 use Rattle.parser.proofs.parse_root.Tie as tie
-use Rattle.parser.proofs.parse_root.Reads as reads
-use Rattle.parser.proofs.parse_root.Lts as lts
-use Rattle.parser.proofs.eat_ws.Reads as eat-ws-reads
-use Rattle.parser.proofs.finish_node.Reads as finish-node-reads
-use Rattle.parser.proofs.left_over.Reads as left-over-reads
-use Rattle.parser.proofs.parse_pipeline_or_count_compare.Reads as parse-pipeline-or-count-compare-reads
-use Rattle.parser.proofs.start_node.Reads as start-node-reads
 
--- src/lib.rt:38:9
 start-node-requires : tie.Need-start-node-requires
-start-node-requires c κs = ?
+unfolding parseRoot
+start-node-requires c κs = node-room _ _ (c .before .before .before .before .before .pre)
 
--- src/lib.rt:39:73
 add-parse-pipeline-or-count-compare : tie.Need-add-parse-pipeline-or-count-compare
-add-parse-pipeline-or-count-compare c = ?
+unfolding parseRoot
+add-parse-pipeline-or-count-compare c = record { fits = node-level _ _ (c .before .before .before .before .before .before .before .before .before .before .pre) }
 
--- src/lib.rt:39:9
 parse-pipeline-or-count-compare-requires : tie.Need-parse-pipeline-or-count-compare-requires
-parse-pipeline-or-count-compare-requires c κs = ?
+unfolding parseRoot
+parse-pipeline-or-count-compare-requires c κs = (asks-first _ _ (asks-first _ _ (asks-node _ _ (c .before .before .before .before .before .before .before .before .before .before .pre) (c .before .before .before .before .start-node .ensures))))
 
--- src/lib.rt:40:40
 add-eat-ws : tie.Need-add-eat-ws
-add-eat-ws c = ?
+unfolding parseRoot
+add-eat-ws c = record { fits = node-level _ _ (c .before .before .before .before .before .before .before .before .before .before .before .before .before .before .before .before .pre) }
 
--- src/lib.rt:40:9
 eat-ws-requires : tie.Need-eat-ws-requires
-eat-ws-requires c κs = ?
+unfolding parseRoot
+eat-ws-requires c κs = (asks-then _ _ (asks-first _ _ (asks-node _ _ (c .before .before .before .before .before .before .before .before .before .before .before .before .before .before .before .before .pre) (c .before .before .before .before .before .before .before .before .before .before .start-node .ensures))) (c .before .before .before .before .before .parse-pipeline-or-count-compare .ensures)) .fits
 
--- src/lib.rt:41:51
 add-left-over : tie.Need-add-left-over
-add-left-over c = ?
+unfolding parseRoot
+add-left-over c = record { fits = node-level _ _ (c .before .before .before .before .before .before .before .before .before .before .before .before .before .before .before .before .before .before .before .before .before .pre) }
 
--- src/lib.rt:41:9
 left-over-requires : tie.Need-left-over-requires
-left-over-requires c κs = ?
+unfolding parseRoot
+left-over-requires c κs = (asks-then _ _ (asks-node _ _ (c .before .before .before .before .before .before .before .before .before .before .before .before .before .before .before .before .before .before .before .before .before .pre) (c .before .before .before .before .before .before .before .before .before .before .before .before .before .before .before .start-node .ensures)) (did-then (c .before .before .before .before .before .before .before .before .before .before .parse-pipeline-or-count-compare .ensures) (c .before .before .before .before .eat-ws .ensures _)))
 
--- src/lib.rt:42:5
 finish-node-requires : tie.Need-finish-node-requires
-finish-node-requires c κs = ?
+unfolding parseRoot
+finish-node-requires c κs = finish-room (node-room _ _ (c .before .before .before .before .before .before .before .before .before .before .before .before .before .before .before .before .before .before .before .before .before .before .before .before .before .before .before .pre)) (c .before .before .before .before .before .before .before .before .before .before .before .before .before .before .before .before .before .before .before .before .before .start-node .ensures) (did-then (did-then (c .before .before .before .before .before .before .before .before .before .before .before .before .before .before .before .before .parse-pipeline-or-count-compare .ensures) (c .before .before .before .before .before .before .before .before .before .before .eat-ws .ensures _)) (c .before .before .before .before .before .left-over .ensures))
 
--- src/lib.rt:27:1
 same-length : tie.Need-same-length
-same-length c = ?
+unfolding parseRoot
+same-length c = finished-long (c .before .before .finish-node .ensures) ∙ tree-long (did-then (did-then (c .before .before .before .before .before .before .before .before .before .before .before .before .before .before .before .before .before .before .before .parse-pipeline-or-count-compare .ensures) (c .before .before .before .before .before .before .before .before .before .before .before .before .before .eat-ws .ensures _)) (c .before .before .before .before .before .before .before .before .left-over .ensures)) ∙ started-long (c .before .before .before .before .before .before .before .before .before .before .before .before .before .before .before .before .before .before .before .before .before .before .before .before .start-node .ensures)
 
--- src/lib.rt:27:1
 same-length-2 : tie.Need-same-length-2
-same-length-2 c = search needs
+unfolding parseRoot
+same-length-2 c = errors-long (did-then (did-then (c .before .before .before .before .before .before .before .before .before .before .before .before .before .before .before .before .before .before .before .parse-pipeline-or-count-compare .ensures) (c .before .before .before .before .before .before .before .before .before .before .before .before .before .eat-ws .ensures _)) (c .before .before .before .before .before .before .before .before .left-over .ensures))
 
--- src/lib.rt:27:1
 returns : tie.Need-returns
-returns c = ?
+unfolding parseRoot
+returns c = (did-node (c .before .before .before .before .before .before .before .before .before .before .before .before .before .before .before .before .before .before .before .before .before .before .before .before .start-node .ensures) (did-then (did-then (c .before .before .before .before .before .before .before .before .before .before .before .before .before .before .before .before .before .before .before .parse-pipeline-or-count-compare .ensures) (c .before .before .before .before .before .before .before .before .before .before .before .before .before .eat-ws .ensures _)) (c .before .before .before .before .before .before .before .before .left-over .ensures)) (c .before .before .finish-node .ensures))
 
 pub parse-root-spec : {M : Type 1} → statement M
 parse-root-spec =

@@ -1,72 +1,70 @@
+-- `parse_source` follows `parseSource`, test by test. Assumes nothing.
+use mathlib.Core.Path.{sym, _∙_}
+use mathlib.Core.List.{[]}
+use Rattle.parser.specs.Parse.{parseSource}
+use Rattle.parser.proofs.WritingLaws.{tree-long, errors-long, asks-true, asks-false, did-true, did-false}
+use Rattle.parser.proofs.LookLaws.{fail-ahead-room}
 use borrow.Author.Needs.{needs}
 use Rattle.parser.proofs.parse_source.Statement.{statement}
 use Rattle.parser.proofs.parse_source.Tie as tie
-use Rattle.parser.proofs.parse_source.Reads as reads
-use Rattle.parser.proofs.parse_source.Lts as lts
-use Rattle.parser.proofs.at_ident.Reads as at-ident-reads
-use Rattle.parser.proofs.call_expr.Reads as call-expr-reads
-use Rattle.parser.proofs.fail_ahead.Reads as fail-ahead-reads
-use Rattle.parser.proofs.ident_expr.Reads as ident-expr-reads
 
--- src/lib.rt:153:31
 slice-aggregate-at-ident : tie.Need-slice-aggregate-at-ident
 slice-aggregate-at-ident c = search needs
 
--- src/lib.rt:153:8
 at-ident-requires : tie.Need-at-ident-requires
-at-ident-requires c κs = search needs
+unfolding parseSource
+at-ident-requires c κs = c .before .before .before .before .before .pre .fits .ready
 
--- src/lib.rt:154:9
 ident-expr-requires : tie.Need-ident-expr-requires
-ident-expr-requires c κs = ?
+unfolding parseSource
+ident-expr-requires c κs = (asks-true _ _ _ (sym (c .before .before .before .at-ident .ensures) ∙ c .before .before .if1 .taken) (c .before .before .before .before .before .before .before .before .before .pre))
 
--- src/lib.rt:154:9
 same-length : tie.Need-same-length
-same-length c = search needs
+unfolding parseSource
+same-length c = tree-long (c .before .before .before .before .ident-expr .ensures)
 
--- src/lib.rt:154:9
 same-length-2 : tie.Need-same-length-2
-same-length-2 c = search needs
+unfolding parseSource
+same-length-2 c = errors-long (c .before .before .before .before .ident-expr .ensures)
 
--- src/lib.rt:154:9
 returns : tie.Need-returns
-returns c = ?
+unfolding parseSource
+returns c = (did-true _ _ _ (sym (c .before .before .before .before .before .before .before .before .at-ident .ensures) ∙ c .before .before .before .before .before .before .before .if1 .taken) (c .before .before .before .before .ident-expr .ensures))
 
--- src/lib.rt:156:31
 slice-aggregate-at-ident-2 : tie.Need-slice-aggregate-at-ident-2
 slice-aggregate-at-ident-2 c = search needs
 
--- src/lib.rt:156:8
 at-ident-requires-2 : tie.Need-at-ident-requires-2
-at-ident-requires-2 c κs = search needs
+unfolding parseSource
+at-ident-requires-2 c κs = c .before .before .before .before .before .before .before .before .pre .fits .ready
 
--- src/lib.rt:157:9
 call-expr-requires : tie.Need-call-expr-requires
-call-expr-requires c κs = ?
+unfolding parseSource
+call-expr-requires c κs = (asks-true _ _ _ (sym (c .before .before .before .at-ident2 .ensures) ∙ c .before .before .if2 .taken) (asks-false _ _ _ (sym (c .before .before .before .before .before .before .at-ident .ensures) ∙ c .before .before .before .before .before .if1 .left) (c .before .before .before .before .before .before .before .before .before .before .before .before .pre)))
 
--- src/lib.rt:157:9
 same-length-3 : tie.Need-same-length-3
-same-length-3 c = search needs
+unfolding parseSource
+same-length-3 c = tree-long (c .before .before .before .before .call-expr .ensures)
 
--- src/lib.rt:157:9
 same-length-4 : tie.Need-same-length-4
-same-length-4 c = search needs
+unfolding parseSource
+same-length-4 c = errors-long (c .before .before .before .before .call-expr .ensures)
 
--- src/lib.rt:157:9
 returns-2 : tie.Need-returns-2
-returns-2 c = ?
+unfolding parseSource
+returns-2 c = (did-false _ _ _ (sym (c .before .before .before .before .before .before .before .before .before .before .before .at-ident .ensures) ∙ c .before .before .before .before .before .before .before .before .before .before .if1 .left) (did-true _ _ _ (sym (c .before .before .before .before .before .before .before .before .at-ident2 .ensures) ∙ c .before .before .before .before .before .before .before .if2 .taken) (c .before .before .before .before .call-expr .ensures)))
 
--- src/lib.rt:159:5
 fail-ahead-requires : tie.Need-fail-ahead-requires
-fail-ahead-requires c κs = ?
+unfolding parseSource
+fail-ahead-requires c κs = ((asks-false _ _ _ (sym (c .before .before .at-ident2 .ensures) ∙ c .before .if2 .left) (asks-false _ _ _ (sym (c .before .before .before .before .before .at-ident .ensures) ∙ c .before .before .before .before .if1 .left) (c .before .before .before .before .before .before .before .before .before .before .before .pre))) .fits .ready, fail-ahead-room _ (asks-false _ _ _ (sym (c .before .before .at-ident2 .ensures) ∙ c .before .if2 .left) (asks-false _ _ _ (sym (c .before .before .before .before .before .at-ident .ensures) ∙ c .before .before .before .before .if1 .left) (c .before .before .before .before .before .before .before .before .before .before .before .pre))))
 
--- src/lib.rt:142:1
 same-length-5 : tie.Need-same-length-5
-same-length-5 c = search needs
+unfolding parseSource
+same-length-5 c = errors-long (c .before .before .fail-ahead .ensures [] 0)
 
--- src/lib.rt:142:1
 returns-3 : tie.Need-returns-3
-returns-3 c = ?
+unfolding parseSource
+returns-3 c = (did-false _ _ _ (sym (c .before .before .before .before .before .before .before .before .at-ident .ensures) ∙ c .before .before .before .before .before .before .before .if1 .left) (did-false _ _ _ (sym (c .before .before .before .before .before .at-ident2 .ensures) ∙ c .before .before .before .before .if2 .left) (c .before .before .fail-ahead .ensures _ _)))
 
 pub parse-source-spec : {M : Type 1} → statement M
 parse-source-spec =

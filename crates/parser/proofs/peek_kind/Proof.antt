@@ -1,35 +1,34 @@
+-- `peek_kind` looks at the token past the first that is no blank. Assumes nothing.
+use mathlib.Core.Path.{_≡_, sym, ap, _∙_}
+use mathlib.Core.List.{List}
+use Prim.Native.Nat.{ℕ}
+use Rattle.lexer.specs.Lex.{Token}
+use Rattle.parser.specs.Look.{peekKind, currentKind, tailOf}
+use Rattle.parser.proofs.TokenLaws.{at-end, table-length}
+use native.Mathlib.Omega.{arith}
 use borrow.Author.Needs.{needs}
 use Rattle.parser.proofs.peek_kind.Statement.{statement}
 use Rattle.parser.proofs.peek_kind.Tie as tie
-use Rattle.parser.proofs.peek_kind.Reads as reads
-use Rattle.parser.proofs.peek_kind.Lts as lts
-use Rattle.parser.proofs.current_kind.Reads as current-kind-reads
-use Rattle.parser.proofs.past_token.Reads as past-token-reads
-use Rattle.parser.proofs.skip_ws.Reads as skip-ws-reads
 
--- src/lib.rt:823:9
 skip-ws-requires : tie.Need-skip-ws-requires
 skip-ws-requires c κs = search needs
 
--- src/lib.rt:824:24
 mul-if1 : tie.Need-mul-if1
-mul-if1 c = ?
+mul-if1 c = omega (arith, c .before .skip-ws .ensures .ready .within, table-length (c .before .skip-ws .ensures .ready))
 
--- src/lib.rt:825:9
 returns : tie.Need-returns
-returns c = ?
+unfolding peekKind
+returns c = rw (sym (c .before .before .skip-ws .ensures .here) ∙ at-end (c .before .before .skip-ws .ensures .ready) (c .if1 .taken))
 
--- src/lib.rt:827:9
 past-token-requires : tie.Need-past-token-requires
-past-token-requires c κs = search needs
+past-token-requires c κs = (c .before .before .skip-ws .ensures .ready, c .if1 .left)
 
--- src/lib.rt:828:5
 current-kind-requires : tie.Need-current-kind-requires
-current-kind-requires c κs = search needs
+current-kind-requires c κs = c .past-token .ensures .ready
 
--- src/lib.rt:819:1
 returns-2 : tie.Need-returns-2
-returns-2 c = ?
+unfolding peekKind
+returns-2 c = c .current-kind .ensures ∙ ap (λ (u : List Token). currentKind u) (c .before .past-token .ensures .here ∙ ap tailOf (c .before .before .before .before .skip-ws .ensures .here))
 
 pub peek-kind-spec : {M : Type 1} → statement M
 peek-kind-spec =

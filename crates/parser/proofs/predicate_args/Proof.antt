@@ -1,56 +1,53 @@
-use borrow.Author.Needs.{needs}
+-- `predicate_args` follows `predicateArgs`. Assumes nothing.
+use mathlib.Core.Path.{_∙_}
+use Rattle.parser.specs.Parse.{predicateArgs}
+use Rattle.parser.proofs.WritingLaws.{did-then, asks-first, asks-then, tree-long, errors-long, node-room, node-level, asks-node, did-node, started-long, finished-long, finish-room}
 use Rattle.parser.proofs.predicate_args.Statement.{statement}
 use Rattle.parser.proofs.predicate_args.Tie as tie
-use Rattle.parser.proofs.predicate_args.Reads as reads
-use Rattle.parser.proofs.predicate_args.Lts as lts
-use Rattle.parser.proofs.expect.Reads as expect-reads
-use Rattle.parser.proofs.finish_node.Reads as finish-node-reads
-use Rattle.parser.proofs.parse_or_expr.Reads as parse-or-expr-reads
-use Rattle.parser.proofs.start_node.Reads as start-node-reads
 
--- src/lib.rt:266:9
 start-node-requires : tie.Need-start-node-requires
-start-node-requires c κs = ?
+unfolding predicateArgs
+start-node-requires c κs = node-room _ _ (c .before .before .before .before .before .pre)
 
--- src/lib.rt:267:48
 add-expect : tie.Need-add-expect
-add-expect c = ?
+unfolding predicateArgs
+add-expect c = record { fits = node-level _ _ (c .before .before .before .before .before .before .before .before .before .before .pre) }
 
--- src/lib.rt:267:9
 expect-requires : tie.Need-expect-requires
-expect-requires c κs = ?
+unfolding predicateArgs
+expect-requires c κs = (asks-first _ _ (asks-first _ _ (asks-node _ _ (c .before .before .before .before .before .before .before .before .before .before .pre) (c .before .before .before .before .start-node .ensures))))
 
--- src/lib.rt:268:55
 add-parse-or-expr : tie.Need-add-parse-or-expr
-add-parse-or-expr c = ?
+unfolding predicateArgs
+add-parse-or-expr c = record { fits = node-level _ _ (c .before .before .before .before .before .before .before .before .before .before .before .before .before .before .before .before .before .pre) }
 
--- src/lib.rt:268:9
 parse-or-expr-requires : tie.Need-parse-or-expr-requires
-parse-or-expr-requires c κs = ?
+unfolding predicateArgs
+parse-or-expr-requires c κs = (asks-then _ _ (asks-first _ _ (asks-node _ _ (c .before .before .before .before .before .before .before .before .before .before .before .before .before .before .before .before .before .pre) (c .before .before .before .before .before .before .before .before .before .before .before .start-node .ensures))) (c .before .before .before .before .before .before .expect .ensures))
 
--- src/lib.rt:269:48
 add-expect-2 : tie.Need-add-expect-2
-add-expect-2 c = ?
+unfolding predicateArgs
+add-expect-2 c = record { fits = node-level _ _ (c .before .before .before .before .before .before .before .before .before .before .before .before .before .before .before .before .before .before .before .before .before .before .before .before .pre) }
 
--- src/lib.rt:269:9
 expect-requires-2 : tie.Need-expect-requires-2
-expect-requires-2 c κs = ?
+unfolding predicateArgs
+expect-requires-2 c κs = (asks-then _ _ (asks-node _ _ (c .before .before .before .before .before .before .before .before .before .before .before .before .before .before .before .before .before .before .before .before .before .before .before .before .pre) (c .before .before .before .before .before .before .before .before .before .before .before .before .before .before .before .before .before .before .start-node .ensures)) (did-then (c .before .before .before .before .before .before .before .before .before .before .before .before .before .expect .ensures) (c .before .before .before .before .before .before .parse-or-expr .ensures)))
 
--- src/lib.rt:270:5
 finish-node-requires : tie.Need-finish-node-requires
-finish-node-requires c κs = ?
+unfolding predicateArgs
+finish-node-requires c κs = finish-room (node-room _ _ (c .before .before .before .before .before .before .before .before .before .before .before .before .before .before .before .before .before .before .before .before .before .before .before .before .before .before .before .before .before .before .pre)) (c .before .before .before .before .before .before .before .before .before .before .before .before .before .before .before .before .before .before .before .before .before .before .before .before .start-node .ensures) (did-then (did-then (c .before .before .before .before .before .before .before .before .before .before .before .before .before .before .before .before .before .before .before .expect .ensures) (c .before .before .before .before .before .before .before .before .before .before .before .before .parse-or-expr .ensures)) (c .before .before .before .before .before .expect2 .ensures))
 
--- src/lib.rt:255:1
 same-length : tie.Need-same-length
-same-length c = ?
+unfolding predicateArgs
+same-length c = finished-long (c .before .before .finish-node .ensures) ∙ tree-long (did-then (did-then (c .before .before .before .before .before .before .before .before .before .before .before .before .before .before .before .before .before .before .before .before .before .before .expect .ensures) (c .before .before .before .before .before .before .before .before .before .before .before .before .before .before .before .parse-or-expr .ensures)) (c .before .before .before .before .before .before .before .before .expect2 .ensures)) ∙ started-long (c .before .before .before .before .before .before .before .before .before .before .before .before .before .before .before .before .before .before .before .before .before .before .before .before .before .before .before .start-node .ensures)
 
--- src/lib.rt:255:1
 same-length-2 : tie.Need-same-length-2
-same-length-2 c = search needs
+unfolding predicateArgs
+same-length-2 c = errors-long (did-then (did-then (c .before .before .before .before .before .before .before .before .before .before .before .before .before .before .before .before .before .before .before .before .before .before .expect .ensures) (c .before .before .before .before .before .before .before .before .before .before .before .before .before .before .before .parse-or-expr .ensures)) (c .before .before .before .before .before .before .before .before .expect2 .ensures))
 
--- src/lib.rt:255:1
 returns : tie.Need-returns
-returns c = ?
+unfolding predicateArgs
+returns c = (did-node (c .before .before .before .before .before .before .before .before .before .before .before .before .before .before .before .before .before .before .before .before .before .before .before .before .before .before .before .start-node .ensures) (did-then (did-then (c .before .before .before .before .before .before .before .before .before .before .before .before .before .before .before .before .before .before .before .before .before .before .expect .ensures) (c .before .before .before .before .before .before .before .before .before .before .before .before .before .before .before .parse-or-expr .ensures)) (c .before .before .before .before .before .before .before .before .expect2 .ensures)) (c .before .before .finish-node .ensures))
 
 pub predicate-args-spec : {M : Type 1} → statement M
 predicate-args-spec =

@@ -1,116 +1,110 @@
+-- `simple_atom` follows `simpleAtom`, test by test. Assumes nothing.
+use mathlib.Core.Path.{sym, _∙_}
+use mathlib.Core.List.{[]}
+use Rattle.parser.specs.Parse.{simpleAtom}
+use Rattle.parser.proofs.WritingLaws.{tree-long, errors-long, asks-true, asks-false, did-true, did-false}
+use Rattle.parser.proofs.LookLaws.{fail-ahead-room}
 use borrow.Author.Needs.{needs}
 use Rattle.parser.proofs.simple_atom.Statement.{statement}
 use Rattle.parser.proofs.simple_atom.Tie as tie
-use Rattle.parser.proofs.simple_atom.Reads as reads
-use Rattle.parser.proofs.simple_atom.Lts as lts
-use Rattle.parser.proofs.at_field.Reads as at-field-reads
-use Rattle.parser.proofs.at_ident.Reads as at-ident-reads
-use Rattle.parser.proofs.at_message_dot.Reads as at-message-dot-reads
-use Rattle.parser.proofs.call_expr.Reads as call-expr-reads
-use Rattle.parser.proofs.compare_expr.Reads as compare-expr-reads
-use Rattle.parser.proofs.contains_expr.Reads as contains-expr-reads
-use Rattle.parser.proofs.fail_ahead.Reads as fail-ahead-reads
-use Rattle.parser.proofs.ident_expr.Reads as ident-expr-reads
 
--- src/lib.rt:467:31
 slice-aggregate-at-ident : tie.Need-slice-aggregate-at-ident
 slice-aggregate-at-ident c = search needs
 
--- src/lib.rt:467:8
 at-ident-requires : tie.Need-at-ident-requires
-at-ident-requires c κs = search needs
+unfolding simpleAtom
+at-ident-requires c κs = c .before .before .before .before .before .pre .fits .ready
 
--- src/lib.rt:468:9
 call-expr-requires : tie.Need-call-expr-requires
-call-expr-requires c κs = ?
+unfolding simpleAtom
+call-expr-requires c κs = (asks-true _ _ _ (sym (c .before .before .before .at-ident .ensures) ∙ c .before .before .if1 .taken) (c .before .before .before .before .before .before .before .before .before .pre))
 
--- src/lib.rt:468:9
 same-length : tie.Need-same-length
-same-length c = search needs
+unfolding simpleAtom
+same-length c = tree-long (c .before .before .before .before .call-expr .ensures)
 
--- src/lib.rt:468:9
 same-length-2 : tie.Need-same-length-2
-same-length-2 c = search needs
+unfolding simpleAtom
+same-length-2 c = errors-long (c .before .before .before .before .call-expr .ensures)
 
--- src/lib.rt:468:9
 returns : tie.Need-returns
-returns c = ?
+unfolding simpleAtom
+returns c = (did-true _ _ _ (sym (c .before .before .before .before .before .before .before .before .at-ident .ensures) ∙ c .before .before .before .before .before .before .before .if1 .taken) (c .before .before .before .before .call-expr .ensures))
 
--- src/lib.rt:470:31
 slice-aggregate-at-ident-2 : tie.Need-slice-aggregate-at-ident-2
 slice-aggregate-at-ident-2 c = search needs
 
--- src/lib.rt:470:8
 at-ident-requires-2 : tie.Need-at-ident-requires-2
-at-ident-requires-2 c κs = search needs
+unfolding simpleAtom
+at-ident-requires-2 c κs = c .before .before .before .before .before .before .before .before .pre .fits .ready
 
--- src/lib.rt:471:9
 ident-expr-requires : tie.Need-ident-expr-requires
-ident-expr-requires c κs = ?
+unfolding simpleAtom
+ident-expr-requires c κs = (asks-true _ _ _ (sym (c .before .before .before .at-ident2 .ensures) ∙ c .before .before .if2 .taken) (asks-false _ _ _ (sym (c .before .before .before .before .before .before .at-ident .ensures) ∙ c .before .before .before .before .before .if1 .left) (c .before .before .before .before .before .before .before .before .before .before .before .before .pre)))
 
--- src/lib.rt:471:9
 same-length-3 : tie.Need-same-length-3
-same-length-3 c = search needs
+unfolding simpleAtom
+same-length-3 c = tree-long (c .before .before .before .before .ident-expr .ensures)
 
--- src/lib.rt:471:9
 same-length-4 : tie.Need-same-length-4
-same-length-4 c = search needs
+unfolding simpleAtom
+same-length-4 c = errors-long (c .before .before .before .before .ident-expr .ensures)
 
--- src/lib.rt:471:9
 returns-2 : tie.Need-returns-2
-returns-2 c = ?
+unfolding simpleAtom
+returns-2 c = (did-false _ _ _ (sym (c .before .before .before .before .before .before .before .before .before .before .before .at-ident .ensures) ∙ c .before .before .before .before .before .before .before .before .before .before .if1 .left) (did-true _ _ _ (sym (c .before .before .before .before .before .before .before .before .at-ident2 .ensures) ∙ c .before .before .before .before .before .before .before .if2 .taken) (c .before .before .before .before .ident-expr .ensures)))
 
--- src/lib.rt:473:8
 at-message-dot-requires : tie.Need-at-message-dot-requires
-at-message-dot-requires c κs = search needs
+unfolding simpleAtom
+at-message-dot-requires c κs = c .before .before .before .before .before .before .before .before .before .before .pre .fits .ready
 
--- src/lib.rt:474:9
 contains-expr-requires : tie.Need-contains-expr-requires
-contains-expr-requires c κs = ?
+unfolding simpleAtom
+contains-expr-requires c κs = (asks-true _ _ _ (sym (c .before .before .before .at-message-dot .ensures) ∙ c .before .before .if3 .taken) (asks-false _ _ _ (sym (c .before .before .before .before .before .at-ident2 .ensures) ∙ c .before .before .before .before .if2 .left) (asks-false _ _ _ (sym (c .before .before .before .before .before .before .before .before .at-ident .ensures) ∙ c .before .before .before .before .before .before .before .if1 .left) (c .before .before .before .before .before .before .before .before .before .before .before .before .before .before .pre))))
 
--- src/lib.rt:474:9
 same-length-5 : tie.Need-same-length-5
-same-length-5 c = search needs
+unfolding simpleAtom
+same-length-5 c = tree-long (c .before .before .before .before .contains-expr .ensures)
 
--- src/lib.rt:474:9
 same-length-6 : tie.Need-same-length-6
-same-length-6 c = search needs
+unfolding simpleAtom
+same-length-6 c = errors-long (c .before .before .before .before .contains-expr .ensures)
 
--- src/lib.rt:474:9
 returns-3 : tie.Need-returns-3
-returns-3 c = ?
+unfolding simpleAtom
+returns-3 c = (did-false _ _ _ (sym (c .before .before .before .before .before .before .before .before .before .before .before .before .before .at-ident .ensures) ∙ c .before .before .before .before .before .before .before .before .before .before .before .before .if1 .left) (did-false _ _ _ (sym (c .before .before .before .before .before .before .before .before .before .before .at-ident2 .ensures) ∙ c .before .before .before .before .before .before .before .before .before .if2 .left) (did-true _ _ _ (sym (c .before .before .before .before .before .before .before .before .at-message-dot .ensures) ∙ c .before .before .before .before .before .before .before .if3 .taken) (c .before .before .before .before .contains-expr .ensures))))
 
--- src/lib.rt:476:8
 at-field-requires : tie.Need-at-field-requires
-at-field-requires c κs = search needs
+unfolding simpleAtom
+at-field-requires c κs = c .before .before .before .before .before .before .before .before .before .before .before .before .pre .fits .ready
 
--- src/lib.rt:477:9
 compare-expr-requires : tie.Need-compare-expr-requires
-compare-expr-requires c κs = ?
+unfolding simpleAtom
+compare-expr-requires c κs = (asks-true _ _ _ (sym (c .before .before .before .at-field .ensures) ∙ c .before .before .if4 .taken) (asks-false _ _ _ (sym (c .before .before .before .before .before .at-message-dot .ensures) ∙ c .before .before .before .before .if3 .left) (asks-false _ _ _ (sym (c .before .before .before .before .before .before .before .at-ident2 .ensures) ∙ c .before .before .before .before .before .before .if2 .left) (asks-false _ _ _ (sym (c .before .before .before .before .before .before .before .before .before .before .at-ident .ensures) ∙ c .before .before .before .before .before .before .before .before .before .if1 .left) (c .before .before .before .before .before .before .before .before .before .before .before .before .before .before .before .before .pre)))))
 
--- src/lib.rt:477:9
 same-length-7 : tie.Need-same-length-7
-same-length-7 c = search needs
+unfolding simpleAtom
+same-length-7 c = tree-long (c .before .before .before .before .compare-expr .ensures)
 
--- src/lib.rt:477:9
 same-length-8 : tie.Need-same-length-8
-same-length-8 c = search needs
+unfolding simpleAtom
+same-length-8 c = errors-long (c .before .before .before .before .compare-expr .ensures)
 
--- src/lib.rt:477:9
 returns-4 : tie.Need-returns-4
-returns-4 c = ?
+unfolding simpleAtom
+returns-4 c = (did-false _ _ _ (sym (c .before .before .before .before .before .before .before .before .before .before .before .before .before .before .before .at-ident .ensures) ∙ c .before .before .before .before .before .before .before .before .before .before .before .before .before .before .if1 .left) (did-false _ _ _ (sym (c .before .before .before .before .before .before .before .before .before .before .before .before .at-ident2 .ensures) ∙ c .before .before .before .before .before .before .before .before .before .before .before .if2 .left) (did-false _ _ _ (sym (c .before .before .before .before .before .before .before .before .before .before .at-message-dot .ensures) ∙ c .before .before .before .before .before .before .before .before .before .if3 .left) (did-true _ _ _ (sym (c .before .before .before .before .before .before .before .before .at-field .ensures) ∙ c .before .before .before .before .before .before .before .if4 .taken) (c .before .before .before .before .compare-expr .ensures)))))
 
--- src/lib.rt:479:5
 fail-ahead-requires : tie.Need-fail-ahead-requires
-fail-ahead-requires c κs = ?
+unfolding simpleAtom
+fail-ahead-requires c κs = ((asks-false _ _ _ (sym (c .before .before .at-field .ensures) ∙ c .before .if4 .left) (asks-false _ _ _ (sym (c .before .before .before .before .at-message-dot .ensures) ∙ c .before .before .before .if3 .left) (asks-false _ _ _ (sym (c .before .before .before .before .before .before .at-ident2 .ensures) ∙ c .before .before .before .before .before .if2 .left) (asks-false _ _ _ (sym (c .before .before .before .before .before .before .before .before .before .at-ident .ensures) ∙ c .before .before .before .before .before .before .before .before .if1 .left) (c .before .before .before .before .before .before .before .before .before .before .before .before .before .before .before .pre))))) .fits .ready, fail-ahead-room _ (asks-false _ _ _ (sym (c .before .before .at-field .ensures) ∙ c .before .if4 .left) (asks-false _ _ _ (sym (c .before .before .before .before .at-message-dot .ensures) ∙ c .before .before .before .if3 .left) (asks-false _ _ _ (sym (c .before .before .before .before .before .before .at-ident2 .ensures) ∙ c .before .before .before .before .before .if2 .left) (asks-false _ _ _ (sym (c .before .before .before .before .before .before .before .before .before .at-ident .ensures) ∙ c .before .before .before .before .before .before .before .before .if1 .left) (c .before .before .before .before .before .before .before .before .before .before .before .before .before .before .before .pre))))))
 
--- src/lib.rt:456:1
 same-length-9 : tie.Need-same-length-9
-same-length-9 c = search needs
+unfolding simpleAtom
+same-length-9 c = errors-long (c .before .before .fail-ahead .ensures [] 0)
 
--- src/lib.rt:456:1
 returns-5 : tie.Need-returns-5
-returns-5 c = ?
+unfolding simpleAtom
+returns-5 c = (did-false _ _ _ (sym (c .before .before .before .before .before .before .before .before .before .before .before .before .at-ident .ensures) ∙ c .before .before .before .before .before .before .before .before .before .before .before .if1 .left) (did-false _ _ _ (sym (c .before .before .before .before .before .before .before .before .before .at-ident2 .ensures) ∙ c .before .before .before .before .before .before .before .before .if2 .left) (did-false _ _ _ (sym (c .before .before .before .before .before .before .before .at-message-dot .ensures) ∙ c .before .before .before .before .before .before .if3 .left) (did-false _ _ _ (sym (c .before .before .before .before .before .at-field .ensures) ∙ c .before .before .before .before .if4 .left) (c .before .before .fail-ahead .ensures _ _)))))
 
 pub simple-atom-spec : {M : Type 1} → statement M
 simple-atom-spec =
