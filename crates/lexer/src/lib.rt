@@ -1,4 +1,11 @@
 // lexer.rs: the tokens of a rule, as rows of a lent table, and the refusals that need only the rule and the tables' lengths.
+pub mod limits;
+
+use limits::ERROR_ROW;
+use limits::MAX_OPENERS;
+use limits::MAX_RULE;
+use limits::TOKEN_ROW;
+use limits::TREE_ROW;
 use syntax::kind;
 use syntax::refusal::Refusal;
 use syntax::text;
@@ -14,18 +21,6 @@ ghost use Rattle.syntax.specs.Table.{withRows};
 ghost use Rattle.lexer.specs.Bytes.{isBlank, isAsciiWhitespace, isAsciiDigit, isIdentStart, isIdentContinue, isTrailing, shapeOf, goesOn};
 ghost use Rattle.lexer.specs.Lex.{run, quoted, equals, more, wordKind, kindOf, lex, tokenRows, isOpener, openersIn, TokenAt};
 ghost use Rattle.lexer.specs.Read.{MAX-RULE, TOKEN-ROW, tablesShort, checkRule, checkRoom, Reads};
-
-// The most bytes that a rule may have, and the most tokens `(` and `not`.
-const MAX_RULE: usize = 500;
-
-const MAX_OPENERS: usize = 64;
-
-// The numbers of a row of each table.
-const TOKEN_ROW: usize = 3;
-
-const TREE_ROW: usize = 4;
-
-const ERROR_ROW: usize = 4;
 
 const FORM_FEED: u8 = 0x0C;
 
@@ -84,19 +79,18 @@ pub fn lex(rule: &[u8], tokens: &mut [u32]) -> Lexed
     Lexed::Tokens(write_tokens(rule, tokens))
 }
 
-// Whether one of the three tables, of so many numbers each, has too few rows for a rule of n bytes.
-fn tables_short(n: usize, tokens: usize, tree: usize, errors: usize) -> bool
-    requires { ⌜ n ≤ MAX-RULE ⌝ }
+// Whether one of the three tables, of so many numbers each, has too few rows for a rule of n bytes. A table of trees or errors
+// wants 8 rows for each byte and 8 more: more than n times 8 rows.
+pub fn tables_short(n: usize, tokens: usize, tree: usize, errors: usize) -> bool
     ensures { λ r. ⌜ r ≡ tablesShort n tokens tree errors ⌝ }
 {
     if tokens / TOKEN_ROW < n {
         return true;
     }
-    let rows = 8 * n + 8;
-    if tree / TREE_ROW < rows {
+    if tree / TREE_ROW / 8 <= n {
         return true;
     }
-    errors / ERROR_ROW < rows
+    errors / ERROR_ROW / 8 <= n
 }
 
 // How many tokens are `(` or `not`.

@@ -1,5 +1,9 @@
 pub mod GreenLaws
 pub mod TokenLaws
+pub mod ParseLaws
 pub mod WritingLaws
 pub mod LookLaws
+pub mod TreeLaws
+pub mod StepLaws
+pub mod CycleLaws
 pub mod Vectors

@@ -318,3 +318,14 @@ module _ {ts : List Token} {t₀ t₁ e₀ e₁ : List ℕ} {l : ℕ} {c r : Cur
 
   pub did-false : test (drop (c .token) ts) ≡ false → Did ts t₀ t₁ e₀ e₁ l c r q → Did ts t₀ t₁ e₀ e₁ l c r (choose test p q)
   did-false e a = did-as (choose-false test p q (drop (c .token) ts) e) a
+
+-- one definition for another that is the same
+module _ {p q : Parser} (e : p ≡ q) where
+  pub fits-is : {ts : List Token} {tokens t : List ℕ} {c : Cursor} → Fits ts tokens t c p → Fits ts tokens t c q
+  fits-is {ts} {tokens} {t} {c} f = subst (λ (x : Parser). Fits ts tokens t c x) e f
+
+  pub asks-is : {ts : List Token} {tokens t es : List ℕ} {l : ℕ} {c : Cursor} → Asks ts tokens t es l c p → Asks ts tokens t es l c q
+  asks-is {ts} {tokens} {t} {es} {l} {c} f = subst (λ (x : Parser). Asks ts tokens t es l c x) e f
+
+  pub did-is : {ts : List Token} {t₀ t₁ e₀ e₁ : List ℕ} {l : ℕ} {c r : Cursor} → Did ts t₀ t₁ e₀ e₁ l c r q → Did ts t₀ t₁ e₀ e₁ l c r p
+  did-is {ts} {t₀} {t₁} {e₀} {e₁} {l} {c} {r} a = subst (λ (x : Parser). Did ts t₀ t₁ e₀ e₁ l c r x) (sym e) a

@@ -3,3 +3,4 @@ pub mod Look
 pub mod Parse
 pub mod Rows
 pub mod Writing
+pub mod Read

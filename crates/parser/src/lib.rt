@@ -1,4 +1,5 @@
 // parser.rs: the green tree of a rule, as rows of a lent table, and the parse errors, as rows of another.
+use lexer::Check;
 use lexer::Lexed;
 use syntax::form;
 use syntax::kind;
@@ -10,10 +11,62 @@ ghost use Prim.Native.Nat.{ℕ, _+_, _*_, _≤_, _<_};
 ghost use lib.ListN.{length, drop};
 ghost use lib.Seq.{sets};
 ghost use Rattle.syntax.specs.Text.{ascii, same};
-ghost use Rattle.lexer.specs.Lex.{lex, tokenRows};
+ghost use Rattle.lexer.specs.Lex.{lex};
 ghost use Rattle.parser.specs.Look.{headKind, headText, currentKind, atKind, atText, atIdent, peekKind, atMessageDot, atField, atPredicateMethod, atPlainMethod, isComparison, hasCountCompareAhead, hasBinaryOpAtLevel};
 ghost use Rattle.parser.specs.Parse.{next, nextIsIdent, fails, failsAhead, eatWs, bump, expect, expectIdent, literal, callExpr, identExpr, containsExpr, compareExpr, simpleAtom, predicateArgs, noArgs, noMethod, parseMethod, parseDotCall, parse, OrExpr, OrRest, AndExpr, AndRest, Atom, Calls, parseSource, parsePipeline, parsePipelineOrCountCompare, remaining, leftOver, parseRoot};
+ghost use Rattle.lexer.specs.Read.{checkRule};
+ghost use Rattle.parser.specs.Read.{checkTables, Reads};
 ghost use Rattle.parser.specs.Writing.{Ready, Past, Skipped, Fits, Asks, Did, Started, Finished};
+
+// What reading a rule gives: the numbers of its rows in the three tables, or the refusal.
+pub enum Reading {
+    Rows {
+        tokens: usize,
+        tree: usize,
+        errors: usize,
+    },
+    Refused(Refusal),
+}
+
+// Reads a rule that passes refusals 1 to 4 into the three tables; a refusal leaves them as they are.
+pub fn parse_expr(rule: &[u8], tokens: &mut [u32], tree: &mut [u32], errors: &mut [u32]) -> Reading
+    ensures { λ r. ⌜ Reads (checkRule (now (rule .entry)) (length (now (tokens .entry))) (length (now (tree .entry))) (length (now (errors .entry)))) (now (rule .entry)) (now (tokens .entry)) (now (tokens .exit)) (now (tree .entry)) (now (tree .exit)) (now (errors .entry)) (now (errors .exit)) r ⌝ }
+{
+    match lexer::check_rule(rule, tokens.len(), tree.len(), errors.len()) {
+        Check::Refused(r) => Reading::Refused(r),
+        Check::Passed => parse_rule(rule, tokens, tree, errors),
+    }
+}
+
+// Reads any bytes into the three tables. It refuses only what it has no room for, and then leaves the tables as they are.
+pub fn parse_rule(rule: &[u8], tokens: &mut [u32], tree: &mut [u32], errors: &mut [u32]) -> Reading
+    ensures { λ r. ⌜ Reads (checkTables (length (now (rule .entry))) (length (now (tokens .entry))) (length (now (tree .entry))) (length (now (errors .entry)))) (now (rule .entry)) (now (tokens .entry)) (now (tokens .exit)) (now (tree .entry)) (now (tree .exit)) (now (errors .entry)) (now (errors .exit)) r ⌝ }
+{
+    if lexer::limits::MAX_RULE < rule.len() {
+        return Reading::Refused(Refusal::RuleTooLong);
+    }
+    if lexer::tables_short(rule.len(), tokens.len(), tree.len(), errors.len()) {
+        return Reading::Refused(Refusal::TableTooShort);
+    }
+    match lexer::lex(rule, tokens) {
+        Lexed::Refused(r) => Reading::Refused(r),
+        Lexed::Tokens(n) => {
+            let end = 3 * n;
+            let start = Cursor {
+                token: 0,
+                byte: 0,
+                row: 0,
+                error: 0,
+            };
+            let c = parse_root(rule, &tokens[..end], tree, errors, 0, start);
+            Reading::Rows {
+                tokens: n,
+                tree: c.row / 4,
+                errors: c.error / 4,
+            }
+        }
+    }
+}
 
 // Where the parser stands: the next token and its first byte, and the next places of the tree and the error table.
 struct Cursor {

@@ -1,4 +1,17 @@
-use Prim.Native.Nat.{ℕ, _<_}
+-- The functions that call each other follow their definitions, one step each; tokens left fall around the cycle. Assumes nothing.
+use denote.Ref.{now}
+use mathlib.Core.Path.{sym, _∙_}
+use mathlib.Core.List.{[]}
+use native.Mathlib.Omega.{arith}
+use lib.ListN.{length}
+use Rattle.parser.specs.Parse.{OrExpr, OrRest, AndExpr, AndRest, Atom}
+use Rattle.parser.proofs.TokenLaws.{table-length}
+use Rattle.parser.proofs.WritingLaws.{did-done, did-then, asks-first, asks-then, tree-long, errors-long, ready-then, node-room, node-level, asks-node, did-node, started-long, finished-long, finish-room, asks-true, asks-false, did-true, did-false, asks-is, did-is}
+use Rattle.parser.proofs.ParseLaws.{step-or-is, step-or-rest-is, step-and-is, step-and-rest-is, step-atom-is, atom-here-is}
+use Rattle.parser.proofs.LookLaws.{at-yes, at-no}
+use Rattle.parser.proofs.StepLaws.{asks-step, did-step, bump-ahead}
+use Rattle.parser.proofs.CycleLaws.{started-token, bump-inside}
+use Prim.Native.Nat.{ℕ, _+_, _*_, _-_, _<_}
 use borrow.Fn.Kinds.{In}
 use borrow.Fn.PlainCycle.{Measures, is, falls, and}
 use Rattle.parser.proofs.and_rest.Reads as and-rest
@@ -32,19 +45,19 @@ use Rattle.parser.proofs.+and_rest+or_rest+parse_and_expr+parse_atom+pa
 }
 
 abbrev μ-and-rest : Measures 4 and-rest-kinds.ps ℕ
-μ-and-rest κs a = ?
+μ-and-rest κs a = length (now (a .1 .0)) - 3 * (a .1 .1 .1 .1 .1 .0 .token) + 0
 
 abbrev μ-or-rest : Measures 4 or-rest-kinds.ps ℕ
-μ-or-rest κs a = ?
+μ-or-rest κs a = length (now (a .1 .0)) - 3 * (a .1 .1 .1 .1 .1 .0 .token) + 0
 
 abbrev μ-parse-and-expr : Measures 4 parse-and-expr-kinds.ps ℕ
-μ-parse-and-expr κs a = ?
+μ-parse-and-expr κs a = length (now (a .1 .0)) - 3 * (a .1 .1 .1 .1 .1 .0 .token) + 1
 
 abbrev μ-parse-atom : Measures 4 parse-atom-kinds.ps ℕ
-μ-parse-atom κs a = ?
+μ-parse-atom κs a = length (now (a .1 .0)) - 3 * (a .1 .1 .1 .1 .1 .0 .token) + 0
 
 abbrev μ-parse-or-expr : Measures 4 parse-or-expr-kinds.ps ℕ
-μ-parse-or-expr κs a = ?
+μ-parse-or-expr κs a = length (now (a .1 .0)) - 3 * (a .1 .1 .1 .1 .1 .0 .token) + 2
 
 abbrev and-rest-at : ℕ → In 4 and-rest-kinds.ps
 and-rest-at t = and 4 and-rest-kinds.ps (is 4 and-rest-kinds.ps μ-and-rest t) and-rest.Pre
@@ -95,1234 +108,230 @@ parse-or-expr-below t =
     (falls 4 parse-or-expr-kinds.ps _<_ μ-parse-or-expr t)
     parse-or-expr.Pre
 
--- src/lib.rt:384:8
-and-rest-current-kind-requires : (t : ℕ) → and-rest-lts.Need-current-kind-requires (
-  current-kind-reads.Asked,
-  current-kind-reads.Learnt,
-  bump-reads.Asked,
-  bump-reads.Learnt,
-  parse-atom-below t,
-  parse-atom.Post,
-  and-rest-below t,
-  and-rest.Post,
-) (and-rest-at t) and-rest.Post
-and-rest-current-kind-requires t c κs = ?
-
--- src/lib.rt:385:13
-and-rest-bump-requires : (t : ℕ) → and-rest-lts.Need-bump-requires (
-  current-kind-reads.Asked,
-  current-kind-reads.Learnt,
-  bump-reads.Asked,
-  bump-reads.Learnt,
-  parse-atom-below t,
-  parse-atom.Post,
-  and-rest-below t,
-  and-rest.Post,
-) (and-rest-at t) and-rest.Post
-and-rest-bump-requires t c κs = ?
-
--- src/lib.rt:386:13
-and-rest-parse-atom-requires : (t : ℕ) → and-rest-lts.Need-parse-atom-requires (
-  current-kind-reads.Asked,
-  current-kind-reads.Learnt,
-  bump-reads.Asked,
-  bump-reads.Learnt,
-  parse-atom-below t,
-  parse-atom.Post,
-  and-rest-below t,
-  and-rest.Post,
-) (and-rest-at t) and-rest.Post
-and-rest-parse-atom-requires t c κs = ?
-
--- src/lib.rt:387:9
-and-rest-and-rest-requires : (t : ℕ) → and-rest-lts.Need-and-rest-requires (
-  current-kind-reads.Asked,
-  current-kind-reads.Learnt,
-  bump-reads.Asked,
-  bump-reads.Learnt,
-  parse-atom-below t,
-  parse-atom.Post,
-  and-rest-below t,
-  and-rest.Post,
-) (and-rest-at t) and-rest.Post
-and-rest-and-rest-requires t c κs = ?
-
--- src/lib.rt:387:9
-and-rest-same-length : (t : ℕ) → and-rest-lts.Need-same-length (
-  current-kind-reads.Asked,
-  current-kind-reads.Learnt,
-  bump-reads.Asked,
-  bump-reads.Learnt,
-  parse-atom-below t,
-  parse-atom.Post,
-  and-rest-below t,
-  and-rest.Post,
-) (and-rest-at t) and-rest.Post
-and-rest-same-length t c = ?
-
--- src/lib.rt:387:9
-and-rest-same-length-2 : (t : ℕ) → and-rest-lts.Need-same-length-2 (
-  current-kind-reads.Asked,
-  current-kind-reads.Learnt,
-  bump-reads.Asked,
-  bump-reads.Learnt,
-  parse-atom-below t,
-  parse-atom.Post,
-  and-rest-below t,
-  and-rest.Post,
-) (and-rest-at t) and-rest.Post
-and-rest-same-length-2 t c = ?
-
--- src/lib.rt:387:9
-and-rest-returns : (t : ℕ) → and-rest-lts.Need-returns (
-  current-kind-reads.Asked,
-  current-kind-reads.Learnt,
-  bump-reads.Asked,
-  bump-reads.Learnt,
-  parse-atom-below t,
-  parse-atom.Post,
-  and-rest-below t,
-  and-rest.Post,
-) (and-rest-at t) and-rest.Post
-and-rest-returns t c = ?
-
--- src/lib.rt:373:1
-and-rest-returns-2 : (t : ℕ) → and-rest-lts.Need-returns-2 (
-  current-kind-reads.Asked,
-  current-kind-reads.Learnt,
-  bump-reads.Asked,
-  bump-reads.Learnt,
-  parse-atom-below t,
-  parse-atom.Post,
-  and-rest-below t,
-  and-rest.Post,
-) (and-rest-at t) and-rest.Post
-and-rest-returns-2 t c = ?
-
--- src/lib.rt:343:8
-or-rest-current-kind-requires : (t : ℕ) → or-rest-lts.Need-current-kind-requires (
-  current-kind-reads.Asked,
-  current-kind-reads.Learnt,
-  bump-reads.Asked,
-  bump-reads.Learnt,
-  parse-and-expr-below t,
-  parse-and-expr.Post,
-  or-rest-below t,
-  or-rest.Post,
-) (or-rest-at t) or-rest.Post
-or-rest-current-kind-requires t c κs = ?
-
--- src/lib.rt:344:13
-or-rest-bump-requires : (t : ℕ) → or-rest-lts.Need-bump-requires (
-  current-kind-reads.Asked,
-  current-kind-reads.Learnt,
-  bump-reads.Asked,
-  bump-reads.Learnt,
-  parse-and-expr-below t,
-  parse-and-expr.Post,
-  or-rest-below t,
-  or-rest.Post,
-) (or-rest-at t) or-rest.Post
-or-rest-bump-requires t c κs = ?
-
--- src/lib.rt:345:13
-or-rest-parse-and-expr-requires : (t : ℕ) → or-rest-lts.Need-parse-and-expr-requires (
-  current-kind-reads.Asked,
-  current-kind-reads.Learnt,
-  bump-reads.Asked,
-  bump-reads.Learnt,
-  parse-and-expr-below t,
-  parse-and-expr.Post,
-  or-rest-below t,
-  or-rest.Post,
-) (or-rest-at t) or-rest.Post
-or-rest-parse-and-expr-requires t c κs = ?
-
--- src/lib.rt:346:9
-or-rest-or-rest-requires : (t : ℕ) → or-rest-lts.Need-or-rest-requires (
-  current-kind-reads.Asked,
-  current-kind-reads.Learnt,
-  bump-reads.Asked,
-  bump-reads.Learnt,
-  parse-and-expr-below t,
-  parse-and-expr.Post,
-  or-rest-below t,
-  or-rest.Post,
-) (or-rest-at t) or-rest.Post
-or-rest-or-rest-requires t c κs = ?
-
--- src/lib.rt:346:9
-or-rest-same-length : (t : ℕ) → or-rest-lts.Need-same-length (
-  current-kind-reads.Asked,
-  current-kind-reads.Learnt,
-  bump-reads.Asked,
-  bump-reads.Learnt,
-  parse-and-expr-below t,
-  parse-and-expr.Post,
-  or-rest-below t,
-  or-rest.Post,
-) (or-rest-at t) or-rest.Post
-or-rest-same-length t c = ?
-
--- src/lib.rt:346:9
-or-rest-same-length-2 : (t : ℕ) → or-rest-lts.Need-same-length-2 (
-  current-kind-reads.Asked,
-  current-kind-reads.Learnt,
-  bump-reads.Asked,
-  bump-reads.Learnt,
-  parse-and-expr-below t,
-  parse-and-expr.Post,
-  or-rest-below t,
-  or-rest.Post,
-) (or-rest-at t) or-rest.Post
-or-rest-same-length-2 t c = ?
-
--- src/lib.rt:346:9
-or-rest-returns : (t : ℕ) → or-rest-lts.Need-returns (
-  current-kind-reads.Asked,
-  current-kind-reads.Learnt,
-  bump-reads.Asked,
-  bump-reads.Learnt,
-  parse-and-expr-below t,
-  parse-and-expr.Post,
-  or-rest-below t,
-  or-rest.Post,
-) (or-rest-at t) or-rest.Post
-or-rest-returns t c = ?
-
--- src/lib.rt:332:1
-or-rest-returns-2 : (t : ℕ) → or-rest-lts.Need-returns-2 (
-  current-kind-reads.Asked,
-  current-kind-reads.Learnt,
-  bump-reads.Asked,
-  bump-reads.Learnt,
-  parse-and-expr-below t,
-  parse-and-expr.Post,
-  or-rest-below t,
-  or-rest.Post,
-) (or-rest-at t) or-rest.Post
-or-rest-returns-2 t c = ?
-
--- src/lib.rt:363:8
-parse-and-expr-has-binary-op-at-level-requires :
-    (t : ℕ) → parse-and-expr-lts.Need-has-binary-op-at-level-requires (
-      has-binary-op-at-level-reads.Asked,
-      has-binary-op-at-level-reads.Learnt,
-      start-node-reads.Asked,
-      start-node-reads.Learnt,
-      parse-atom-below t,
-      parse-atom.Post,
-      and-rest-below t,
-      and-rest.Post,
-      finish-node-reads.Asked,
-      finish-node-reads.Learnt,
-    ) (parse-and-expr-at t) parse-and-expr.Post
-parse-and-expr-has-binary-op-at-level-requires t c κs = ?
-
--- src/lib.rt:364:13
-parse-and-expr-start-node-requires : (t : ℕ) → parse-and-expr-lts.Need-start-node-requires (
-  has-binary-op-at-level-reads.Asked,
-  has-binary-op-at-level-reads.Learnt,
-  start-node-reads.Asked,
-  start-node-reads.Learnt,
-  parse-atom-below t,
-  parse-atom.Post,
-  and-rest-below t,
-  and-rest.Post,
-  finish-node-reads.Asked,
-  finish-node-reads.Learnt,
-) (parse-and-expr-at t) parse-and-expr.Post
-parse-and-expr-start-node-requires t c κs = ?
-
--- src/lib.rt:365:56
-parse-and-expr-add-parse-atom : (t : ℕ) → parse-and-expr-lts.Need-add-parse-atom (
-  has-binary-op-at-level-reads.Asked,
-  has-binary-op-at-level-reads.Learnt,
-  start-node-reads.Asked,
-  start-node-reads.Learnt,
-  parse-atom-below t,
-  parse-atom.Post,
-  and-rest-below t,
-  and-rest.Post,
-  finish-node-reads.Asked,
-  finish-node-reads.Learnt,
-) (parse-and-expr-at t) parse-and-expr.Post
-parse-and-expr-add-parse-atom t c = ?
-
--- src/lib.rt:365:13
-parse-and-expr-parse-atom-requires : (t : ℕ) → parse-and-expr-lts.Need-parse-atom-requires (
-  has-binary-op-at-level-reads.Asked,
-  has-binary-op-at-level-reads.Learnt,
-  start-node-reads.Asked,
-  start-node-reads.Learnt,
-  parse-atom-below t,
-  parse-atom.Post,
-  and-rest-below t,
-  and-rest.Post,
-  finish-node-reads.Asked,
-  finish-node-reads.Learnt,
-) (parse-and-expr-at t) parse-and-expr.Post
-parse-and-expr-parse-atom-requires t c κs = ?
-
--- src/lib.rt:366:54
-parse-and-expr-add-and-rest : (t : ℕ) → parse-and-expr-lts.Need-add-and-rest (
-  has-binary-op-at-level-reads.Asked,
-  has-binary-op-at-level-reads.Learnt,
-  start-node-reads.Asked,
-  start-node-reads.Learnt,
-  parse-atom-below t,
-  parse-atom.Post,
-  and-rest-below t,
-  and-rest.Post,
-  finish-node-reads.Asked,
-  finish-node-reads.Learnt,
-) (parse-and-expr-at t) parse-and-expr.Post
-parse-and-expr-add-and-rest t c = ?
-
--- src/lib.rt:366:13
-parse-and-expr-and-rest-requires : (t : ℕ) → parse-and-expr-lts.Need-and-rest-requires (
-  has-binary-op-at-level-reads.Asked,
-  has-binary-op-at-level-reads.Learnt,
-  start-node-reads.Asked,
-  start-node-reads.Learnt,
-  parse-atom-below t,
-  parse-atom.Post,
-  and-rest-below t,
-  and-rest.Post,
-  finish-node-reads.Asked,
-  finish-node-reads.Learnt,
-) (parse-and-expr-at t) parse-and-expr.Post
-parse-and-expr-and-rest-requires t c κs = ?
-
--- src/lib.rt:367:9
-parse-and-expr-finish-node-requires : (t : ℕ) → parse-and-expr-lts.Need-finish-node-requires (
-  has-binary-op-at-level-reads.Asked,
-  has-binary-op-at-level-reads.Learnt,
-  start-node-reads.Asked,
-  start-node-reads.Learnt,
-  parse-atom-below t,
-  parse-atom.Post,
-  and-rest-below t,
-  and-rest.Post,
-  finish-node-reads.Asked,
-  finish-node-reads.Learnt,
-) (parse-and-expr-at t) parse-and-expr.Post
-parse-and-expr-finish-node-requires t c κs = ?
-
--- src/lib.rt:367:9
-parse-and-expr-same-length : (t : ℕ) → parse-and-expr-lts.Need-same-length (
-  has-binary-op-at-level-reads.Asked,
-  has-binary-op-at-level-reads.Learnt,
-  start-node-reads.Asked,
-  start-node-reads.Learnt,
-  parse-atom-below t,
-  parse-atom.Post,
-  and-rest-below t,
-  and-rest.Post,
-  finish-node-reads.Asked,
-  finish-node-reads.Learnt,
-) (parse-and-expr-at t) parse-and-expr.Post
-parse-and-expr-same-length t c = ?
-
--- src/lib.rt:367:9
-parse-and-expr-same-length-2 : (t : ℕ) → parse-and-expr-lts.Need-same-length-2 (
-  has-binary-op-at-level-reads.Asked,
-  has-binary-op-at-level-reads.Learnt,
-  start-node-reads.Asked,
-  start-node-reads.Learnt,
-  parse-atom-below t,
-  parse-atom.Post,
-  and-rest-below t,
-  and-rest.Post,
-  finish-node-reads.Asked,
-  finish-node-reads.Learnt,
-) (parse-and-expr-at t) parse-and-expr.Post
-parse-and-expr-same-length-2 t c = ?
-
--- src/lib.rt:367:9
-parse-and-expr-returns : (t : ℕ) → parse-and-expr-lts.Need-returns (
-  has-binary-op-at-level-reads.Asked,
-  has-binary-op-at-level-reads.Learnt,
-  start-node-reads.Asked,
-  start-node-reads.Learnt,
-  parse-atom-below t,
-  parse-atom.Post,
-  and-rest-below t,
-  and-rest.Post,
-  finish-node-reads.Asked,
-  finish-node-reads.Learnt,
-) (parse-and-expr-at t) parse-and-expr.Post
-parse-and-expr-returns t c = ?
-
--- src/lib.rt:369:5
-parse-and-expr-parse-atom-requires-2 : (t : ℕ) → parse-and-expr-lts.Need-parse-atom-requires-2 (
-  has-binary-op-at-level-reads.Asked,
-  has-binary-op-at-level-reads.Learnt,
-  start-node-reads.Asked,
-  start-node-reads.Learnt,
-  parse-atom-below t,
-  parse-atom.Post,
-  and-rest-below t,
-  and-rest.Post,
-  finish-node-reads.Asked,
-  finish-node-reads.Learnt,
-) (parse-and-expr-at t) parse-and-expr.Post
-parse-and-expr-parse-atom-requires-2 t c κs = ?
-
--- src/lib.rt:352:1
-parse-and-expr-same-length-3 : (t : ℕ) → parse-and-expr-lts.Need-same-length-3 (
-  has-binary-op-at-level-reads.Asked,
-  has-binary-op-at-level-reads.Learnt,
-  start-node-reads.Asked,
-  start-node-reads.Learnt,
-  parse-atom-below t,
-  parse-atom.Post,
-  and-rest-below t,
-  and-rest.Post,
-  finish-node-reads.Asked,
-  finish-node-reads.Learnt,
-) (parse-and-expr-at t) parse-and-expr.Post
-parse-and-expr-same-length-3 t c = ?
-
--- src/lib.rt:352:1
-parse-and-expr-same-length-4 : (t : ℕ) → parse-and-expr-lts.Need-same-length-4 (
-  has-binary-op-at-level-reads.Asked,
-  has-binary-op-at-level-reads.Learnt,
-  start-node-reads.Asked,
-  start-node-reads.Learnt,
-  parse-atom-below t,
-  parse-atom.Post,
-  and-rest-below t,
-  and-rest.Post,
-  finish-node-reads.Asked,
-  finish-node-reads.Learnt,
-) (parse-and-expr-at t) parse-and-expr.Post
-parse-and-expr-same-length-4 t c = ?
-
--- src/lib.rt:352:1
-parse-and-expr-returns-2 : (t : ℕ) → parse-and-expr-lts.Need-returns-2 (
-  has-binary-op-at-level-reads.Asked,
-  has-binary-op-at-level-reads.Learnt,
-  start-node-reads.Asked,
-  start-node-reads.Learnt,
-  parse-atom-below t,
-  parse-atom.Post,
-  and-rest-below t,
-  and-rest.Post,
-  finish-node-reads.Asked,
-  finish-node-reads.Learnt,
-) (parse-and-expr-at t) parse-and-expr.Post
-parse-and-expr-returns-2 t c = ?
-
--- src/lib.rt:437:9
-parse-atom-eat-ws-requires : (t : ℕ) → parse-atom-lts.Need-eat-ws-requires (
-  eat-ws-reads.Asked,
-  eat-ws-reads.Learnt,
-  current-kind-reads.Asked,
-  current-kind-reads.Learnt,
-  start-node-reads.Asked,
-  start-node-reads.Learnt,
-  bump-reads.Asked,
-  bump-reads.Learnt,
-  parse-atom-below t,
-  parse-atom.Post,
-  finish-node-reads.Asked,
-  finish-node-reads.Learnt,
-  parse-or-expr-below t,
-  parse-or-expr.Post,
-  expect-reads.Asked,
-  expect-reads.Learnt,
-  simple-atom-reads.Asked,
-  simple-atom-reads.Learnt,
-) (parse-atom-at t) parse-atom.Post
-parse-atom-eat-ws-requires t c κs = ?
-
--- src/lib.rt:438:9
-parse-atom-current-kind-requires : (t : ℕ) → parse-atom-lts.Need-current-kind-requires (
-  eat-ws-reads.Asked,
-  eat-ws-reads.Learnt,
-  current-kind-reads.Asked,
-  current-kind-reads.Learnt,
-  start-node-reads.Asked,
-  start-node-reads.Learnt,
-  bump-reads.Asked,
-  bump-reads.Learnt,
-  parse-atom-below t,
-  parse-atom.Post,
-  finish-node-reads.Asked,
-  finish-node-reads.Learnt,
-  parse-or-expr-below t,
-  parse-or-expr.Post,
-  expect-reads.Asked,
-  expect-reads.Learnt,
-  simple-atom-reads.Asked,
-  simple-atom-reads.Learnt,
-) (parse-atom-at t) parse-atom.Post
-parse-atom-current-kind-requires t c κs = ?
-
--- src/lib.rt:440:13
-parse-atom-start-node-requires : (t : ℕ) → parse-atom-lts.Need-start-node-requires (
-  eat-ws-reads.Asked,
-  eat-ws-reads.Learnt,
-  current-kind-reads.Asked,
-  current-kind-reads.Learnt,
-  start-node-reads.Asked,
-  start-node-reads.Learnt,
-  bump-reads.Asked,
-  bump-reads.Learnt,
-  parse-atom-below t,
-  parse-atom.Post,
-  finish-node-reads.Asked,
-  finish-node-reads.Learnt,
-  parse-or-expr-below t,
-  parse-or-expr.Post,
-  expect-reads.Asked,
-  expect-reads.Learnt,
-  simple-atom-reads.Asked,
-  simple-atom-reads.Learnt,
-) (parse-atom-at t) parse-atom.Post
-parse-atom-start-node-requires t c κs = ?
-
--- src/lib.rt:441:42
-parse-atom-add-bump : (t : ℕ) → parse-atom-lts.Need-add-bump (
-  eat-ws-reads.Asked,
-  eat-ws-reads.Learnt,
-  current-kind-reads.Asked,
-  current-kind-reads.Learnt,
-  start-node-reads.Asked,
-  start-node-reads.Learnt,
-  bump-reads.Asked,
-  bump-reads.Learnt,
-  parse-atom-below t,
-  parse-atom.Post,
-  finish-node-reads.Asked,
-  finish-node-reads.Learnt,
-  parse-or-expr-below t,
-  parse-or-expr.Post,
-  expect-reads.Asked,
-  expect-reads.Learnt,
-  simple-atom-reads.Asked,
-  simple-atom-reads.Learnt,
-) (parse-atom-at t) parse-atom.Post
-parse-atom-add-bump t c = ?
-
--- src/lib.rt:441:13
-parse-atom-bump-requires : (t : ℕ) → parse-atom-lts.Need-bump-requires (
-  eat-ws-reads.Asked,
-  eat-ws-reads.Learnt,
-  current-kind-reads.Asked,
-  current-kind-reads.Learnt,
-  start-node-reads.Asked,
-  start-node-reads.Learnt,
-  bump-reads.Asked,
-  bump-reads.Learnt,
-  parse-atom-below t,
-  parse-atom.Post,
-  finish-node-reads.Asked,
-  finish-node-reads.Learnt,
-  parse-or-expr-below t,
-  parse-or-expr.Post,
-  expect-reads.Asked,
-  expect-reads.Learnt,
-  simple-atom-reads.Asked,
-  simple-atom-reads.Learnt,
-) (parse-atom-at t) parse-atom.Post
-parse-atom-bump-requires t c κs = ?
-
--- src/lib.rt:442:56
-parse-atom-add-parse-atom : (t : ℕ) → parse-atom-lts.Need-add-parse-atom (
-  eat-ws-reads.Asked,
-  eat-ws-reads.Learnt,
-  current-kind-reads.Asked,
-  current-kind-reads.Learnt,
-  start-node-reads.Asked,
-  start-node-reads.Learnt,
-  bump-reads.Asked,
-  bump-reads.Learnt,
-  parse-atom-below t,
-  parse-atom.Post,
-  finish-node-reads.Asked,
-  finish-node-reads.Learnt,
-  parse-or-expr-below t,
-  parse-or-expr.Post,
-  expect-reads.Asked,
-  expect-reads.Learnt,
-  simple-atom-reads.Asked,
-  simple-atom-reads.Learnt,
-) (parse-atom-at t) parse-atom.Post
-parse-atom-add-parse-atom t c = ?
-
--- src/lib.rt:442:13
-parse-atom-parse-atom-requires : (t : ℕ) → parse-atom-lts.Need-parse-atom-requires (
-  eat-ws-reads.Asked,
-  eat-ws-reads.Learnt,
-  current-kind-reads.Asked,
-  current-kind-reads.Learnt,
-  start-node-reads.Asked,
-  start-node-reads.Learnt,
-  bump-reads.Asked,
-  bump-reads.Learnt,
-  parse-atom-below t,
-  parse-atom.Post,
-  finish-node-reads.Asked,
-  finish-node-reads.Learnt,
-  parse-or-expr-below t,
-  parse-or-expr.Post,
-  expect-reads.Asked,
-  expect-reads.Learnt,
-  simple-atom-reads.Asked,
-  simple-atom-reads.Learnt,
-) (parse-atom-at t) parse-atom.Post
-parse-atom-parse-atom-requires t c κs = ?
-
--- src/lib.rt:443:9
-parse-atom-finish-node-requires : (t : ℕ) → parse-atom-lts.Need-finish-node-requires (
-  eat-ws-reads.Asked,
-  eat-ws-reads.Learnt,
-  current-kind-reads.Asked,
-  current-kind-reads.Learnt,
-  start-node-reads.Asked,
-  start-node-reads.Learnt,
-  bump-reads.Asked,
-  bump-reads.Learnt,
-  parse-atom-below t,
-  parse-atom.Post,
-  finish-node-reads.Asked,
-  finish-node-reads.Learnt,
-  parse-or-expr-below t,
-  parse-or-expr.Post,
-  expect-reads.Asked,
-  expect-reads.Learnt,
-  simple-atom-reads.Asked,
-  simple-atom-reads.Learnt,
-) (parse-atom-at t) parse-atom.Post
-parse-atom-finish-node-requires t c κs = ?
-
--- src/lib.rt:443:9
-parse-atom-same-length : (t : ℕ) → parse-atom-lts.Need-same-length (
-  eat-ws-reads.Asked,
-  eat-ws-reads.Learnt,
-  current-kind-reads.Asked,
-  current-kind-reads.Learnt,
-  start-node-reads.Asked,
-  start-node-reads.Learnt,
-  bump-reads.Asked,
-  bump-reads.Learnt,
-  parse-atom-below t,
-  parse-atom.Post,
-  finish-node-reads.Asked,
-  finish-node-reads.Learnt,
-  parse-or-expr-below t,
-  parse-or-expr.Post,
-  expect-reads.Asked,
-  expect-reads.Learnt,
-  simple-atom-reads.Asked,
-  simple-atom-reads.Learnt,
-) (parse-atom-at t) parse-atom.Post
-parse-atom-same-length t c = ?
-
--- src/lib.rt:443:9
-parse-atom-same-length-2 : (t : ℕ) → parse-atom-lts.Need-same-length-2 (
-  eat-ws-reads.Asked,
-  eat-ws-reads.Learnt,
-  current-kind-reads.Asked,
-  current-kind-reads.Learnt,
-  start-node-reads.Asked,
-  start-node-reads.Learnt,
-  bump-reads.Asked,
-  bump-reads.Learnt,
-  parse-atom-below t,
-  parse-atom.Post,
-  finish-node-reads.Asked,
-  finish-node-reads.Learnt,
-  parse-or-expr-below t,
-  parse-or-expr.Post,
-  expect-reads.Asked,
-  expect-reads.Learnt,
-  simple-atom-reads.Asked,
-  simple-atom-reads.Learnt,
-) (parse-atom-at t) parse-atom.Post
-parse-atom-same-length-2 t c = ?
-
--- src/lib.rt:443:9
-parse-atom-returns : (t : ℕ) → parse-atom-lts.Need-returns (
-  eat-ws-reads.Asked,
-  eat-ws-reads.Learnt,
-  current-kind-reads.Asked,
-  current-kind-reads.Learnt,
-  start-node-reads.Asked,
-  start-node-reads.Learnt,
-  bump-reads.Asked,
-  bump-reads.Learnt,
-  parse-atom-below t,
-  parse-atom.Post,
-  finish-node-reads.Asked,
-  finish-node-reads.Learnt,
-  parse-or-expr-below t,
-  parse-or-expr.Post,
-  expect-reads.Asked,
-  expect-reads.Learnt,
-  simple-atom-reads.Asked,
-  simple-atom-reads.Learnt,
-) (parse-atom-at t) parse-atom.Post
-parse-atom-returns t c = ?
-
--- src/lib.rt:446:13
-parse-atom-start-node-requires-2 : (t : ℕ) → parse-atom-lts.Need-start-node-requires-2 (
-  eat-ws-reads.Asked,
-  eat-ws-reads.Learnt,
-  current-kind-reads.Asked,
-  current-kind-reads.Learnt,
-  start-node-reads.Asked,
-  start-node-reads.Learnt,
-  bump-reads.Asked,
-  bump-reads.Learnt,
-  parse-atom-below t,
-  parse-atom.Post,
-  finish-node-reads.Asked,
-  finish-node-reads.Learnt,
-  parse-or-expr-below t,
-  parse-or-expr.Post,
-  expect-reads.Asked,
-  expect-reads.Learnt,
-  simple-atom-reads.Asked,
-  simple-atom-reads.Learnt,
-) (parse-atom-at t) parse-atom.Post
-parse-atom-start-node-requires-2 t c κs = ?
-
--- src/lib.rt:447:42
-parse-atom-add-bump-2 : (t : ℕ) → parse-atom-lts.Need-add-bump-2 (
-  eat-ws-reads.Asked,
-  eat-ws-reads.Learnt,
-  current-kind-reads.Asked,
-  current-kind-reads.Learnt,
-  start-node-reads.Asked,
-  start-node-reads.Learnt,
-  bump-reads.Asked,
-  bump-reads.Learnt,
-  parse-atom-below t,
-  parse-atom.Post,
-  finish-node-reads.Asked,
-  finish-node-reads.Learnt,
-  parse-or-expr-below t,
-  parse-or-expr.Post,
-  expect-reads.Asked,
-  expect-reads.Learnt,
-  simple-atom-reads.Asked,
-  simple-atom-reads.Learnt,
-) (parse-atom-at t) parse-atom.Post
-parse-atom-add-bump-2 t c = ?
-
--- src/lib.rt:447:13
-parse-atom-bump-requires-2 : (t : ℕ) → parse-atom-lts.Need-bump-requires-2 (
-  eat-ws-reads.Asked,
-  eat-ws-reads.Learnt,
-  current-kind-reads.Asked,
-  current-kind-reads.Learnt,
-  start-node-reads.Asked,
-  start-node-reads.Learnt,
-  bump-reads.Asked,
-  bump-reads.Learnt,
-  parse-atom-below t,
-  parse-atom.Post,
-  finish-node-reads.Asked,
-  finish-node-reads.Learnt,
-  parse-or-expr-below t,
-  parse-or-expr.Post,
-  expect-reads.Asked,
-  expect-reads.Learnt,
-  simple-atom-reads.Asked,
-  simple-atom-reads.Learnt,
-) (parse-atom-at t) parse-atom.Post
-parse-atom-bump-requires-2 t c κs = ?
-
--- src/lib.rt:448:59
-parse-atom-add-parse-or-expr : (t : ℕ) → parse-atom-lts.Need-add-parse-or-expr (
-  eat-ws-reads.Asked,
-  eat-ws-reads.Learnt,
-  current-kind-reads.Asked,
-  current-kind-reads.Learnt,
-  start-node-reads.Asked,
-  start-node-reads.Learnt,
-  bump-reads.Asked,
-  bump-reads.Learnt,
-  parse-atom-below t,
-  parse-atom.Post,
-  finish-node-reads.Asked,
-  finish-node-reads.Learnt,
-  parse-or-expr-below t,
-  parse-or-expr.Post,
-  expect-reads.Asked,
-  expect-reads.Learnt,
-  simple-atom-reads.Asked,
-  simple-atom-reads.Learnt,
-) (parse-atom-at t) parse-atom.Post
-parse-atom-add-parse-or-expr t c = ?
-
--- src/lib.rt:448:13
-parse-atom-parse-or-expr-requires : (t : ℕ) → parse-atom-lts.Need-parse-or-expr-requires (
-  eat-ws-reads.Asked,
-  eat-ws-reads.Learnt,
-  current-kind-reads.Asked,
-  current-kind-reads.Learnt,
-  start-node-reads.Asked,
-  start-node-reads.Learnt,
-  bump-reads.Asked,
-  bump-reads.Learnt,
-  parse-atom-below t,
-  parse-atom.Post,
-  finish-node-reads.Asked,
-  finish-node-reads.Learnt,
-  parse-or-expr-below t,
-  parse-or-expr.Post,
-  expect-reads.Asked,
-  expect-reads.Learnt,
-  simple-atom-reads.Asked,
-  simple-atom-reads.Learnt,
-) (parse-atom-at t) parse-atom.Post
-parse-atom-parse-or-expr-requires t c κs = ?
-
--- src/lib.rt:449:52
-parse-atom-add-expect : (t : ℕ) → parse-atom-lts.Need-add-expect (
-  eat-ws-reads.Asked,
-  eat-ws-reads.Learnt,
-  current-kind-reads.Asked,
-  current-kind-reads.Learnt,
-  start-node-reads.Asked,
-  start-node-reads.Learnt,
-  bump-reads.Asked,
-  bump-reads.Learnt,
-  parse-atom-below t,
-  parse-atom.Post,
-  finish-node-reads.Asked,
-  finish-node-reads.Learnt,
-  parse-or-expr-below t,
-  parse-or-expr.Post,
-  expect-reads.Asked,
-  expect-reads.Learnt,
-  simple-atom-reads.Asked,
-  simple-atom-reads.Learnt,
-) (parse-atom-at t) parse-atom.Post
-parse-atom-add-expect t c = ?
-
--- src/lib.rt:449:13
-parse-atom-expect-requires : (t : ℕ) → parse-atom-lts.Need-expect-requires (
-  eat-ws-reads.Asked,
-  eat-ws-reads.Learnt,
-  current-kind-reads.Asked,
-  current-kind-reads.Learnt,
-  start-node-reads.Asked,
-  start-node-reads.Learnt,
-  bump-reads.Asked,
-  bump-reads.Learnt,
-  parse-atom-below t,
-  parse-atom.Post,
-  finish-node-reads.Asked,
-  finish-node-reads.Learnt,
-  parse-or-expr-below t,
-  parse-or-expr.Post,
-  expect-reads.Asked,
-  expect-reads.Learnt,
-  simple-atom-reads.Asked,
-  simple-atom-reads.Learnt,
-) (parse-atom-at t) parse-atom.Post
-parse-atom-expect-requires t c κs = ?
-
--- src/lib.rt:450:9
-parse-atom-finish-node-requires-2 : (t : ℕ) → parse-atom-lts.Need-finish-node-requires-2 (
-  eat-ws-reads.Asked,
-  eat-ws-reads.Learnt,
-  current-kind-reads.Asked,
-  current-kind-reads.Learnt,
-  start-node-reads.Asked,
-  start-node-reads.Learnt,
-  bump-reads.Asked,
-  bump-reads.Learnt,
-  parse-atom-below t,
-  parse-atom.Post,
-  finish-node-reads.Asked,
-  finish-node-reads.Learnt,
-  parse-or-expr-below t,
-  parse-or-expr.Post,
-  expect-reads.Asked,
-  expect-reads.Learnt,
-  simple-atom-reads.Asked,
-  simple-atom-reads.Learnt,
-) (parse-atom-at t) parse-atom.Post
-parse-atom-finish-node-requires-2 t c κs = ?
-
--- src/lib.rt:450:9
-parse-atom-same-length-3 : (t : ℕ) → parse-atom-lts.Need-same-length-3 (
-  eat-ws-reads.Asked,
-  eat-ws-reads.Learnt,
-  current-kind-reads.Asked,
-  current-kind-reads.Learnt,
-  start-node-reads.Asked,
-  start-node-reads.Learnt,
-  bump-reads.Asked,
-  bump-reads.Learnt,
-  parse-atom-below t,
-  parse-atom.Post,
-  finish-node-reads.Asked,
-  finish-node-reads.Learnt,
-  parse-or-expr-below t,
-  parse-or-expr.Post,
-  expect-reads.Asked,
-  expect-reads.Learnt,
-  simple-atom-reads.Asked,
-  simple-atom-reads.Learnt,
-) (parse-atom-at t) parse-atom.Post
-parse-atom-same-length-3 t c = ?
-
--- src/lib.rt:450:9
-parse-atom-same-length-4 : (t : ℕ) → parse-atom-lts.Need-same-length-4 (
-  eat-ws-reads.Asked,
-  eat-ws-reads.Learnt,
-  current-kind-reads.Asked,
-  current-kind-reads.Learnt,
-  start-node-reads.Asked,
-  start-node-reads.Learnt,
-  bump-reads.Asked,
-  bump-reads.Learnt,
-  parse-atom-below t,
-  parse-atom.Post,
-  finish-node-reads.Asked,
-  finish-node-reads.Learnt,
-  parse-or-expr-below t,
-  parse-or-expr.Post,
-  expect-reads.Asked,
-  expect-reads.Learnt,
-  simple-atom-reads.Asked,
-  simple-atom-reads.Learnt,
-) (parse-atom-at t) parse-atom.Post
-parse-atom-same-length-4 t c = ?
-
--- src/lib.rt:450:9
-parse-atom-returns-2 : (t : ℕ) → parse-atom-lts.Need-returns-2 (
-  eat-ws-reads.Asked,
-  eat-ws-reads.Learnt,
-  current-kind-reads.Asked,
-  current-kind-reads.Learnt,
-  start-node-reads.Asked,
-  start-node-reads.Learnt,
-  bump-reads.Asked,
-  bump-reads.Learnt,
-  parse-atom-below t,
-  parse-atom.Post,
-  finish-node-reads.Asked,
-  finish-node-reads.Learnt,
-  parse-or-expr-below t,
-  parse-or-expr.Post,
-  expect-reads.Asked,
-  expect-reads.Learnt,
-  simple-atom-reads.Asked,
-  simple-atom-reads.Learnt,
-) (parse-atom-at t) parse-atom.Post
-parse-atom-returns-2 t c = ?
-
--- src/lib.rt:452:5
-parse-atom-simple-atom-requires : (t : ℕ) → parse-atom-lts.Need-simple-atom-requires (
-  eat-ws-reads.Asked,
-  eat-ws-reads.Learnt,
-  current-kind-reads.Asked,
-  current-kind-reads.Learnt,
-  start-node-reads.Asked,
-  start-node-reads.Learnt,
-  bump-reads.Asked,
-  bump-reads.Learnt,
-  parse-atom-below t,
-  parse-atom.Post,
-  finish-node-reads.Asked,
-  finish-node-reads.Learnt,
-  parse-or-expr-below t,
-  parse-or-expr.Post,
-  expect-reads.Asked,
-  expect-reads.Learnt,
-  simple-atom-reads.Asked,
-  simple-atom-reads.Learnt,
-) (parse-atom-at t) parse-atom.Post
-parse-atom-simple-atom-requires t c κs = ?
-
--- src/lib.rt:426:1
-parse-atom-same-length-5 : (t : ℕ) → parse-atom-lts.Need-same-length-5 (
-  eat-ws-reads.Asked,
-  eat-ws-reads.Learnt,
-  current-kind-reads.Asked,
-  current-kind-reads.Learnt,
-  start-node-reads.Asked,
-  start-node-reads.Learnt,
-  bump-reads.Asked,
-  bump-reads.Learnt,
-  parse-atom-below t,
-  parse-atom.Post,
-  finish-node-reads.Asked,
-  finish-node-reads.Learnt,
-  parse-or-expr-below t,
-  parse-or-expr.Post,
-  expect-reads.Asked,
-  expect-reads.Learnt,
-  simple-atom-reads.Asked,
-  simple-atom-reads.Learnt,
-) (parse-atom-at t) parse-atom.Post
-parse-atom-same-length-5 t c = ?
-
--- src/lib.rt:426:1
-parse-atom-same-length-6 : (t : ℕ) → parse-atom-lts.Need-same-length-6 (
-  eat-ws-reads.Asked,
-  eat-ws-reads.Learnt,
-  current-kind-reads.Asked,
-  current-kind-reads.Learnt,
-  start-node-reads.Asked,
-  start-node-reads.Learnt,
-  bump-reads.Asked,
-  bump-reads.Learnt,
-  parse-atom-below t,
-  parse-atom.Post,
-  finish-node-reads.Asked,
-  finish-node-reads.Learnt,
-  parse-or-expr-below t,
-  parse-or-expr.Post,
-  expect-reads.Asked,
-  expect-reads.Learnt,
-  simple-atom-reads.Asked,
-  simple-atom-reads.Learnt,
-) (parse-atom-at t) parse-atom.Post
-parse-atom-same-length-6 t c = ?
-
--- src/lib.rt:426:1
-parse-atom-returns-3 : (t : ℕ) → parse-atom-lts.Need-returns-3 (
-  eat-ws-reads.Asked,
-  eat-ws-reads.Learnt,
-  current-kind-reads.Asked,
-  current-kind-reads.Learnt,
-  start-node-reads.Asked,
-  start-node-reads.Learnt,
-  bump-reads.Asked,
-  bump-reads.Learnt,
-  parse-atom-below t,
-  parse-atom.Post,
-  finish-node-reads.Asked,
-  finish-node-reads.Learnt,
-  parse-or-expr-below t,
-  parse-or-expr.Post,
-  expect-reads.Asked,
-  expect-reads.Learnt,
-  simple-atom-reads.Asked,
-  simple-atom-reads.Learnt,
-) (parse-atom-at t) parse-atom.Post
-parse-atom-returns-3 t c = ?
-
--- src/lib.rt:322:8
-parse-or-expr-has-binary-op-at-level-requires :
-    (t : ℕ) → parse-or-expr-lts.Need-has-binary-op-at-level-requires (
-      has-binary-op-at-level-reads.Asked,
-      has-binary-op-at-level-reads.Learnt,
-      start-node-reads.Asked,
-      start-node-reads.Learnt,
-      parse-and-expr-below t,
-      parse-and-expr.Post,
-      or-rest-below t,
-      or-rest.Post,
-      finish-node-reads.Asked,
-      finish-node-reads.Learnt,
-    ) (parse-or-expr-at t) parse-or-expr.Post
-parse-or-expr-has-binary-op-at-level-requires t c κs = ?
-
--- src/lib.rt:323:13
-parse-or-expr-start-node-requires : (t : ℕ) → parse-or-expr-lts.Need-start-node-requires (
-  has-binary-op-at-level-reads.Asked,
-  has-binary-op-at-level-reads.Learnt,
-  start-node-reads.Asked,
-  start-node-reads.Learnt,
-  parse-and-expr-below t,
-  parse-and-expr.Post,
-  or-rest-below t,
-  or-rest.Post,
-  finish-node-reads.Asked,
-  finish-node-reads.Learnt,
-) (parse-or-expr-at t) parse-or-expr.Post
-parse-or-expr-start-node-requires t c κs = ?
-
--- src/lib.rt:324:60
-parse-or-expr-add-parse-and-expr : (t : ℕ) → parse-or-expr-lts.Need-add-parse-and-expr (
-  has-binary-op-at-level-reads.Asked,
-  has-binary-op-at-level-reads.Learnt,
-  start-node-reads.Asked,
-  start-node-reads.Learnt,
-  parse-and-expr-below t,
-  parse-and-expr.Post,
-  or-rest-below t,
-  or-rest.Post,
-  finish-node-reads.Asked,
-  finish-node-reads.Learnt,
-) (parse-or-expr-at t) parse-or-expr.Post
-parse-or-expr-add-parse-and-expr t c = ?
-
--- src/lib.rt:324:13
-parse-or-expr-parse-and-expr-requires : (t : ℕ) → parse-or-expr-lts.Need-parse-and-expr-requires (
-  has-binary-op-at-level-reads.Asked,
-  has-binary-op-at-level-reads.Learnt,
-  start-node-reads.Asked,
-  start-node-reads.Learnt,
-  parse-and-expr-below t,
-  parse-and-expr.Post,
-  or-rest-below t,
-  or-rest.Post,
-  finish-node-reads.Asked,
-  finish-node-reads.Learnt,
-) (parse-or-expr-at t) parse-or-expr.Post
-parse-or-expr-parse-and-expr-requires t c κs = ?
-
--- src/lib.rt:325:53
-parse-or-expr-add-or-rest : (t : ℕ) → parse-or-expr-lts.Need-add-or-rest (
-  has-binary-op-at-level-reads.Asked,
-  has-binary-op-at-level-reads.Learnt,
-  start-node-reads.Asked,
-  start-node-reads.Learnt,
-  parse-and-expr-below t,
-  parse-and-expr.Post,
-  or-rest-below t,
-  or-rest.Post,
-  finish-node-reads.Asked,
-  finish-node-reads.Learnt,
-) (parse-or-expr-at t) parse-or-expr.Post
-parse-or-expr-add-or-rest t c = ?
-
--- src/lib.rt:325:13
-parse-or-expr-or-rest-requires : (t : ℕ) → parse-or-expr-lts.Need-or-rest-requires (
-  has-binary-op-at-level-reads.Asked,
-  has-binary-op-at-level-reads.Learnt,
-  start-node-reads.Asked,
-  start-node-reads.Learnt,
-  parse-and-expr-below t,
-  parse-and-expr.Post,
-  or-rest-below t,
-  or-rest.Post,
-  finish-node-reads.Asked,
-  finish-node-reads.Learnt,
-) (parse-or-expr-at t) parse-or-expr.Post
-parse-or-expr-or-rest-requires t c κs = ?
-
--- src/lib.rt:326:9
-parse-or-expr-finish-node-requires : (t : ℕ) → parse-or-expr-lts.Need-finish-node-requires (
-  has-binary-op-at-level-reads.Asked,
-  has-binary-op-at-level-reads.Learnt,
-  start-node-reads.Asked,
-  start-node-reads.Learnt,
-  parse-and-expr-below t,
-  parse-and-expr.Post,
-  or-rest-below t,
-  or-rest.Post,
-  finish-node-reads.Asked,
-  finish-node-reads.Learnt,
-) (parse-or-expr-at t) parse-or-expr.Post
-parse-or-expr-finish-node-requires t c κs = ?
-
--- src/lib.rt:326:9
-parse-or-expr-same-length : (t : ℕ) → parse-or-expr-lts.Need-same-length (
-  has-binary-op-at-level-reads.Asked,
-  has-binary-op-at-level-reads.Learnt,
-  start-node-reads.Asked,
-  start-node-reads.Learnt,
-  parse-and-expr-below t,
-  parse-and-expr.Post,
-  or-rest-below t,
-  or-rest.Post,
-  finish-node-reads.Asked,
-  finish-node-reads.Learnt,
-) (parse-or-expr-at t) parse-or-expr.Post
-parse-or-expr-same-length t c = ?
-
--- src/lib.rt:326:9
-parse-or-expr-same-length-2 : (t : ℕ) → parse-or-expr-lts.Need-same-length-2 (
-  has-binary-op-at-level-reads.Asked,
-  has-binary-op-at-level-reads.Learnt,
-  start-node-reads.Asked,
-  start-node-reads.Learnt,
-  parse-and-expr-below t,
-  parse-and-expr.Post,
-  or-rest-below t,
-  or-rest.Post,
-  finish-node-reads.Asked,
-  finish-node-reads.Learnt,
-) (parse-or-expr-at t) parse-or-expr.Post
-parse-or-expr-same-length-2 t c = ?
-
--- src/lib.rt:326:9
-parse-or-expr-returns : (t : ℕ) → parse-or-expr-lts.Need-returns (
-  has-binary-op-at-level-reads.Asked,
-  has-binary-op-at-level-reads.Learnt,
-  start-node-reads.Asked,
-  start-node-reads.Learnt,
-  parse-and-expr-below t,
-  parse-and-expr.Post,
-  or-rest-below t,
-  or-rest.Post,
-  finish-node-reads.Asked,
-  finish-node-reads.Learnt,
-) (parse-or-expr-at t) parse-or-expr.Post
-parse-or-expr-returns t c = ?
-
--- src/lib.rt:328:5
-parse-or-expr-parse-and-expr-requires-2 :
-    (t : ℕ) → parse-or-expr-lts.Need-parse-and-expr-requires-2 (
-      has-binary-op-at-level-reads.Asked,
-      has-binary-op-at-level-reads.Learnt,
-      start-node-reads.Asked,
-      start-node-reads.Learnt,
-      parse-and-expr-below t,
-      parse-and-expr.Post,
-      or-rest-below t,
-      or-rest.Post,
-      finish-node-reads.Asked,
-      finish-node-reads.Learnt,
-    ) (parse-or-expr-at t) parse-or-expr.Post
-parse-or-expr-parse-and-expr-requires-2 t c κs = ?
-
--- src/lib.rt:311:1
-parse-or-expr-same-length-3 : (t : ℕ) → parse-or-expr-lts.Need-same-length-3 (
-  has-binary-op-at-level-reads.Asked,
-  has-binary-op-at-level-reads.Learnt,
-  start-node-reads.Asked,
-  start-node-reads.Learnt,
-  parse-and-expr-below t,
-  parse-and-expr.Post,
-  or-rest-below t,
-  or-rest.Post,
-  finish-node-reads.Asked,
-  finish-node-reads.Learnt,
-) (parse-or-expr-at t) parse-or-expr.Post
-parse-or-expr-same-length-3 t c = ?
-
--- src/lib.rt:311:1
-parse-or-expr-same-length-4 : (t : ℕ) → parse-or-expr-lts.Need-same-length-4 (
-  has-binary-op-at-level-reads.Asked,
-  has-binary-op-at-level-reads.Learnt,
-  start-node-reads.Asked,
-  start-node-reads.Learnt,
-  parse-and-expr-below t,
-  parse-and-expr.Post,
-  or-rest-below t,
-  or-rest.Post,
-  finish-node-reads.Asked,
-  finish-node-reads.Learnt,
-) (parse-or-expr-at t) parse-or-expr.Post
-parse-or-expr-same-length-4 t c = ?
-
--- src/lib.rt:311:1
-parse-or-expr-returns-2 : (t : ℕ) → parse-or-expr-lts.Need-returns-2 (
-  has-binary-op-at-level-reads.Asked,
-  has-binary-op-at-level-reads.Learnt,
-  start-node-reads.Asked,
-  start-node-reads.Learnt,
-  parse-and-expr-below t,
-  parse-and-expr.Post,
-  or-rest-below t,
-  or-rest.Post,
-  finish-node-reads.Asked,
-  finish-node-reads.Learnt,
-) (parse-or-expr-at t) parse-or-expr.Post
-parse-or-expr-returns-2 t c = ?
+abbrev and-rest-calls : ℕ → and-rest-lts.Claims
+and-rest-calls t = (current-kind-reads.Asked, current-kind-reads.Learnt, bump-reads.Asked, bump-reads.Learnt, parse-atom-below t, parse-atom.Post, and-rest-below t, and-rest.Post)
+
+abbrev or-rest-calls : ℕ → or-rest-lts.Claims
+or-rest-calls t = (current-kind-reads.Asked, current-kind-reads.Learnt, bump-reads.Asked, bump-reads.Learnt, parse-and-expr-below t, parse-and-expr.Post, or-rest-below t, or-rest.Post)
+
+abbrev parse-and-expr-calls : ℕ → parse-and-expr-lts.Claims
+parse-and-expr-calls t = (has-binary-op-at-level-reads.Asked, has-binary-op-at-level-reads.Learnt, start-node-reads.Asked, start-node-reads.Learnt, parse-atom-below t, parse-atom.Post, and-rest-below t, and-rest.Post, finish-node-reads.Asked, finish-node-reads.Learnt)
+
+abbrev parse-atom-calls : ℕ → parse-atom-lts.Claims
+parse-atom-calls t = (eat-ws-reads.Asked, eat-ws-reads.Learnt, current-kind-reads.Asked, current-kind-reads.Learnt, start-node-reads.Asked, start-node-reads.Learnt, bump-reads.Asked, bump-reads.Learnt, parse-atom-below t, parse-atom.Post, finish-node-reads.Asked, finish-node-reads.Learnt, parse-or-expr-below t, parse-or-expr.Post, expect-reads.Asked, expect-reads.Learnt, simple-atom-reads.Asked, simple-atom-reads.Learnt)
+
+abbrev parse-or-expr-calls : ℕ → parse-or-expr-lts.Claims
+parse-or-expr-calls t = (has-binary-op-at-level-reads.Asked, has-binary-op-at-level-reads.Learnt, start-node-reads.Asked, start-node-reads.Learnt, parse-and-expr-below t, parse-and-expr.Post, or-rest-below t, or-rest.Post, finish-node-reads.Asked, finish-node-reads.Learnt)
+
+and-rest-current-kind-requires : (t : ℕ) → and-rest-lts.Need-current-kind-requires (and-rest-calls t) (and-rest-at t) and-rest.Post
+and-rest-current-kind-requires t c κs = c .before .before .before .before .pre .1 .fits .ready
+
+and-rest-bump-requires : (t : ℕ) → and-rest-lts.Need-bump-requires (and-rest-calls t) (and-rest-at t) and-rest.Post
+and-rest-bump-requires t c κs = (asks-first _ _ (asks-first _ _ (asks-true _ _ _ (at-yes _ (c .before .before .current-kind .ensures) (c .before .if1 .taken)) (asks-is step-and-rest-is (asks-step AndRest (c .before .before .before .before .before .before .before .pre .1)))))) .fits
+
+and-rest-parse-atom-requires : (t : ℕ) → and-rest-lts.Need-parse-atom-requires (and-rest-calls t) (and-rest-at t) and-rest.Post
+and-rest-parse-atom-requires t c κs = (omega (arith, c .before .before .before .before .before .before .before .before .before .before .before .before .pre .0, c .before .before .before .before .before .before .before .before .before .before .before .before .pre .1 .fits .ready .within, table-length (c .before .before .before .before .before .before .before .before .before .before .before .before .pre .1 .fits .ready), bump-ahead 14 (λ e. omega arith) (sym (c .before .before .before .before .before .before .before .current-kind .ensures) ∙ c .before .before .before .before .before .before .if1 .taken) (c .before .before .before .before .bump .ensures []), c .before .before .before .before .bump .ensures [] .wrote .within), (asks-then _ _ (asks-first _ _ (asks-true _ _ _ (at-yes _ (c .before .before .before .before .before .before .before .current-kind .ensures) (c .before .before .before .before .before .before .if1 .taken)) (asks-is step-and-rest-is (asks-step AndRest (c .before .before .before .before .before .before .before .before .before .before .before .before .pre .1))))) (c .before .before .before .before .bump .ensures _)))
+
+and-rest-and-rest-requires : (t : ℕ) → and-rest-lts.Need-and-rest-requires (and-rest-calls t) (and-rest-at t) and-rest.Post
+and-rest-and-rest-requires t c κs = (omega (arith, c .before .before .before .before .before .before .before .before .before .before .before .before .before .before .before .before .before .before .before .pre .0, c .before .before .before .before .before .before .before .before .before .before .before .before .before .before .before .before .before .before .before .pre .1 .fits .ready .within, table-length (c .before .before .before .before .before .before .before .before .before .before .before .before .before .before .before .before .before .before .before .pre .1 .fits .ready), bump-ahead 14 (λ e. omega arith) (sym (c .before .before .before .before .before .before .before .before .before .before .before .before .before .before .current-kind .ensures) ∙ c .before .before .before .before .before .before .before .before .before .before .before .before .before .if1 .taken) (c .before .before .before .before .before .before .before .before .before .before .before .bump .ensures []), c .before .before .before .before .before .before .before .before .before .before .before .bump .ensures [] .wrote .within, c .before .before .before .before .before .before .parse-atom .ensures .wrote .ahead, c .before .before .before .before .before .before .parse-atom .ensures .wrote .within), (asks-then _ _ (asks-true _ _ _ (at-yes _ (c .before .before .before .before .before .before .before .before .before .before .before .before .before .before .current-kind .ensures) (c .before .before .before .before .before .before .before .before .before .before .before .before .before .if1 .taken)) (asks-is step-and-rest-is (asks-step AndRest (c .before .before .before .before .before .before .before .before .before .before .before .before .before .before .before .before .before .before .before .pre .1)))) (did-then (c .before .before .before .before .before .before .before .before .before .before .before .bump .ensures _) (c .before .before .before .before .before .before .parse-atom .ensures))))
+
+and-rest-same-length : (t : ℕ) → and-rest-lts.Need-same-length (and-rest-calls t) (and-rest-at t) and-rest.Post
+and-rest-same-length t c = tree-long (did-then (did-then (c .before .before .before .before .before .before .before .before .before .before .before .before .before .before .before .before .bump .ensures _) (c .before .before .before .before .before .before .before .before .before .before .before .parse-atom .ensures)) (c .before .before .before .before .and-rest .ensures))
+
+and-rest-same-length-2 : (t : ℕ) → and-rest-lts.Need-same-length-2 (and-rest-calls t) (and-rest-at t) and-rest.Post
+and-rest-same-length-2 t c = errors-long (did-then (did-then (c .before .before .before .before .before .before .before .before .before .before .before .before .before .before .before .before .bump .ensures _) (c .before .before .before .before .before .before .before .before .before .before .before .parse-atom .ensures)) (c .before .before .before .before .and-rest .ensures))
+
+and-rest-returns : (t : ℕ) → and-rest-lts.Need-returns (and-rest-calls t) (and-rest-at t) and-rest.Post
+and-rest-returns t c = did-step AndRest (did-is step-and-rest-is (did-true _ _ _ (at-yes _ (c .before .before .before .before .before .before .before .before .before .before .before .before .before .before .before .before .before .before .before .current-kind .ensures) (c .before .before .before .before .before .before .before .before .before .before .before .before .before .before .before .before .before .before .if1 .taken)) (did-then (did-then (c .before .before .before .before .before .before .before .before .before .before .before .before .before .before .before .before .bump .ensures _) (c .before .before .before .before .before .before .before .before .before .before .before .parse-atom .ensures)) (c .before .before .before .before .and-rest .ensures))))
+
+and-rest-returns-2 : (t : ℕ) → and-rest-lts.Need-returns-2 (and-rest-calls t) (and-rest-at t) and-rest.Post
+and-rest-returns-2 t c = did-step AndRest (did-is step-and-rest-is (did-false _ _ _ (at-no _ (c .before .current-kind .ensures) (c .if1 .left)) (did-done (c .before .before .before .before .before .before .pre .1 .fits .ready))))
+
+or-rest-current-kind-requires : (t : ℕ) → or-rest-lts.Need-current-kind-requires (or-rest-calls t) (or-rest-at t) or-rest.Post
+or-rest-current-kind-requires t c κs = c .before .before .before .before .pre .1 .fits .ready
+
+or-rest-bump-requires : (t : ℕ) → or-rest-lts.Need-bump-requires (or-rest-calls t) (or-rest-at t) or-rest.Post
+or-rest-bump-requires t c κs = (asks-first _ _ (asks-first _ _ (asks-true _ _ _ (at-yes _ (c .before .before .current-kind .ensures) (c .before .if1 .taken)) (asks-is step-or-rest-is (asks-step OrRest (c .before .before .before .before .before .before .before .pre .1)))))) .fits
+
+or-rest-parse-and-expr-requires : (t : ℕ) → or-rest-lts.Need-parse-and-expr-requires (or-rest-calls t) (or-rest-at t) or-rest.Post
+or-rest-parse-and-expr-requires t c κs = (omega (arith, c .before .before .before .before .before .before .before .before .before .before .before .before .pre .0, c .before .before .before .before .before .before .before .before .before .before .before .before .pre .1 .fits .ready .within, table-length (c .before .before .before .before .before .before .before .before .before .before .before .before .pre .1 .fits .ready), bump-ahead 15 (λ e. omega arith) (sym (c .before .before .before .before .before .before .before .current-kind .ensures) ∙ c .before .before .before .before .before .before .if1 .taken) (c .before .before .before .before .bump .ensures []), c .before .before .before .before .bump .ensures [] .wrote .within), (asks-then _ _ (asks-first _ _ (asks-true _ _ _ (at-yes _ (c .before .before .before .before .before .before .before .current-kind .ensures) (c .before .before .before .before .before .before .if1 .taken)) (asks-is step-or-rest-is (asks-step OrRest (c .before .before .before .before .before .before .before .before .before .before .before .before .pre .1))))) (c .before .before .before .before .bump .ensures _)))
+
+or-rest-or-rest-requires : (t : ℕ) → or-rest-lts.Need-or-rest-requires (or-rest-calls t) (or-rest-at t) or-rest.Post
+or-rest-or-rest-requires t c κs = (omega (arith, c .before .before .before .before .before .before .before .before .before .before .before .before .before .before .before .before .before .before .before .pre .0, c .before .before .before .before .before .before .before .before .before .before .before .before .before .before .before .before .before .before .before .pre .1 .fits .ready .within, table-length (c .before .before .before .before .before .before .before .before .before .before .before .before .before .before .before .before .before .before .before .pre .1 .fits .ready), bump-ahead 15 (λ e. omega arith) (sym (c .before .before .before .before .before .before .before .before .before .before .before .before .before .before .current-kind .ensures) ∙ c .before .before .before .before .before .before .before .before .before .before .before .before .before .if1 .taken) (c .before .before .before .before .before .before .before .before .before .before .before .bump .ensures []), c .before .before .before .before .before .before .before .before .before .before .before .bump .ensures [] .wrote .within, c .before .before .before .before .before .before .parse-and-expr .ensures .wrote .ahead, c .before .before .before .before .before .before .parse-and-expr .ensures .wrote .within), (asks-then _ _ (asks-true _ _ _ (at-yes _ (c .before .before .before .before .before .before .before .before .before .before .before .before .before .before .current-kind .ensures) (c .before .before .before .before .before .before .before .before .before .before .before .before .before .if1 .taken)) (asks-is step-or-rest-is (asks-step OrRest (c .before .before .before .before .before .before .before .before .before .before .before .before .before .before .before .before .before .before .before .pre .1)))) (did-then (c .before .before .before .before .before .before .before .before .before .before .before .bump .ensures _) (c .before .before .before .before .before .before .parse-and-expr .ensures))))
+
+or-rest-same-length : (t : ℕ) → or-rest-lts.Need-same-length (or-rest-calls t) (or-rest-at t) or-rest.Post
+or-rest-same-length t c = tree-long (did-then (did-then (c .before .before .before .before .before .before .before .before .before .before .before .before .before .before .before .before .bump .ensures _) (c .before .before .before .before .before .before .before .before .before .before .before .parse-and-expr .ensures)) (c .before .before .before .before .or-rest .ensures))
+
+or-rest-same-length-2 : (t : ℕ) → or-rest-lts.Need-same-length-2 (or-rest-calls t) (or-rest-at t) or-rest.Post
+or-rest-same-length-2 t c = errors-long (did-then (did-then (c .before .before .before .before .before .before .before .before .before .before .before .before .before .before .before .before .bump .ensures _) (c .before .before .before .before .before .before .before .before .before .before .before .parse-and-expr .ensures)) (c .before .before .before .before .or-rest .ensures))
+
+or-rest-returns : (t : ℕ) → or-rest-lts.Need-returns (or-rest-calls t) (or-rest-at t) or-rest.Post
+or-rest-returns t c = did-step OrRest (did-is step-or-rest-is (did-true _ _ _ (at-yes _ (c .before .before .before .before .before .before .before .before .before .before .before .before .before .before .before .before .before .before .before .current-kind .ensures) (c .before .before .before .before .before .before .before .before .before .before .before .before .before .before .before .before .before .before .if1 .taken)) (did-then (did-then (c .before .before .before .before .before .before .before .before .before .before .before .before .before .before .before .before .bump .ensures _) (c .before .before .before .before .before .before .before .before .before .before .before .parse-and-expr .ensures)) (c .before .before .before .before .or-rest .ensures))))
+
+or-rest-returns-2 : (t : ℕ) → or-rest-lts.Need-returns-2 (or-rest-calls t) (or-rest-at t) or-rest.Post
+or-rest-returns-2 t c = did-step OrRest (did-is step-or-rest-is (did-false _ _ _ (at-no _ (c .before .current-kind .ensures) (c .if1 .left)) (did-done (c .before .before .before .before .before .before .pre .1 .fits .ready))))
+
+parse-and-expr-has-binary-op-at-level-requires : (t : ℕ) → parse-and-expr-lts.Need-has-binary-op-at-level-requires (parse-and-expr-calls t) (parse-and-expr-at t) parse-and-expr.Post
+parse-and-expr-has-binary-op-at-level-requires t c κs = c .before .before .before .before .pre .1 .fits .ready
+
+parse-and-expr-start-node-requires : (t : ℕ) → parse-and-expr-lts.Need-start-node-requires (parse-and-expr-calls t) (parse-and-expr-at t) parse-and-expr.Post
+parse-and-expr-start-node-requires t c κs = node-room _ _ (asks-true _ _ _ (sym (c .before .before .has-binary-op-at-level .ensures) ∙ c .before .if1 .taken) (asks-is step-and-is (asks-step AndExpr (c .before .before .before .before .before .before .before .pre .1))))
+
+parse-and-expr-add-parse-atom : (t : ℕ) → parse-and-expr-lts.Need-add-parse-atom (parse-and-expr-calls t) (parse-and-expr-at t) parse-and-expr.Post
+parse-and-expr-add-parse-atom t c = record { fits = node-level _ _ (asks-true _ _ _ (sym (c .before .before .before .before .before .before .before .has-binary-op-at-level .ensures) ∙ c .before .before .before .before .before .before .if1 .taken) (asks-is step-and-is (asks-step AndExpr (c .before .before .before .before .before .before .before .before .before .before .before .before .pre .1)))) }
+
+parse-and-expr-parse-atom-requires : (t : ℕ) → parse-and-expr-lts.Need-parse-atom-requires (parse-and-expr-calls t) (parse-and-expr-at t) parse-and-expr.Post
+parse-and-expr-parse-atom-requires t c κs = (omega (arith, c .before .before .before .before .before .before .before .before .before .before .before .before .pre .0, c .before .before .before .before .before .before .before .before .before .before .before .before .pre .1 .fits .ready .within, table-length (c .before .before .before .before .before .before .before .before .before .before .before .before .pre .1 .fits .ready), started-token (c .before .before .before .before .start-node .ensures)), (asks-first _ _ (asks-node _ _ (asks-true _ _ _ (sym (c .before .before .before .before .before .before .before .has-binary-op-at-level .ensures) ∙ c .before .before .before .before .before .before .if1 .taken) (asks-is step-and-is (asks-step AndExpr (c .before .before .before .before .before .before .before .before .before .before .before .before .pre .1)))) (c .before .before .before .before .start-node .ensures))))
+
+parse-and-expr-add-and-rest : (t : ℕ) → parse-and-expr-lts.Need-add-and-rest (parse-and-expr-calls t) (parse-and-expr-at t) parse-and-expr.Post
+parse-and-expr-add-and-rest t c = record { fits = node-level _ _ (asks-true _ _ _ (sym (c .before .before .before .before .before .before .before .before .before .before .before .before .before .before .has-binary-op-at-level .ensures) ∙ c .before .before .before .before .before .before .before .before .before .before .before .before .before .if1 .taken) (asks-is step-and-is (asks-step AndExpr (c .before .before .before .before .before .before .before .before .before .before .before .before .before .before .before .before .before .before .before .pre .1)))) }
+
+parse-and-expr-and-rest-requires : (t : ℕ) → parse-and-expr-lts.Need-and-rest-requires (parse-and-expr-calls t) (parse-and-expr-at t) parse-and-expr.Post
+parse-and-expr-and-rest-requires t c κs = (omega (arith, c .before .before .before .before .before .before .before .before .before .before .before .before .before .before .before .before .before .before .before .pre .0, c .before .before .before .before .before .before .before .before .before .before .before .before .before .before .before .before .before .before .before .pre .1 .fits .ready .within, table-length (c .before .before .before .before .before .before .before .before .before .before .before .before .before .before .before .before .before .before .before .pre .1 .fits .ready), started-token (c .before .before .before .before .before .before .before .before .before .before .before .start-node .ensures), c .before .before .before .before .before .before .parse-atom .ensures .wrote .ahead, c .before .before .before .before .before .before .parse-atom .ensures .wrote .within), (asks-then _ _ (asks-node _ _ (asks-true _ _ _ (sym (c .before .before .before .before .before .before .before .before .before .before .before .before .before .before .has-binary-op-at-level .ensures) ∙ c .before .before .before .before .before .before .before .before .before .before .before .before .before .if1 .taken) (asks-is step-and-is (asks-step AndExpr (c .before .before .before .before .before .before .before .before .before .before .before .before .before .before .before .before .before .before .before .pre .1)))) (c .before .before .before .before .before .before .before .before .before .before .before .start-node .ensures)) (c .before .before .before .before .before .before .parse-atom .ensures)))
+
+parse-and-expr-finish-node-requires : (t : ℕ) → parse-and-expr-lts.Need-finish-node-requires (parse-and-expr-calls t) (parse-and-expr-at t) parse-and-expr.Post
+parse-and-expr-finish-node-requires t c κs = finish-room (node-room _ _ (asks-true _ _ _ (sym (c .before .before .before .before .before .before .before .before .before .before .before .before .before .before .before .before .before .before .before .before .has-binary-op-at-level .ensures) ∙ c .before .before .before .before .before .before .before .before .before .before .before .before .before .before .before .before .before .before .before .if1 .taken) (asks-is step-and-is (asks-step AndExpr (c .before .before .before .before .before .before .before .before .before .before .before .before .before .before .before .before .before .before .before .before .before .before .before .before .before .pre .1))))) (c .before .before .before .before .before .before .before .before .before .before .before .before .before .before .before .before .before .start-node .ensures) (did-then (c .before .before .before .before .before .before .before .before .before .before .before .before .parse-atom .ensures) (c .before .before .before .before .before .and-rest .ensures))
+
+parse-and-expr-same-length : (t : ℕ) → parse-and-expr-lts.Need-same-length (parse-and-expr-calls t) (parse-and-expr-at t) parse-and-expr.Post
+parse-and-expr-same-length t c = finished-long (c .before .before .finish-node .ensures) ∙ tree-long (did-then (c .before .before .before .before .before .before .before .before .before .before .before .before .before .before .before .parse-atom .ensures) (c .before .before .before .before .before .before .before .before .and-rest .ensures)) ∙ started-long (c .before .before .before .before .before .before .before .before .before .before .before .before .before .before .before .before .before .before .before .before .start-node .ensures)
+
+parse-and-expr-same-length-2 : (t : ℕ) → parse-and-expr-lts.Need-same-length-2 (parse-and-expr-calls t) (parse-and-expr-at t) parse-and-expr.Post
+parse-and-expr-same-length-2 t c = errors-long (did-then (c .before .before .before .before .before .before .before .before .before .before .before .before .before .before .before .parse-atom .ensures) (c .before .before .before .before .before .before .before .before .and-rest .ensures))
+
+parse-and-expr-returns : (t : ℕ) → parse-and-expr-lts.Need-returns (parse-and-expr-calls t) (parse-and-expr-at t) parse-and-expr.Post
+parse-and-expr-returns t c = did-step AndExpr (did-is step-and-is (did-true _ _ _ (sym (c .before .before .before .before .before .before .before .before .before .before .before .before .before .before .before .before .before .before .before .before .before .before .before .has-binary-op-at-level .ensures) ∙ c .before .before .before .before .before .before .before .before .before .before .before .before .before .before .before .before .before .before .before .before .before .before .if1 .taken) (did-node (c .before .before .before .before .before .before .before .before .before .before .before .before .before .before .before .before .before .before .before .before .start-node .ensures) (did-then (c .before .before .before .before .before .before .before .before .before .before .before .before .before .before .before .parse-atom .ensures) (c .before .before .before .before .before .before .before .before .and-rest .ensures)) (c .before .before .finish-node .ensures))))
+
+parse-and-expr-parse-atom-requires-2 : (t : ℕ) → parse-and-expr-lts.Need-parse-atom-requires-2 (parse-and-expr-calls t) (parse-and-expr-at t) parse-and-expr.Post
+parse-and-expr-parse-atom-requires-2 t c κs = (omega (arith, c .before .before .before .before .before .before .before .before .pre .0, c .before .before .before .before .before .before .before .before .pre .1 .fits .ready .within, table-length (c .before .before .before .before .before .before .before .before .pre .1 .fits .ready), c .before .before .before .before .before .before .before .before .pre .1 .fits .ready .within), (asks-false _ _ _ (sym (c .before .before .before .has-binary-op-at-level .ensures) ∙ c .before .before .if1 .left) (asks-is step-and-is (asks-step AndExpr (c .before .before .before .before .before .before .before .before .pre .1)))))
+
+parse-and-expr-same-length-3 : (t : ℕ) → parse-and-expr-lts.Need-same-length-3 (parse-and-expr-calls t) (parse-and-expr-at t) parse-and-expr.Post
+parse-and-expr-same-length-3 t c = tree-long (c .before .before .before .before .parse-atom2 .ensures)
+
+parse-and-expr-same-length-4 : (t : ℕ) → parse-and-expr-lts.Need-same-length-4 (parse-and-expr-calls t) (parse-and-expr-at t) parse-and-expr.Post
+parse-and-expr-same-length-4 t c = errors-long (c .before .before .before .before .parse-atom2 .ensures)
+
+parse-and-expr-returns-2 : (t : ℕ) → parse-and-expr-lts.Need-returns-2 (parse-and-expr-calls t) (parse-and-expr-at t) parse-and-expr.Post
+parse-and-expr-returns-2 t c = did-step AndExpr (did-is step-and-is (did-false _ _ _ (sym (c .before .before .before .before .before .before .before .before .has-binary-op-at-level .ensures) ∙ c .before .before .before .before .before .before .before .if1 .left) (c .before .before .before .before .parse-atom2 .ensures)))
+
+parse-atom-eat-ws-requires : (t : ℕ) → parse-atom-lts.Need-eat-ws-requires (parse-atom-calls t) (parse-atom-at t) parse-atom.Post
+parse-atom-eat-ws-requires t c κs = asks-first _ _ (asks-is step-atom-is (asks-step Atom (c .before .before .before .before .before .pre .1))) .fits
+
+parse-atom-current-kind-requires : (t : ℕ) → parse-atom-lts.Need-current-kind-requires (parse-atom-calls t) (parse-atom-at t) parse-atom.Post
+parse-atom-current-kind-requires t c κs = (ready-then (c .before .before .eat-ws .ensures []) (c .before .before .before .before .before .before .before .before .pre .1 .fits .ready))
+
+parse-atom-start-node-requires : (t : ℕ) → parse-atom-lts.Need-start-node-requires (parse-atom-calls t) (parse-atom-at t) parse-atom.Post
+parse-atom-start-node-requires t c κs = node-room _ _ (asks-true _ _ _ (at-yes _ (c .before .before .current-kind .ensures) (c .before .if1 .taken)) (asks-is atom-here-is (asks-then _ _ (asks-is step-atom-is (asks-step Atom (c .before .before .before .before .before .before .before .before .before .before .before .pre .1))) (c .before .before .before .before .before .eat-ws .ensures _))))
+
+parse-atom-add-bump : (t : ℕ) → parse-atom-lts.Need-add-bump (parse-atom-calls t) (parse-atom-at t) parse-atom.Post
+parse-atom-add-bump t c = record { fits = node-level _ _ (asks-true _ _ _ (at-yes _ (c .before .before .before .before .before .before .current-kind .ensures) (c .before .before .before .before .before .if1 .taken)) (asks-is atom-here-is (asks-then _ _ (asks-is step-atom-is (asks-step Atom (c .before .before .before .before .before .before .before .before .before .before .before .before .before .before .before .pre .1))) (c .before .before .before .before .before .before .before .before .before .eat-ws .ensures _)))) }
+
+parse-atom-bump-requires : (t : ℕ) → parse-atom-lts.Need-bump-requires (parse-atom-calls t) (parse-atom-at t) parse-atom.Post
+parse-atom-bump-requires t c κs = (asks-first _ _ (asks-node _ _ (asks-true _ _ _ (at-yes _ (c .before .before .before .before .before .before .current-kind .ensures) (c .before .before .before .before .before .if1 .taken)) (asks-is atom-here-is (asks-then _ _ (asks-is step-atom-is (asks-step Atom (c .before .before .before .before .before .before .before .before .before .before .before .before .before .before .before .pre .1))) (c .before .before .before .before .before .before .before .before .before .eat-ws .ensures _)))) (c .before .before .before .start-node .ensures))) .fits
+
+parse-atom-add-parse-atom : (t : ℕ) → parse-atom-lts.Need-add-parse-atom (parse-atom-calls t) (parse-atom-at t) parse-atom.Post
+parse-atom-add-parse-atom t c = record { fits = node-level _ _ (asks-true _ _ _ (at-yes _ (c .before .before .before .before .before .before .before .before .before .before .before .current-kind .ensures) (c .before .before .before .before .before .before .before .before .before .before .if1 .taken)) (asks-is atom-here-is (asks-then _ _ (asks-is step-atom-is (asks-step Atom (c .before .before .before .before .before .before .before .before .before .before .before .before .before .before .before .before .before .before .before .before .pre .1))) (c .before .before .before .before .before .before .before .before .before .before .before .before .before .before .eat-ws .ensures _)))) }
+
+parse-atom-parse-atom-requires : (t : ℕ) → parse-atom-lts.Need-parse-atom-requires (parse-atom-calls t) (parse-atom-at t) parse-atom.Post
+parse-atom-parse-atom-requires t c κs = (omega (arith, c .before .before .before .before .before .before .before .before .before .before .before .before .before .before .before .before .before .before .before .before .pre .0, c .before .before .before .before .before .before .before .before .before .before .before .before .before .before .before .before .before .before .before .before .pre .1 .fits .ready .within, table-length (c .before .before .before .before .before .before .before .before .before .before .before .before .before .before .before .before .before .before .before .before .pre .1 .fits .ready), bump-inside 16 (λ e. omega arith) (sym (c .before .before .before .before .before .before .before .before .before .before .before .current-kind .ensures) ∙ c .before .before .before .before .before .before .before .before .before .before .if1 .taken) (c .before .before .before .before .before .before .before .before .start-node .ensures) (c .before .before .before .before .bump .ensures []), c .before .before .before .before .bump .ensures [] .wrote .within, c .before .before .before .before .before .before .before .before .before .before .before .before .before .before .eat-ws .ensures [] .wrote .ahead), (asks-then _ _ (asks-node _ _ (asks-true _ _ _ (at-yes _ (c .before .before .before .before .before .before .before .before .before .before .before .current-kind .ensures) (c .before .before .before .before .before .before .before .before .before .before .if1 .taken)) (asks-is atom-here-is (asks-then _ _ (asks-is step-atom-is (asks-step Atom (c .before .before .before .before .before .before .before .before .before .before .before .before .before .before .before .before .before .before .before .before .pre .1))) (c .before .before .before .before .before .before .before .before .before .before .before .before .before .before .eat-ws .ensures _)))) (c .before .before .before .before .before .before .before .before .start-node .ensures)) (c .before .before .before .before .bump .ensures _)))
+
+parse-atom-finish-node-requires : (t : ℕ) → parse-atom-lts.Need-finish-node-requires (parse-atom-calls t) (parse-atom-at t) parse-atom.Post
+parse-atom-finish-node-requires t c κs = finish-room (node-room _ _ (asks-true _ _ _ (at-yes _ (c .before .before .before .before .before .before .before .before .before .before .before .before .before .before .before .before .before .current-kind .ensures) (c .before .before .before .before .before .before .before .before .before .before .before .before .before .before .before .before .if1 .taken)) (asks-is atom-here-is (asks-then _ _ (asks-is step-atom-is (asks-step Atom (c .before .before .before .before .before .before .before .before .before .before .before .before .before .before .before .before .before .before .before .before .before .before .before .before .before .before .pre .1))) (c .before .before .before .before .before .before .before .before .before .before .before .before .before .before .before .before .before .before .before .before .eat-ws .ensures _))))) (c .before .before .before .before .before .before .before .before .before .before .before .before .before .before .start-node .ensures) (did-then (c .before .before .before .before .before .before .before .before .before .before .bump .ensures _) (c .before .before .before .before .before .parse-atom .ensures))
+
+parse-atom-same-length : (t : ℕ) → parse-atom-lts.Need-same-length (parse-atom-calls t) (parse-atom-at t) parse-atom.Post
+parse-atom-same-length t c = finished-long (c .before .before .finish-node .ensures) ∙ tree-long (did-then (c .before .before .before .before .before .before .before .before .before .before .before .before .before .bump .ensures _) (c .before .before .before .before .before .before .before .before .parse-atom .ensures)) ∙ started-long (c .before .before .before .before .before .before .before .before .before .before .before .before .before .before .before .before .before .start-node .ensures) ∙ tree-long (c .before .before .before .before .before .before .before .before .before .before .before .before .before .before .before .before .before .before .before .before .before .before .before .eat-ws .ensures [])
+
+parse-atom-same-length-2 : (t : ℕ) → parse-atom-lts.Need-same-length-2 (parse-atom-calls t) (parse-atom-at t) parse-atom.Post
+parse-atom-same-length-2 t c = errors-long (did-then (c .before .before .before .before .before .before .before .before .before .before .before .before .before .bump .ensures _) (c .before .before .before .before .before .before .before .before .parse-atom .ensures))
+
+parse-atom-returns : (t : ℕ) → parse-atom-lts.Need-returns (parse-atom-calls t) (parse-atom-at t) parse-atom.Post
+parse-atom-returns t c = did-step Atom (did-is step-atom-is (did-then (c .before .before .before .before .before .before .before .before .before .before .before .before .before .before .before .before .before .before .before .before .before .before .before .eat-ws .ensures _) (did-is atom-here-is (did-true _ _ _ (at-yes _ (c .before .before .before .before .before .before .before .before .before .before .before .before .before .before .before .before .before .before .before .before .current-kind .ensures) (c .before .before .before .before .before .before .before .before .before .before .before .before .before .before .before .before .before .before .before .if1 .taken)) (did-node (c .before .before .before .before .before .before .before .before .before .before .before .before .before .before .before .before .before .start-node .ensures) (did-then (c .before .before .before .before .before .before .before .before .before .before .before .before .before .bump .ensures _) (c .before .before .before .before .before .before .before .before .parse-atom .ensures)) (c .before .before .finish-node .ensures))))))
+
+parse-atom-start-node-requires-2 : (t : ℕ) → parse-atom-lts.Need-start-node-requires-2 (parse-atom-calls t) (parse-atom-at t) parse-atom.Post
+parse-atom-start-node-requires-2 t c κs = node-room _ _ (asks-true _ _ _ (at-yes _ (c .before .before .before .current-kind .ensures) (c .before .if2 .taken)) (asks-false _ _ _ (at-no _ (c .before .before .before .current-kind .ensures) (c .before .before .if1 .left)) (asks-is atom-here-is (asks-then _ _ (asks-is step-atom-is (asks-step Atom (c .before .before .before .before .before .before .before .before .before .before .before .before .pre .1))) (c .before .before .before .before .before .before .eat-ws .ensures _)))))
+
+parse-atom-add-bump-2 : (t : ℕ) → parse-atom-lts.Need-add-bump-2 (parse-atom-calls t) (parse-atom-at t) parse-atom.Post
+parse-atom-add-bump-2 t c = record { fits = node-level _ _ (asks-true _ _ _ (at-yes _ (c .before .before .before .before .before .before .before .current-kind .ensures) (c .before .before .before .before .before .if2 .taken)) (asks-false _ _ _ (at-no _ (c .before .before .before .before .before .before .before .current-kind .ensures) (c .before .before .before .before .before .before .if1 .left)) (asks-is atom-here-is (asks-then _ _ (asks-is step-atom-is (asks-step Atom (c .before .before .before .before .before .before .before .before .before .before .before .before .before .before .before .before .pre .1))) (c .before .before .before .before .before .before .before .before .before .before .eat-ws .ensures _))))) }
+
+parse-atom-bump-requires-2 : (t : ℕ) → parse-atom-lts.Need-bump-requires-2 (parse-atom-calls t) (parse-atom-at t) parse-atom.Post
+parse-atom-bump-requires-2 t c κs = (asks-first _ _ (asks-first _ _ (asks-node _ _ (asks-true _ _ _ (at-yes _ (c .before .before .before .before .before .before .before .current-kind .ensures) (c .before .before .before .before .before .if2 .taken)) (asks-false _ _ _ (at-no _ (c .before .before .before .before .before .before .before .current-kind .ensures) (c .before .before .before .before .before .before .if1 .left)) (asks-is atom-here-is (asks-then _ _ (asks-is step-atom-is (asks-step Atom (c .before .before .before .before .before .before .before .before .before .before .before .before .before .before .before .before .pre .1))) (c .before .before .before .before .before .before .before .before .before .before .eat-ws .ensures _))))) (c .before .before .before .start-node2 .ensures)))) .fits
+
+parse-atom-add-parse-or-expr : (t : ℕ) → parse-atom-lts.Need-add-parse-or-expr (parse-atom-calls t) (parse-atom-at t) parse-atom.Post
+parse-atom-add-parse-or-expr t c = record { fits = node-level _ _ (asks-true _ _ _ (at-yes _ (c .before .before .before .before .before .before .before .before .before .before .before .before .current-kind .ensures) (c .before .before .before .before .before .before .before .before .before .before .if2 .taken)) (asks-false _ _ _ (at-no _ (c .before .before .before .before .before .before .before .before .before .before .before .before .current-kind .ensures) (c .before .before .before .before .before .before .before .before .before .before .before .if1 .left)) (asks-is atom-here-is (asks-then _ _ (asks-is step-atom-is (asks-step Atom (c .before .before .before .before .before .before .before .before .before .before .before .before .before .before .before .before .before .before .before .before .before .pre .1))) (c .before .before .before .before .before .before .before .before .before .before .before .before .before .before .before .eat-ws .ensures _))))) }
+
+parse-atom-parse-or-expr-requires : (t : ℕ) → parse-atom-lts.Need-parse-or-expr-requires (parse-atom-calls t) (parse-atom-at t) parse-atom.Post
+parse-atom-parse-or-expr-requires t c κs = (omega (arith, c .before .before .before .before .before .before .before .before .before .before .before .before .before .before .before .before .before .before .before .before .before .pre .0, c .before .before .before .before .before .before .before .before .before .before .before .before .before .before .before .before .before .before .before .before .before .pre .1 .fits .ready .within, table-length (c .before .before .before .before .before .before .before .before .before .before .before .before .before .before .before .before .before .before .before .before .before .pre .1 .fits .ready), bump-inside 4 (λ e. omega arith) (sym (c .before .before .before .before .before .before .before .before .before .before .before .before .current-kind .ensures) ∙ c .before .before .before .before .before .before .before .before .before .before .if2 .taken) (c .before .before .before .before .before .before .before .before .start-node2 .ensures) (c .before .before .before .before .bump2 .ensures []), c .before .before .before .before .bump2 .ensures [] .wrote .within, c .before .before .before .before .before .before .before .before .before .before .before .before .before .before .before .eat-ws .ensures [] .wrote .ahead), (asks-then _ _ (asks-first _ _ (asks-node _ _ (asks-true _ _ _ (at-yes _ (c .before .before .before .before .before .before .before .before .before .before .before .before .current-kind .ensures) (c .before .before .before .before .before .before .before .before .before .before .if2 .taken)) (asks-false _ _ _ (at-no _ (c .before .before .before .before .before .before .before .before .before .before .before .before .current-kind .ensures) (c .before .before .before .before .before .before .before .before .before .before .before .if1 .left)) (asks-is atom-here-is (asks-then _ _ (asks-is step-atom-is (asks-step Atom (c .before .before .before .before .before .before .before .before .before .before .before .before .before .before .before .before .before .before .before .before .before .pre .1))) (c .before .before .before .before .before .before .before .before .before .before .before .before .before .before .before .eat-ws .ensures _))))) (c .before .before .before .before .before .before .before .before .start-node2 .ensures))) (c .before .before .before .before .bump2 .ensures _)))
+
+parse-atom-add-expect : (t : ℕ) → parse-atom-lts.Need-add-expect (parse-atom-calls t) (parse-atom-at t) parse-atom.Post
+parse-atom-add-expect t c = record { fits = node-level _ _ (asks-true _ _ _ (at-yes _ (c .before .before .before .before .before .before .before .before .before .before .before .before .before .before .before .before .before .before .before .current-kind .ensures) (c .before .before .before .before .before .before .before .before .before .before .before .before .before .before .before .before .before .if2 .taken)) (asks-false _ _ _ (at-no _ (c .before .before .before .before .before .before .before .before .before .before .before .before .before .before .before .before .before .before .before .current-kind .ensures) (c .before .before .before .before .before .before .before .before .before .before .before .before .before .before .before .before .before .before .if1 .left)) (asks-is atom-here-is (asks-then _ _ (asks-is step-atom-is (asks-step Atom (c .before .before .before .before .before .before .before .before .before .before .before .before .before .before .before .before .before .before .before .before .before .before .before .before .before .before .before .before .pre .1))) (c .before .before .before .before .before .before .before .before .before .before .before .before .before .before .before .before .before .before .before .before .before .before .eat-ws .ensures _))))) }
+
+parse-atom-expect-requires : (t : ℕ) → parse-atom-lts.Need-expect-requires (parse-atom-calls t) (parse-atom-at t) parse-atom.Post
+parse-atom-expect-requires t c κs = (asks-then _ _ (asks-node _ _ (asks-true _ _ _ (at-yes _ (c .before .before .before .before .before .before .before .before .before .before .before .before .before .before .before .before .before .before .before .current-kind .ensures) (c .before .before .before .before .before .before .before .before .before .before .before .before .before .before .before .before .before .if2 .taken)) (asks-false _ _ _ (at-no _ (c .before .before .before .before .before .before .before .before .before .before .before .before .before .before .before .before .before .before .before .current-kind .ensures) (c .before .before .before .before .before .before .before .before .before .before .before .before .before .before .before .before .before .before .if1 .left)) (asks-is atom-here-is (asks-then _ _ (asks-is step-atom-is (asks-step Atom (c .before .before .before .before .before .before .before .before .before .before .before .before .before .before .before .before .before .before .before .before .before .before .before .before .before .before .before .before .pre .1))) (c .before .before .before .before .before .before .before .before .before .before .before .before .before .before .before .before .before .before .before .before .before .before .eat-ws .ensures _))))) (c .before .before .before .before .before .before .before .before .before .before .before .before .before .before .before .start-node2 .ensures)) (did-then (c .before .before .before .before .before .before .before .before .before .before .before .bump2 .ensures _) (c .before .before .before .before .before .before .parse-or-expr .ensures)))
+
+parse-atom-finish-node-requires-2 : (t : ℕ) → parse-atom-lts.Need-finish-node-requires-2 (parse-atom-calls t) (parse-atom-at t) parse-atom.Post
+parse-atom-finish-node-requires-2 t c κs = finish-room (node-room _ _ (asks-true _ _ _ (at-yes _ (c .before .before .before .before .before .before .before .before .before .before .before .before .before .before .before .before .before .before .before .before .before .before .before .before .before .current-kind .ensures) (c .before .before .before .before .before .before .before .before .before .before .before .before .before .before .before .before .before .before .before .before .before .before .before .if2 .taken)) (asks-false _ _ _ (at-no _ (c .before .before .before .before .before .before .before .before .before .before .before .before .before .before .before .before .before .before .before .before .before .before .before .before .before .current-kind .ensures) (c .before .before .before .before .before .before .before .before .before .before .before .before .before .before .before .before .before .before .before .before .before .before .before .before .if1 .left)) (asks-is atom-here-is (asks-then _ _ (asks-is step-atom-is (asks-step Atom (c .before .before .before .before .before .before .before .before .before .before .before .before .before .before .before .before .before .before .before .before .before .before .before .before .before .before .before .before .before .before .before .before .before .before .pre .1))) (c .before .before .before .before .before .before .before .before .before .before .before .before .before .before .before .before .before .before .before .before .before .before .before .before .before .before .before .before .eat-ws .ensures _)))))) (c .before .before .before .before .before .before .before .before .before .before .before .before .before .before .before .before .before .before .before .before .before .start-node2 .ensures) (did-then (did-then (c .before .before .before .before .before .before .before .before .before .before .before .before .before .before .before .before .before .bump2 .ensures _) (c .before .before .before .before .before .before .before .before .before .before .before .before .parse-or-expr .ensures)) (c .before .before .before .before .before .expect .ensures))
+
+parse-atom-same-length-3 : (t : ℕ) → parse-atom-lts.Need-same-length-3 (parse-atom-calls t) (parse-atom-at t) parse-atom.Post
+parse-atom-same-length-3 t c = finished-long (c .before .before .finish-node2 .ensures) ∙ tree-long (did-then (did-then (c .before .before .before .before .before .before .before .before .before .before .before .before .before .before .before .before .before .before .before .before .bump2 .ensures _) (c .before .before .before .before .before .before .before .before .before .before .before .before .before .before .before .parse-or-expr .ensures)) (c .before .before .before .before .before .before .before .before .expect .ensures)) ∙ started-long (c .before .before .before .before .before .before .before .before .before .before .before .before .before .before .before .before .before .before .before .before .before .before .before .before .start-node2 .ensures) ∙ tree-long (c .before .before .before .before .before .before .before .before .before .before .before .before .before .before .before .before .before .before .before .before .before .before .before .before .before .before .before .before .before .before .before .eat-ws .ensures [])
+
+parse-atom-same-length-4 : (t : ℕ) → parse-atom-lts.Need-same-length-4 (parse-atom-calls t) (parse-atom-at t) parse-atom.Post
+parse-atom-same-length-4 t c = errors-long (did-then (did-then (c .before .before .before .before .before .before .before .before .before .before .before .before .before .before .before .before .before .before .before .before .bump2 .ensures _) (c .before .before .before .before .before .before .before .before .before .before .before .before .before .before .before .parse-or-expr .ensures)) (c .before .before .before .before .before .before .before .before .expect .ensures))
+
+parse-atom-returns-2 : (t : ℕ) → parse-atom-lts.Need-returns-2 (parse-atom-calls t) (parse-atom-at t) parse-atom.Post
+parse-atom-returns-2 t c = did-step Atom (did-is step-atom-is (did-then (c .before .before .before .before .before .before .before .before .before .before .before .before .before .before .before .before .before .before .before .before .before .before .before .before .before .before .before .before .before .before .before .eat-ws .ensures _) (did-is atom-here-is (did-false _ _ _ (at-no _ (c .before .before .before .before .before .before .before .before .before .before .before .before .before .before .before .before .before .before .before .before .before .before .before .before .before .before .before .before .current-kind .ensures) (c .before .before .before .before .before .before .before .before .before .before .before .before .before .before .before .before .before .before .before .before .before .before .before .before .before .before .before .if1 .left)) (did-true _ _ _ (at-yes _ (c .before .before .before .before .before .before .before .before .before .before .before .before .before .before .before .before .before .before .before .before .before .before .before .before .before .before .before .before .current-kind .ensures) (c .before .before .before .before .before .before .before .before .before .before .before .before .before .before .before .before .before .before .before .before .before .before .before .before .before .before .if2 .taken)) (did-node (c .before .before .before .before .before .before .before .before .before .before .before .before .before .before .before .before .before .before .before .before .before .before .before .before .start-node2 .ensures) (did-then (did-then (c .before .before .before .before .before .before .before .before .before .before .before .before .before .before .before .before .before .before .before .before .bump2 .ensures _) (c .before .before .before .before .before .before .before .before .before .before .before .before .before .before .before .parse-or-expr .ensures)) (c .before .before .before .before .before .before .before .before .expect .ensures)) (c .before .before .finish-node2 .ensures)))))))
+
+parse-atom-simple-atom-requires : (t : ℕ) → parse-atom-lts.Need-simple-atom-requires (parse-atom-calls t) (parse-atom-at t) parse-atom.Post
+parse-atom-simple-atom-requires t c κs = (asks-false _ _ _ (at-no _ (c .before .before .before .before .current-kind .ensures) (c .before .before .if2 .left)) (asks-false _ _ _ (at-no _ (c .before .before .before .before .current-kind .ensures) (c .before .before .before .if1 .left)) (asks-is atom-here-is (asks-then _ _ (asks-is step-atom-is (asks-step Atom (c .before .before .before .before .before .before .before .before .before .before .before .before .before .pre .1))) (c .before .before .before .before .before .before .before .eat-ws .ensures _)))))
+
+parse-atom-same-length-5 : (t : ℕ) → parse-atom-lts.Need-same-length-5 (parse-atom-calls t) (parse-atom-at t) parse-atom.Post
+parse-atom-same-length-5 t c = tree-long (c .before .before .before .before .simple-atom .ensures) ∙ tree-long (c .before .before .before .before .before .before .before .before .before .before .before .before .eat-ws .ensures [])
+
+parse-atom-same-length-6 : (t : ℕ) → parse-atom-lts.Need-same-length-6 (parse-atom-calls t) (parse-atom-at t) parse-atom.Post
+parse-atom-same-length-6 t c = errors-long (c .before .before .before .before .simple-atom .ensures)
+
+parse-atom-returns-3 : (t : ℕ) → parse-atom-lts.Need-returns-3 (parse-atom-calls t) (parse-atom-at t) parse-atom.Post
+parse-atom-returns-3 t c = did-step Atom (did-is step-atom-is (did-then (c .before .before .before .before .before .before .before .before .before .before .before .before .eat-ws .ensures _) (did-is atom-here-is (did-false _ _ _ (at-no _ (c .before .before .before .before .before .before .before .before .before .current-kind .ensures) (c .before .before .before .before .before .before .before .before .if1 .left)) (did-false _ _ _ (at-no _ (c .before .before .before .before .before .before .before .before .before .current-kind .ensures) (c .before .before .before .before .before .before .before .if2 .left)) (c .before .before .before .before .simple-atom .ensures))))))
+
+parse-or-expr-has-binary-op-at-level-requires : (t : ℕ) → parse-or-expr-lts.Need-has-binary-op-at-level-requires (parse-or-expr-calls t) (parse-or-expr-at t) parse-or-expr.Post
+parse-or-expr-has-binary-op-at-level-requires t c κs = c .before .before .before .before .pre .1 .fits .ready
+
+parse-or-expr-start-node-requires : (t : ℕ) → parse-or-expr-lts.Need-start-node-requires (parse-or-expr-calls t) (parse-or-expr-at t) parse-or-expr.Post
+parse-or-expr-start-node-requires t c κs = node-room _ _ (asks-true _ _ _ (sym (c .before .before .has-binary-op-at-level .ensures) ∙ c .before .if1 .taken) (asks-is step-or-is (asks-step OrExpr (c .before .before .before .before .before .before .before .pre .1))))
+
+parse-or-expr-add-parse-and-expr : (t : ℕ) → parse-or-expr-lts.Need-add-parse-and-expr (parse-or-expr-calls t) (parse-or-expr-at t) parse-or-expr.Post
+parse-or-expr-add-parse-and-expr t c = record { fits = node-level _ _ (asks-true _ _ _ (sym (c .before .before .before .before .before .before .before .has-binary-op-at-level .ensures) ∙ c .before .before .before .before .before .before .if1 .taken) (asks-is step-or-is (asks-step OrExpr (c .before .before .before .before .before .before .before .before .before .before .before .before .pre .1)))) }
+
+parse-or-expr-parse-and-expr-requires : (t : ℕ) → parse-or-expr-lts.Need-parse-and-expr-requires (parse-or-expr-calls t) (parse-or-expr-at t) parse-or-expr.Post
+parse-or-expr-parse-and-expr-requires t c κs = (omega (arith, c .before .before .before .before .before .before .before .before .before .before .before .before .pre .0, c .before .before .before .before .before .before .before .before .before .before .before .before .pre .1 .fits .ready .within, table-length (c .before .before .before .before .before .before .before .before .before .before .before .before .pre .1 .fits .ready), started-token (c .before .before .before .before .start-node .ensures)), (asks-first _ _ (asks-node _ _ (asks-true _ _ _ (sym (c .before .before .before .before .before .before .before .has-binary-op-at-level .ensures) ∙ c .before .before .before .before .before .before .if1 .taken) (asks-is step-or-is (asks-step OrExpr (c .before .before .before .before .before .before .before .before .before .before .before .before .pre .1)))) (c .before .before .before .before .start-node .ensures))))
+
+parse-or-expr-add-or-rest : (t : ℕ) → parse-or-expr-lts.Need-add-or-rest (parse-or-expr-calls t) (parse-or-expr-at t) parse-or-expr.Post
+parse-or-expr-add-or-rest t c = record { fits = node-level _ _ (asks-true _ _ _ (sym (c .before .before .before .before .before .before .before .before .before .before .before .before .before .before .has-binary-op-at-level .ensures) ∙ c .before .before .before .before .before .before .before .before .before .before .before .before .before .if1 .taken) (asks-is step-or-is (asks-step OrExpr (c .before .before .before .before .before .before .before .before .before .before .before .before .before .before .before .before .before .before .before .pre .1)))) }
+
+parse-or-expr-or-rest-requires : (t : ℕ) → parse-or-expr-lts.Need-or-rest-requires (parse-or-expr-calls t) (parse-or-expr-at t) parse-or-expr.Post
+parse-or-expr-or-rest-requires t c κs = (omega (arith, c .before .before .before .before .before .before .before .before .before .before .before .before .before .before .before .before .before .before .before .pre .0, c .before .before .before .before .before .before .before .before .before .before .before .before .before .before .before .before .before .before .before .pre .1 .fits .ready .within, table-length (c .before .before .before .before .before .before .before .before .before .before .before .before .before .before .before .before .before .before .before .pre .1 .fits .ready), started-token (c .before .before .before .before .before .before .before .before .before .before .before .start-node .ensures), c .before .before .before .before .before .before .parse-and-expr .ensures .wrote .ahead, c .before .before .before .before .before .before .parse-and-expr .ensures .wrote .within), (asks-then _ _ (asks-node _ _ (asks-true _ _ _ (sym (c .before .before .before .before .before .before .before .before .before .before .before .before .before .before .has-binary-op-at-level .ensures) ∙ c .before .before .before .before .before .before .before .before .before .before .before .before .before .if1 .taken) (asks-is step-or-is (asks-step OrExpr (c .before .before .before .before .before .before .before .before .before .before .before .before .before .before .before .before .before .before .before .pre .1)))) (c .before .before .before .before .before .before .before .before .before .before .before .start-node .ensures)) (c .before .before .before .before .before .before .parse-and-expr .ensures)))
+
+parse-or-expr-finish-node-requires : (t : ℕ) → parse-or-expr-lts.Need-finish-node-requires (parse-or-expr-calls t) (parse-or-expr-at t) parse-or-expr.Post
+parse-or-expr-finish-node-requires t c κs = finish-room (node-room _ _ (asks-true _ _ _ (sym (c .before .before .before .before .before .before .before .before .before .before .before .before .before .before .before .before .before .before .before .before .has-binary-op-at-level .ensures) ∙ c .before .before .before .before .before .before .before .before .before .before .before .before .before .before .before .before .before .before .before .if1 .taken) (asks-is step-or-is (asks-step OrExpr (c .before .before .before .before .before .before .before .before .before .before .before .before .before .before .before .before .before .before .before .before .before .before .before .before .before .pre .1))))) (c .before .before .before .before .before .before .before .before .before .before .before .before .before .before .before .before .before .start-node .ensures) (did-then (c .before .before .before .before .before .before .before .before .before .before .before .before .parse-and-expr .ensures) (c .before .before .before .before .before .or-rest .ensures))
+
+parse-or-expr-same-length : (t : ℕ) → parse-or-expr-lts.Need-same-length (parse-or-expr-calls t) (parse-or-expr-at t) parse-or-expr.Post
+parse-or-expr-same-length t c = finished-long (c .before .before .finish-node .ensures) ∙ tree-long (did-then (c .before .before .before .before .before .before .before .before .before .before .before .before .before .before .before .parse-and-expr .ensures) (c .before .before .before .before .before .before .before .before .or-rest .ensures)) ∙ started-long (c .before .before .before .before .before .before .before .before .before .before .before .before .before .before .before .before .before .before .before .before .start-node .ensures)
+
+parse-or-expr-same-length-2 : (t : ℕ) → parse-or-expr-lts.Need-same-length-2 (parse-or-expr-calls t) (parse-or-expr-at t) parse-or-expr.Post
+parse-or-expr-same-length-2 t c = errors-long (did-then (c .before .before .before .before .before .before .before .before .before .before .before .before .before .before .before .parse-and-expr .ensures) (c .before .before .before .before .before .before .before .before .or-rest .ensures))
+
+parse-or-expr-returns : (t : ℕ) → parse-or-expr-lts.Need-returns (parse-or-expr-calls t) (parse-or-expr-at t) parse-or-expr.Post
+parse-or-expr-returns t c = did-step OrExpr (did-is step-or-is (did-true _ _ _ (sym (c .before .before .before .before .before .before .before .before .before .before .before .before .before .before .before .before .before .before .before .before .before .before .before .has-binary-op-at-level .ensures) ∙ c .before .before .before .before .before .before .before .before .before .before .before .before .before .before .before .before .before .before .before .before .before .before .if1 .taken) (did-node (c .before .before .before .before .before .before .before .before .before .before .before .before .before .before .before .before .before .before .before .before .start-node .ensures) (did-then (c .before .before .before .before .before .before .before .before .before .before .before .before .before .before .before .parse-and-expr .ensures) (c .before .before .before .before .before .before .before .before .or-rest .ensures)) (c .before .before .finish-node .ensures))))
+
+parse-or-expr-parse-and-expr-requires-2 : (t : ℕ) → parse-or-expr-lts.Need-parse-and-expr-requires-2 (parse-or-expr-calls t) (parse-or-expr-at t) parse-or-expr.Post
+parse-or-expr-parse-and-expr-requires-2 t c κs = (omega (arith, c .before .before .before .before .before .before .before .before .pre .0, c .before .before .before .before .before .before .before .before .pre .1 .fits .ready .within, table-length (c .before .before .before .before .before .before .before .before .pre .1 .fits .ready), c .before .before .before .before .before .before .before .before .pre .1 .fits .ready .within), (asks-false _ _ _ (sym (c .before .before .before .has-binary-op-at-level .ensures) ∙ c .before .before .if1 .left) (asks-is step-or-is (asks-step OrExpr (c .before .before .before .before .before .before .before .before .pre .1)))))
+
+parse-or-expr-same-length-3 : (t : ℕ) → parse-or-expr-lts.Need-same-length-3 (parse-or-expr-calls t) (parse-or-expr-at t) parse-or-expr.Post
+parse-or-expr-same-length-3 t c = tree-long (c .before .before .before .before .parse-and-expr2 .ensures)
+
+parse-or-expr-same-length-4 : (t : ℕ) → parse-or-expr-lts.Need-same-length-4 (parse-or-expr-calls t) (parse-or-expr-at t) parse-or-expr.Post
+parse-or-expr-same-length-4 t c = errors-long (c .before .before .before .before .parse-and-expr2 .ensures)
+
+parse-or-expr-returns-2 : (t : ℕ) → parse-or-expr-lts.Need-returns-2 (parse-or-expr-calls t) (parse-or-expr-at t) parse-or-expr.Post
+parse-or-expr-returns-2 t c = did-step OrExpr (did-is step-or-is (did-false _ _ _ (sym (c .before .before .before .before .before .before .before .before .has-binary-op-at-level .ensures) ∙ c .before .before .before .before .before .before .before .if1 .left) (c .before .before .before .before .parse-and-expr2 .ensures)))
 
 pub +and-rest+or-rest+parse-and-expr+parse-atom+parse-or-expr-spec : {M : Type 1} → statement M
 +and-rest+or-rest+parse-and-expr+parse-atom+parse-or-expr-spec =
@@ -1332,16 +341,7 @@ pub +and-rest+or-rest+parse-and-expr+parse-atom+parse-or-expr-spec : {M : Type 1
     μ-parse-and-expr
     μ-parse-atom
     μ-parse-or-expr
-    (λ t. and-rest-lts.spec (
-      current-kind-reads.Asked,
-      current-kind-reads.Learnt,
-      bump-reads.Asked,
-      bump-reads.Learnt,
-      parse-atom-below t,
-      parse-atom.Post,
-      and-rest-below t,
-      and-rest.Post,
-    )
+    (λ t. and-rest-lts.spec (and-rest-calls t)
     (and-rest-at t)
     and-rest.Post
     (and-rest-current-kind-requires t)
@@ -1352,16 +352,7 @@ pub +and-rest+or-rest+parse-and-expr+parse-atom+parse-or-expr-spec : {M : Type 1
     (and-rest-same-length-2 t)
     (and-rest-returns t)
     (and-rest-returns-2 t))
-    (λ t. or-rest-lts.spec (
-      current-kind-reads.Asked,
-      current-kind-reads.Learnt,
-      bump-reads.Asked,
-      bump-reads.Learnt,
-      parse-and-expr-below t,
-      parse-and-expr.Post,
-      or-rest-below t,
-      or-rest.Post,
-    )
+    (λ t. or-rest-lts.spec (or-rest-calls t)
     (or-rest-at t)
     or-rest.Post
     (or-rest-current-kind-requires t)
@@ -1372,18 +363,7 @@ pub +and-rest+or-rest+parse-and-expr+parse-atom+parse-or-expr-spec : {M : Type 1
     (or-rest-same-length-2 t)
     (or-rest-returns t)
     (or-rest-returns-2 t))
-    (λ t. parse-and-expr-lts.spec (
-      has-binary-op-at-level-reads.Asked,
-      has-binary-op-at-level-reads.Learnt,
-      start-node-reads.Asked,
-      start-node-reads.Learnt,
-      parse-atom-below t,
-      parse-atom.Post,
-      and-rest-below t,
-      and-rest.Post,
-      finish-node-reads.Asked,
-      finish-node-reads.Learnt,
-    )
+    (λ t. parse-and-expr-lts.spec (parse-and-expr-calls t)
     (parse-and-expr-at t)
     parse-and-expr.Post
     (parse-and-expr-has-binary-op-at-level-requires t)
@@ -1400,26 +380,7 @@ pub +and-rest+or-rest+parse-and-expr+parse-atom+parse-or-expr-spec : {M : Type 1
     (parse-and-expr-same-length-3 t)
     (parse-and-expr-same-length-4 t)
     (parse-and-expr-returns-2 t))
-    (λ t. parse-atom-lts.spec (
-      eat-ws-reads.Asked,
-      eat-ws-reads.Learnt,
-      current-kind-reads.Asked,
-      current-kind-reads.Learnt,
-      start-node-reads.Asked,
-      start-node-reads.Learnt,
-      bump-reads.Asked,
-      bump-reads.Learnt,
-      parse-atom-below t,
-      parse-atom.Post,
-      finish-node-reads.Asked,
-      finish-node-reads.Learnt,
-      parse-or-expr-below t,
-      parse-or-expr.Post,
-      expect-reads.Asked,
-      expect-reads.Learnt,
-      simple-atom-reads.Asked,
-      simple-atom-reads.Learnt,
-    )
+    (λ t. parse-atom-lts.spec (parse-atom-calls t)
     (parse-atom-at t)
     parse-atom.Post
     (parse-atom-eat-ws-requires t)
@@ -1448,18 +409,7 @@ pub +and-rest+or-rest+parse-and-expr+parse-atom+parse-or-expr-spec : {M : Type 1
     (parse-atom-same-length-5 t)
     (parse-atom-same-length-6 t)
     (parse-atom-returns-3 t))
-    λ t. parse-or-expr-lts.spec (
-      has-binary-op-at-level-reads.Asked,
-      has-binary-op-at-level-reads.Learnt,
-      start-node-reads.Asked,
-      start-node-reads.Learnt,
-      parse-and-expr-below t,
-      parse-and-expr.Post,
-      or-rest-below t,
-      or-rest.Post,
-      finish-node-reads.Asked,
-      finish-node-reads.Learnt,
-    )
+    λ t. parse-or-expr-lts.spec (parse-or-expr-calls t)
     (parse-or-expr-at t)
     parse-or-expr.Post
     (parse-or-expr-has-binary-op-at-level-requires t)

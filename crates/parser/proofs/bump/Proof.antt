@@ -1,25 +1,21 @@
 -- `bump` eats blanks and then takes a token. Assumes nothing.
 use mathlib.Core.List.{[]}
-use Rattle.parser.specs.Parse.{bump}
-use Rattle.parser.proofs.WritingLaws.{did-then, fits-first, fits-then, tree-long}
+use Rattle.parser.proofs.ParseLaws.{bump-is}
+use Rattle.parser.proofs.WritingLaws.{did-then, fits-first, fits-then, tree-long, fits-is, did-is}
 use Rattle.parser.proofs.bump.Statement.{statement}
 use Rattle.parser.proofs.bump.Tie as tie
 
 eat-ws-requires : tie.Need-eat-ws-requires
-unfolding bump
-eat-ws-requires c κs = fits-first _ _ (c .before .before .before .before .pre)
+eat-ws-requires c κs = fits-first _ _ (fits-is bump-is (c .before .before .before .before .pre))
 
 put-token-requires : tie.Need-put-token-requires
-unfolding bump
-put-token-requires c κs = fits-then _ _ (c .before .before .before .before .before .before .before .before .pre) (c .before .before .before .eat-ws .ensures [])
+put-token-requires c κs = fits-then _ _ (fits-is bump-is (c .before .before .before .before .before .before .before .before .pre)) (c .before .before .before .eat-ws .ensures [])
 
 same-length : tie.Need-same-length
-unfolding bump
 same-length c = tree-long (did-then (c .before .before .before .before .before .before .eat-ws .ensures []) (c .before .before .put-token .ensures []))
 
 returns : tie.Need-returns
-unfolding bump
-returns c = λ e. did-then (c .before .before .before .before .before .before .eat-ws .ensures e) (c .before .before .put-token .ensures e)
+returns c = λ e. did-is bump-is (did-then (c .before .before .before .before .before .before .eat-ws .ensures e) (c .before .before .put-token .ensures e))
 
 pub bump-spec : {M : Type 1} → statement M
 bump-spec = tie.close (tie.spec eat-ws-requires put-token-requires same-length returns)

@@ -1,53 +1,42 @@
 -- `compare_expr` follows `compareExpr`. Assumes nothing.
 use mathlib.Core.Path.{_∙_}
-use Rattle.parser.specs.Parse.{compareExpr}
-use Rattle.parser.proofs.WritingLaws.{did-then, asks-first, asks-then, tree-long, errors-long, node-room, node-level, asks-node, did-node, started-long, finished-long, finish-room}
+use Rattle.parser.proofs.ParseLaws.{compare-expr-is}
+use Rattle.parser.proofs.WritingLaws.{did-then, asks-first, asks-then, tree-long, errors-long, node-room, node-level, asks-node, did-node, started-long, finished-long, finish-room, asks-is, did-is}
 use Rattle.parser.proofs.compare_expr.Statement.{statement}
 use Rattle.parser.proofs.compare_expr.Tie as tie
 
 start-node-requires : tie.Need-start-node-requires
-unfolding compareExpr
-start-node-requires c κs = node-room _ _ (c .before .before .before .before .before .pre)
+start-node-requires c κs = node-room _ _ (asks-is compare-expr-is (c .before .before .before .before .before .pre))
 
 add-bump : tie.Need-add-bump
-unfolding compareExpr
-add-bump c = record { fits = node-level _ _ (c .before .before .before .before .before .before .before .before .before .pre) }
+add-bump c = record { fits = node-level _ _ (asks-is compare-expr-is (c .before .before .before .before .before .before .before .before .before .pre)) }
 
 bump-requires : tie.Need-bump-requires
-unfolding compareExpr
-bump-requires c κs = (asks-first _ _ (asks-first _ _ (asks-node _ _ (c .before .before .before .before .before .before .before .before .before .pre) (c .before .before .before .start-node .ensures)))) .fits
+bump-requires c κs = (asks-first _ _ (asks-first _ _ (asks-node _ _ (asks-is compare-expr-is (c .before .before .before .before .before .before .before .before .before .pre)) (c .before .before .before .start-node .ensures)))) .fits
 
 add-expect : tie.Need-add-expect
-unfolding compareExpr
-add-expect c = record { fits = node-level _ _ (c .before .before .before .before .before .before .before .before .before .before .before .before .before .before .pre) }
+add-expect c = record { fits = node-level _ _ (asks-is compare-expr-is (c .before .before .before .before .before .before .before .before .before .before .before .before .before .before .pre)) }
 
 expect-requires : tie.Need-expect-requires
-unfolding compareExpr
-expect-requires c κs = (asks-then _ _ (asks-first _ _ (asks-node _ _ (c .before .before .before .before .before .before .before .before .before .before .before .before .before .before .pre) (c .before .before .before .before .before .before .before .before .start-node .ensures))) (c .before .before .before .before .bump .ensures _))
+expect-requires c κs = (asks-then _ _ (asks-first _ _ (asks-node _ _ (asks-is compare-expr-is (c .before .before .before .before .before .before .before .before .before .before .before .before .before .before .pre)) (c .before .before .before .before .before .before .before .before .start-node .ensures))) (c .before .before .before .before .bump .ensures _))
 
 add-literal : tie.Need-add-literal
-unfolding compareExpr
-add-literal c = record { fits = node-level _ _ (c .before .before .before .before .before .before .before .before .before .before .before .before .before .before .before .before .before .before .before .before .before .pre) }
+add-literal c = record { fits = node-level _ _ (asks-is compare-expr-is (c .before .before .before .before .before .before .before .before .before .before .before .before .before .before .before .before .before .before .before .before .before .pre)) }
 
 literal-requires : tie.Need-literal-requires
-unfolding compareExpr
-literal-requires c κs = (asks-then _ _ (asks-node _ _ (c .before .before .before .before .before .before .before .before .before .before .before .before .before .before .before .before .before .before .before .before .before .pre) (c .before .before .before .before .before .before .before .before .before .before .before .before .before .before .before .start-node .ensures)) (did-then (c .before .before .before .before .before .before .before .before .before .before .before .bump .ensures _) (c .before .before .before .before .before .before .expect .ensures)))
+literal-requires c κs = (asks-then _ _ (asks-node _ _ (asks-is compare-expr-is (c .before .before .before .before .before .before .before .before .before .before .before .before .before .before .before .before .before .before .before .before .before .pre)) (c .before .before .before .before .before .before .before .before .before .before .before .before .before .before .before .start-node .ensures)) (did-then (c .before .before .before .before .before .before .before .before .before .before .before .bump .ensures _) (c .before .before .before .before .before .before .expect .ensures)))
 
 finish-node-requires : tie.Need-finish-node-requires
-unfolding compareExpr
-finish-node-requires c κs = finish-room (node-room _ _ (c .before .before .before .before .before .before .before .before .before .before .before .before .before .before .before .before .before .before .before .before .before .before .before .before .before .before .before .pre)) (c .before .before .before .before .before .before .before .before .before .before .before .before .before .before .before .before .before .before .before .before .before .start-node .ensures) (did-then (did-then (c .before .before .before .before .before .before .before .before .before .before .before .before .before .before .before .before .before .bump .ensures _) (c .before .before .before .before .before .before .before .before .before .before .before .before .expect .ensures)) (c .before .before .before .before .before .literal .ensures))
+finish-node-requires c κs = finish-room (node-room _ _ (asks-is compare-expr-is (c .before .before .before .before .before .before .before .before .before .before .before .before .before .before .before .before .before .before .before .before .before .before .before .before .before .before .before .pre))) (c .before .before .before .before .before .before .before .before .before .before .before .before .before .before .before .before .before .before .before .before .before .start-node .ensures) (did-then (did-then (c .before .before .before .before .before .before .before .before .before .before .before .before .before .before .before .before .before .bump .ensures _) (c .before .before .before .before .before .before .before .before .before .before .before .before .expect .ensures)) (c .before .before .before .before .before .literal .ensures))
 
 same-length : tie.Need-same-length
-unfolding compareExpr
 same-length c = finished-long (c .before .before .finish-node .ensures) ∙ tree-long (did-then (did-then (c .before .before .before .before .before .before .before .before .before .before .before .before .before .before .before .before .before .before .before .before .bump .ensures _) (c .before .before .before .before .before .before .before .before .before .before .before .before .before .before .before .expect .ensures)) (c .before .before .before .before .before .before .before .before .literal .ensures)) ∙ started-long (c .before .before .before .before .before .before .before .before .before .before .before .before .before .before .before .before .before .before .before .before .before .before .before .before .start-node .ensures)
 
 same-length-2 : tie.Need-same-length-2
-unfolding compareExpr
 same-length-2 c = errors-long (did-then (did-then (c .before .before .before .before .before .before .before .before .before .before .before .before .before .before .before .before .before .before .before .before .bump .ensures _) (c .before .before .before .before .before .before .before .before .before .before .before .before .before .before .before .expect .ensures)) (c .before .before .before .before .before .before .before .before .literal .ensures))
 
 returns : tie.Need-returns
-unfolding compareExpr
-returns c = (did-node (c .before .before .before .before .before .before .before .before .before .before .before .before .before .before .before .before .before .before .before .before .before .before .before .before .start-node .ensures) (did-then (did-then (c .before .before .before .before .before .before .before .before .before .before .before .before .before .before .before .before .before .before .before .before .bump .ensures _) (c .before .before .before .before .before .before .before .before .before .before .before .before .before .before .before .expect .ensures)) (c .before .before .before .before .before .before .before .before .literal .ensures)) (c .before .before .finish-node .ensures))
+returns c = did-is compare-expr-is ((did-node (c .before .before .before .before .before .before .before .before .before .before .before .before .before .before .before .before .before .before .before .before .before .before .before .before .start-node .ensures) (did-then (did-then (c .before .before .before .before .before .before .before .before .before .before .before .before .before .before .before .before .before .before .before .before .bump .ensures _) (c .before .before .before .before .before .before .before .before .before .before .before .before .before .before .before .expect .ensures)) (c .before .before .before .before .before .before .before .before .literal .ensures)) (c .before .before .finish-node .ensures)))
 
 pub compare-expr-spec : {M : Type 1} → statement M
 compare-expr-spec =

@@ -1,46 +1,37 @@
 -- `expect` follows `expect`. Assumes nothing.
 use mathlib.Core.List.{[]}
-use Rattle.parser.specs.Parse.{expect}
-use Rattle.parser.proofs.WritingLaws.{did-then, asks-first, asks-then, tree-long, errors-long, ready-then, asks-true, asks-false, did-true, did-false}
+use Rattle.parser.proofs.ParseLaws.{expect-is}
+use Rattle.parser.proofs.WritingLaws.{did-then, asks-first, asks-then, tree-long, errors-long, ready-then, asks-true, asks-false, did-true, did-false, asks-is, did-is}
 use Rattle.parser.proofs.LookLaws.{next-yes, next-no, fail-room}
 use Rattle.parser.proofs.expect.Statement.{statement}
 use Rattle.parser.proofs.expect.Tie as tie
 
 eat-ws-requires : tie.Need-eat-ws-requires
-unfolding expect
-eat-ws-requires c κs = asks-first _ _ (c .before .before .before .before .before .pre) .fits
+eat-ws-requires c κs = asks-first _ _ (asks-is (expect-is _) (c .before .before .before .before .before .pre)) .fits
 
 next-kind-requires : tie.Need-next-kind-requires
-unfolding expect
 next-kind-requires c κs = ready-then (c .before .before .eat-ws .ensures []) (c .before .before .before .before .before .before .before .before .pre .fits .ready)
 
 put-token-requires : tie.Need-put-token-requires
-unfolding expect
-put-token-requires c κs = asks-true _ _ _ (next-yes _ (c .before .before .next-kind .ensures) (c .before .if1 .taken)) (asks-then _ _ (c .before .before .before .before .before .before .before .before .before .before .before .pre) (c .before .before .before .before .before .eat-ws .ensures _)) .fits
+put-token-requires c κs = asks-true _ _ _ (next-yes _ (c .before .before .next-kind .ensures) (c .before .if1 .taken)) (asks-then _ _ (asks-is (expect-is _) (c .before .before .before .before .before .before .before .before .before .before .before .pre)) (c .before .before .before .before .before .eat-ws .ensures _)) .fits
 
 same-length : tie.Need-same-length
-unfolding expect
 same-length c = tree-long (did-then (c .before .before .before .before .before .before .before .before .eat-ws .ensures []) (c .before .before .put-token .ensures []))
 
 returns : tie.Need-returns
-unfolding expect
-returns c = did-then (c .before .before .before .before .before .before .before .before .eat-ws .ensures _) (did-true _ _ _ (next-yes _ (c .before .before .before .before .before .next-kind .ensures) (c .before .before .before .before .if1 .taken)) (c .before .before .put-token .ensures _))
+returns c = did-is (expect-is _) (did-then (c .before .before .before .before .before .before .before .before .eat-ws .ensures _) (did-true _ _ _ (next-yes _ (c .before .before .before .before .before .next-kind .ensures) (c .before .before .before .before .if1 .taken)) (c .before .before .put-token .ensures _)))
 
 fail-requires : tie.Need-fail-requires
-unfolding expect
-fail-requires c κs = ((asks-then _ _ (c .before .before .before .before .before .before .before .before .before .before .before .pre) (c .before .before .before .before .before .eat-ws .ensures _)) .fits .ready, fail-room _ _ (asks-false _ _ _ (next-no _ (c .before .before .next-kind .ensures) (c .before .if1 .left)) (asks-then _ _ (c .before .before .before .before .before .before .before .before .before .before .before .pre) (c .before .before .before .before .before .eat-ws .ensures _))))
+fail-requires c κs = ((asks-then _ _ (asks-is (expect-is _) (c .before .before .before .before .before .before .before .before .before .before .before .pre)) (c .before .before .before .before .before .eat-ws .ensures _)) .fits .ready, fail-room _ _ (asks-false _ _ _ (next-no _ (c .before .before .next-kind .ensures) (c .before .if1 .left)) (asks-then _ _ (asks-is (expect-is _) (c .before .before .before .before .before .before .before .before .before .before .before .pre)) (c .before .before .before .before .before .eat-ws .ensures _))))
 
 same-length-2 : tie.Need-same-length-2
-unfolding expect
 same-length-2 c = tree-long (c .before .before .before .before .before .before .before .before .eat-ws .ensures [])
 
 same-length-3 : tie.Need-same-length-3
-unfolding expect
-same-length-3 c = errors-long (did-then (c .before .before .before .before .before .before .before .before .eat-ws .ensures _) (did-false _ _ _ (next-no _ (c .before .before .before .before .before .next-kind .ensures) (c .before .before .before .before .if1 .left)) (c .before .before .fail .ensures _ _)))
+same-length-3 c = errors-long (c .before .before .fail .ensures [] 0)
 
 returns-2 : tie.Need-returns-2
-unfolding expect
-returns-2 c = (did-then (c .before .before .before .before .before .before .before .before .eat-ws .ensures _) (did-false _ _ _ (next-no _ (c .before .before .before .before .before .next-kind .ensures) (c .before .before .before .before .if1 .left)) (c .before .before .fail .ensures _ _)))
+returns-2 c = did-is (expect-is _) ((did-then (c .before .before .before .before .before .before .before .before .eat-ws .ensures _) (did-false _ _ _ (next-no _ (c .before .before .before .before .before .next-kind .ensures) (c .before .before .before .before .if1 .left)) (c .before .before .fail .ensures _ _))))
 
 pub expect-spec : {M : Type 1} → statement M
 expect-spec =

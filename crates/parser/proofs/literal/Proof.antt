@@ -1,37 +1,30 @@
 -- `literal` follows `literal`. Assumes nothing.
 use mathlib.Core.Path.{_∙_}
-use Rattle.parser.specs.Parse.{literal}
-use Rattle.parser.proofs.WritingLaws.{tree-long, errors-long, node-room, node-level, asks-node, did-node, started-long, finished-long, finish-room}
+use Rattle.parser.proofs.ParseLaws.{literal-is}
+use Rattle.parser.proofs.WritingLaws.{tree-long, errors-long, node-room, node-level, asks-node, did-node, started-long, finished-long, finish-room, asks-is, did-is}
 use Rattle.parser.proofs.literal.Statement.{statement}
 use Rattle.parser.proofs.literal.Tie as tie
 
 start-node-requires : tie.Need-start-node-requires
-unfolding literal
-start-node-requires c κs = node-room _ _ (c .before .before .before .before .before .pre)
+start-node-requires c κs = node-room _ _ (asks-is literal-is (c .before .before .before .before .before .pre))
 
 add-expect : tie.Need-add-expect
-unfolding literal
-add-expect c = record { fits = node-level _ _ (c .before .before .before .before .before .before .before .before .before .before .pre) }
+add-expect c = record { fits = node-level _ _ (asks-is literal-is (c .before .before .before .before .before .before .before .before .before .before .pre)) }
 
 expect-requires : tie.Need-expect-requires
-unfolding literal
-expect-requires c κs = (asks-node _ _ (c .before .before .before .before .before .before .before .before .before .before .pre) (c .before .before .before .before .start-node .ensures))
+expect-requires c κs = (asks-node _ _ (asks-is literal-is (c .before .before .before .before .before .before .before .before .before .before .pre)) (c .before .before .before .before .start-node .ensures))
 
 finish-node-requires : tie.Need-finish-node-requires
-unfolding literal
-finish-node-requires c κs = finish-room (node-room _ _ (c .before .before .before .before .before .before .before .before .before .before .before .before .before .before .before .before .pre)) (c .before .before .before .before .before .before .before .before .before .before .start-node .ensures) (c .before .before .before .before .before .expect .ensures)
+finish-node-requires c κs = finish-room (node-room _ _ (asks-is literal-is (c .before .before .before .before .before .before .before .before .before .before .before .before .before .before .before .before .pre))) (c .before .before .before .before .before .before .before .before .before .before .start-node .ensures) (c .before .before .before .before .before .expect .ensures)
 
 same-length : tie.Need-same-length
-unfolding literal
 same-length c = finished-long (c .before .before .finish-node .ensures) ∙ tree-long (c .before .before .before .before .before .before .before .before .expect .ensures) ∙ started-long (c .before .before .before .before .before .before .before .before .before .before .before .before .before .start-node .ensures)
 
 same-length-2 : tie.Need-same-length-2
-unfolding literal
 same-length-2 c = errors-long (c .before .before .before .before .before .before .before .before .expect .ensures)
 
 returns : tie.Need-returns
-unfolding literal
-returns c = (did-node (c .before .before .before .before .before .before .before .before .before .before .before .before .before .start-node .ensures) (c .before .before .before .before .before .before .before .before .expect .ensures) (c .before .before .finish-node .ensures))
+returns c = did-is literal-is ((did-node (c .before .before .before .before .before .before .before .before .before .before .before .before .before .start-node .ensures) (c .before .before .before .before .before .before .before .before .expect .ensures) (c .before .before .finish-node .ensures)))
 
 pub literal-spec : {M : Type 1} → statement M
 literal-spec =

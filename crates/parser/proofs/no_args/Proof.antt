@@ -1,45 +1,36 @@
 -- `no_args` follows `noArgs`. Assumes nothing.
 use mathlib.Core.Path.{_∙_}
-use Rattle.parser.specs.Parse.{noArgs}
-use Rattle.parser.proofs.WritingLaws.{did-then, asks-first, asks-then, tree-long, errors-long, node-room, node-level, asks-node, did-node, started-long, finished-long, finish-room}
+use Rattle.parser.proofs.ParseLaws.{no-args-is}
+use Rattle.parser.proofs.WritingLaws.{did-then, asks-first, asks-then, tree-long, errors-long, node-room, node-level, asks-node, did-node, started-long, finished-long, finish-room, asks-is, did-is}
 use Rattle.parser.proofs.no_args.Statement.{statement}
 use Rattle.parser.proofs.no_args.Tie as tie
 
 start-node-requires : tie.Need-start-node-requires
-unfolding noArgs
-start-node-requires c κs = node-room _ _ (c .before .before .before .before .before .pre)
+start-node-requires c κs = node-room _ _ (asks-is no-args-is (c .before .before .before .before .before .pre))
 
 add-expect : tie.Need-add-expect
-unfolding noArgs
-add-expect c = record { fits = node-level _ _ (c .before .before .before .before .before .before .before .before .before .before .pre) }
+add-expect c = record { fits = node-level _ _ (asks-is no-args-is (c .before .before .before .before .before .before .before .before .before .before .pre)) }
 
 expect-requires : tie.Need-expect-requires
-unfolding noArgs
-expect-requires c κs = (asks-first _ _ (asks-node _ _ (c .before .before .before .before .before .before .before .before .before .before .pre) (c .before .before .before .before .start-node .ensures)))
+expect-requires c κs = (asks-first _ _ (asks-node _ _ (asks-is no-args-is (c .before .before .before .before .before .before .before .before .before .before .pre)) (c .before .before .before .before .start-node .ensures)))
 
 add-expect-2 : tie.Need-add-expect-2
-unfolding noArgs
-add-expect-2 c = record { fits = node-level _ _ (c .before .before .before .before .before .before .before .before .before .before .before .before .before .before .before .before .before .pre) }
+add-expect-2 c = record { fits = node-level _ _ (asks-is no-args-is (c .before .before .before .before .before .before .before .before .before .before .before .before .before .before .before .before .before .pre)) }
 
 expect-requires-2 : tie.Need-expect-requires-2
-unfolding noArgs
-expect-requires-2 c κs = (asks-then _ _ (asks-node _ _ (c .before .before .before .before .before .before .before .before .before .before .before .before .before .before .before .before .before .pre) (c .before .before .before .before .before .before .before .before .before .before .before .start-node .ensures)) (c .before .before .before .before .before .before .expect .ensures))
+expect-requires-2 c κs = (asks-then _ _ (asks-node _ _ (asks-is no-args-is (c .before .before .before .before .before .before .before .before .before .before .before .before .before .before .before .before .before .pre)) (c .before .before .before .before .before .before .before .before .before .before .before .start-node .ensures)) (c .before .before .before .before .before .before .expect .ensures))
 
 finish-node-requires : tie.Need-finish-node-requires
-unfolding noArgs
-finish-node-requires c κs = finish-room (node-room _ _ (c .before .before .before .before .before .before .before .before .before .before .before .before .before .before .before .before .before .before .before .before .before .before .before .pre)) (c .before .before .before .before .before .before .before .before .before .before .before .before .before .before .before .before .before .start-node .ensures) (did-then (c .before .before .before .before .before .before .before .before .before .before .before .before .expect .ensures) (c .before .before .before .before .before .expect2 .ensures))
+finish-node-requires c κs = finish-room (node-room _ _ (asks-is no-args-is (c .before .before .before .before .before .before .before .before .before .before .before .before .before .before .before .before .before .before .before .before .before .before .before .pre))) (c .before .before .before .before .before .before .before .before .before .before .before .before .before .before .before .before .before .start-node .ensures) (did-then (c .before .before .before .before .before .before .before .before .before .before .before .before .expect .ensures) (c .before .before .before .before .before .expect2 .ensures))
 
 same-length : tie.Need-same-length
-unfolding noArgs
 same-length c = finished-long (c .before .before .finish-node .ensures) ∙ tree-long (did-then (c .before .before .before .before .before .before .before .before .before .before .before .before .before .before .before .expect .ensures) (c .before .before .before .before .before .before .before .before .expect2 .ensures)) ∙ started-long (c .before .before .before .before .before .before .before .before .before .before .before .before .before .before .before .before .before .before .before .before .start-node .ensures)
 
 same-length-2 : tie.Need-same-length-2
-unfolding noArgs
 same-length-2 c = errors-long (did-then (c .before .before .before .before .before .before .before .before .before .before .before .before .before .before .before .expect .ensures) (c .before .before .before .before .before .before .before .before .expect2 .ensures))
 
 returns : tie.Need-returns
-unfolding noArgs
-returns c = (did-node (c .before .before .before .before .before .before .before .before .before .before .before .before .before .before .before .before .before .before .before .before .start-node .ensures) (did-then (c .before .before .before .before .before .before .before .before .before .before .before .before .before .before .before .expect .ensures) (c .before .before .before .before .before .before .before .before .expect2 .ensures)) (c .before .before .finish-node .ensures))
+returns c = did-is no-args-is ((did-node (c .before .before .before .before .before .before .before .before .before .before .before .before .before .before .before .before .before .before .before .before .start-node .ensures) (did-then (c .before .before .before .before .before .before .before .before .before .before .before .before .before .before .before .expect .ensures) (c .before .before .before .before .before .before .before .before .expect2 .ensures)) (c .before .before .finish-node .ensures)))
 
 pub no-args-spec : {M : Type 1} → statement M
 no-args-spec =

@@ -1,45 +1,36 @@
 -- `parse_dot_call` follows `parseDotCall`. Assumes nothing.
 use mathlib.Core.Path.{_∙_}
-use Rattle.parser.specs.Parse.{parseDotCall}
-use Rattle.parser.proofs.WritingLaws.{did-then, asks-first, asks-then, tree-long, errors-long, node-room, node-level, asks-node, did-node, started-long, finished-long, finish-room}
+use Rattle.parser.proofs.ParseLaws.{parse-dot-call-is}
+use Rattle.parser.proofs.WritingLaws.{did-then, asks-first, asks-then, tree-long, errors-long, node-room, node-level, asks-node, did-node, started-long, finished-long, finish-room, asks-is, did-is}
 use Rattle.parser.proofs.parse_dot_call.Statement.{statement}
 use Rattle.parser.proofs.parse_dot_call.Tie as tie
 
 start-node-requires : tie.Need-start-node-requires
-unfolding parseDotCall
-start-node-requires c κs = node-room _ _ (c .before .before .before .before .before .pre)
+start-node-requires c κs = node-room _ _ (asks-is parse-dot-call-is (c .before .before .before .before .before .pre))
 
 add-expect : tie.Need-add-expect
-unfolding parseDotCall
-add-expect c = record { fits = node-level _ _ (c .before .before .before .before .before .before .before .before .before .before .pre) }
+add-expect c = record { fits = node-level _ _ (asks-is parse-dot-call-is (c .before .before .before .before .before .before .before .before .before .before .pre)) }
 
 expect-requires : tie.Need-expect-requires
-unfolding parseDotCall
-expect-requires c κs = (asks-first _ _ (asks-node _ _ (c .before .before .before .before .before .before .before .before .before .before .pre) (c .before .before .before .before .start-node .ensures)))
+expect-requires c κs = (asks-first _ _ (asks-node _ _ (asks-is parse-dot-call-is (c .before .before .before .before .before .before .before .before .before .before .pre)) (c .before .before .before .before .start-node .ensures)))
 
 add-parse-method : tie.Need-add-parse-method
-unfolding parseDotCall
-add-parse-method c = record { fits = node-level _ _ (c .before .before .before .before .before .before .before .before .before .before .before .before .before .before .before .before .before .pre) }
+add-parse-method c = record { fits = node-level _ _ (asks-is parse-dot-call-is (c .before .before .before .before .before .before .before .before .before .before .before .before .before .before .before .before .before .pre)) }
 
 parse-method-requires : tie.Need-parse-method-requires
-unfolding parseDotCall
-parse-method-requires c κs = (asks-then _ _ (asks-node _ _ (c .before .before .before .before .before .before .before .before .before .before .before .before .before .before .before .before .before .pre) (c .before .before .before .before .before .before .before .before .before .before .before .start-node .ensures)) (c .before .before .before .before .before .before .expect .ensures))
+parse-method-requires c κs = (asks-then _ _ (asks-node _ _ (asks-is parse-dot-call-is (c .before .before .before .before .before .before .before .before .before .before .before .before .before .before .before .before .before .pre)) (c .before .before .before .before .before .before .before .before .before .before .before .start-node .ensures)) (c .before .before .before .before .before .before .expect .ensures))
 
 finish-node-requires : tie.Need-finish-node-requires
-unfolding parseDotCall
-finish-node-requires c κs = finish-room (node-room _ _ (c .before .before .before .before .before .before .before .before .before .before .before .before .before .before .before .before .before .before .before .before .before .before .before .pre)) (c .before .before .before .before .before .before .before .before .before .before .before .before .before .before .before .before .before .start-node .ensures) (did-then (c .before .before .before .before .before .before .before .before .before .before .before .before .expect .ensures) (c .before .before .before .before .before .parse-method .ensures))
+finish-node-requires c κs = finish-room (node-room _ _ (asks-is parse-dot-call-is (c .before .before .before .before .before .before .before .before .before .before .before .before .before .before .before .before .before .before .before .before .before .before .before .pre))) (c .before .before .before .before .before .before .before .before .before .before .before .before .before .before .before .before .before .start-node .ensures) (did-then (c .before .before .before .before .before .before .before .before .before .before .before .before .expect .ensures) (c .before .before .before .before .before .parse-method .ensures))
 
 same-length : tie.Need-same-length
-unfolding parseDotCall
 same-length c = finished-long (c .before .before .finish-node .ensures) ∙ tree-long (did-then (c .before .before .before .before .before .before .before .before .before .before .before .before .before .before .before .expect .ensures) (c .before .before .before .before .before .before .before .before .parse-method .ensures)) ∙ started-long (c .before .before .before .before .before .before .before .before .before .before .before .before .before .before .before .before .before .before .before .before .start-node .ensures)
 
 same-length-2 : tie.Need-same-length-2
-unfolding parseDotCall
 same-length-2 c = errors-long (did-then (c .before .before .before .before .before .before .before .before .before .before .before .before .before .before .before .expect .ensures) (c .before .before .before .before .before .before .before .before .parse-method .ensures))
 
 returns : tie.Need-returns
-unfolding parseDotCall
-returns c = (did-node (c .before .before .before .before .before .before .before .before .before .before .before .before .before .before .before .before .before .before .before .before .start-node .ensures) (did-then (c .before .before .before .before .before .before .before .before .before .before .before .before .before .before .before .expect .ensures) (c .before .before .before .before .before .before .before .before .parse-method .ensures)) (c .before .before .finish-node .ensures))
+returns c = did-is parse-dot-call-is ((did-node (c .before .before .before .before .before .before .before .before .before .before .before .before .before .before .before .before .before .before .before .before .start-node .ensures) (did-then (c .before .before .before .before .before .before .before .before .before .before .before .before .before .before .before .expect .ensures) (c .before .before .before .before .before .before .before .before .parse-method .ensures)) (c .before .before .finish-node .ensures)))
 
 pub parse-dot-call-spec : {M : Type 1} → statement M
 parse-dot-call-spec =

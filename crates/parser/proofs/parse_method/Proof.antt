@@ -1,94 +1,74 @@
 -- `parse_method` follows `parseMethod`, test by test. Assumes nothing.
 use mathlib.Core.Path.{sym, _∙_}
 use mathlib.Core.List.{[]}
-use Rattle.parser.specs.Parse.{parseMethod}
-use Rattle.parser.proofs.WritingLaws.{did-then, asks-first, asks-then, tree-long, errors-long, asks-true, asks-false, did-true, did-false}
+use Rattle.parser.proofs.ParseLaws.{parse-method-is}
+use Rattle.parser.proofs.WritingLaws.{did-then, asks-first, asks-then, tree-long, errors-long, asks-true, asks-false, did-true, did-false, asks-is, did-is}
 use borrow.Author.Needs.{needs}
 use Rattle.parser.proofs.parse_method.Statement.{statement}
 use Rattle.parser.proofs.parse_method.Tie as tie
 
 at-predicate-method-requires : tie.Need-at-predicate-method-requires
-unfolding parseMethod
 at-predicate-method-requires c κs = c .before .before .before .before .pre .fits .ready
 
 bump-requires : tie.Need-bump-requires
-unfolding parseMethod
-bump-requires c κs = (asks-first _ _ (asks-true _ _ _ (sym (c .before .before .at-predicate-method .ensures) ∙ c .before .if1 .taken) (c .before .before .before .before .before .before .before .pre))) .fits
+bump-requires c κs = (asks-first _ _ (asks-true _ _ _ (sym (c .before .before .at-predicate-method .ensures) ∙ c .before .if1 .taken) (asks-is parse-method-is (c .before .before .before .before .before .before .before .pre)))) .fits
 
 predicate-args-requires : tie.Need-predicate-args-requires
-unfolding parseMethod
-predicate-args-requires c κs = (asks-then _ _ (asks-true _ _ _ (sym (c .before .before .before .before .before .before .before .at-predicate-method .ensures) ∙ c .before .before .before .before .before .before .if1 .taken) (c .before .before .before .before .before .before .before .before .before .before .before .before .pre)) (c .before .before .before .before .bump .ensures _))
+predicate-args-requires c κs = (asks-then _ _ (asks-true _ _ _ (sym (c .before .before .before .before .before .before .before .at-predicate-method .ensures) ∙ c .before .before .before .before .before .before .if1 .taken) (asks-is parse-method-is (c .before .before .before .before .before .before .before .before .before .before .before .before .pre))) (c .before .before .before .before .bump .ensures _))
 
 same-length : tie.Need-same-length
-unfolding parseMethod
 same-length c = tree-long (did-then (c .before .before .before .before .before .before .before .before .before .bump .ensures _) (c .before .before .before .before .predicate-args .ensures))
 
 same-length-2 : tie.Need-same-length-2
-unfolding parseMethod
 same-length-2 c = errors-long (did-then (c .before .before .before .before .before .before .before .before .before .bump .ensures _) (c .before .before .before .before .predicate-args .ensures))
 
 returns : tie.Need-returns
-unfolding parseMethod
-returns c = (did-true _ _ _ (sym (c .before .before .before .before .before .before .before .before .before .before .before .before .at-predicate-method .ensures) ∙ c .before .before .before .before .before .before .before .before .before .before .before .if1 .taken) (did-then (c .before .before .before .before .before .before .before .before .before .bump .ensures _) (c .before .before .before .before .predicate-args .ensures)))
+returns c = did-is parse-method-is ((did-true _ _ _ (sym (c .before .before .before .before .before .before .before .before .before .before .before .before .at-predicate-method .ensures) ∙ c .before .before .before .before .before .before .before .before .before .before .before .if1 .taken) (did-then (c .before .before .before .before .before .before .before .before .before .bump .ensures _) (c .before .before .before .before .predicate-args .ensures))))
 
 slice-aggregate-at-text : tie.Need-slice-aggregate-at-text
 slice-aggregate-at-text c = search needs
 
 at-text-requires : tie.Need-at-text-requires
-unfolding parseMethod
 at-text-requires c κs = c .before .before .before .before .before .before .before .pre .fits .ready
 
 bump-requires-2 : tie.Need-bump-requires-2
-unfolding parseMethod
-bump-requires-2 c κs = (asks-first _ _ (asks-true _ _ _ (sym (c .before .before .at-text .ensures) ∙ c .before .if2 .taken) (asks-false _ _ _ (sym (c .before .before .before .before .before .at-predicate-method .ensures) ∙ c .before .before .before .before .if1 .left) (c .before .before .before .before .before .before .before .before .before .before .pre)))) .fits
+bump-requires-2 c κs = (asks-first _ _ (asks-true _ _ _ (sym (c .before .before .at-text .ensures) ∙ c .before .if2 .taken) (asks-false _ _ _ (sym (c .before .before .before .before .before .at-predicate-method .ensures) ∙ c .before .before .before .before .if1 .left) (asks-is parse-method-is (c .before .before .before .before .before .before .before .before .before .before .pre))))) .fits
 
 no-args-requires : tie.Need-no-args-requires
-unfolding parseMethod
-no-args-requires c κs = (asks-then _ _ (asks-true _ _ _ (sym (c .before .before .before .before .before .before .before .at-text .ensures) ∙ c .before .before .before .before .before .before .if2 .taken) (asks-false _ _ _ (sym (c .before .before .before .before .before .before .before .before .before .before .at-predicate-method .ensures) ∙ c .before .before .before .before .before .before .before .before .before .if1 .left) (c .before .before .before .before .before .before .before .before .before .before .before .before .before .before .before .pre))) (c .before .before .before .before .bump2 .ensures _))
+no-args-requires c κs = (asks-then _ _ (asks-true _ _ _ (sym (c .before .before .before .before .before .before .before .at-text .ensures) ∙ c .before .before .before .before .before .before .if2 .taken) (asks-false _ _ _ (sym (c .before .before .before .before .before .before .before .before .before .before .at-predicate-method .ensures) ∙ c .before .before .before .before .before .before .before .before .before .if1 .left) (asks-is parse-method-is (c .before .before .before .before .before .before .before .before .before .before .before .before .before .before .before .pre)))) (c .before .before .before .before .bump2 .ensures _))
 
 same-length-3 : tie.Need-same-length-3
-unfolding parseMethod
 same-length-3 c = tree-long (did-then (c .before .before .before .before .before .before .before .before .before .bump2 .ensures _) (c .before .before .before .before .no-args .ensures))
 
 same-length-4 : tie.Need-same-length-4
-unfolding parseMethod
 same-length-4 c = errors-long (did-then (c .before .before .before .before .before .before .before .before .before .bump2 .ensures _) (c .before .before .before .before .no-args .ensures))
 
 returns-2 : tie.Need-returns-2
-unfolding parseMethod
-returns-2 c = (did-false _ _ _ (sym (c .before .before .before .before .before .before .before .before .before .before .before .before .before .before .before .at-predicate-method .ensures) ∙ c .before .before .before .before .before .before .before .before .before .before .before .before .before .before .if1 .left) (did-true _ _ _ (sym (c .before .before .before .before .before .before .before .before .before .before .before .before .at-text .ensures) ∙ c .before .before .before .before .before .before .before .before .before .before .before .if2 .taken) (did-then (c .before .before .before .before .before .before .before .before .before .bump2 .ensures _) (c .before .before .before .before .no-args .ensures))))
+returns-2 c = did-is parse-method-is ((did-false _ _ _ (sym (c .before .before .before .before .before .before .before .before .before .before .before .before .before .before .before .at-predicate-method .ensures) ∙ c .before .before .before .before .before .before .before .before .before .before .before .before .before .before .if1 .left) (did-true _ _ _ (sym (c .before .before .before .before .before .before .before .before .before .before .before .before .at-text .ensures) ∙ c .before .before .before .before .before .before .before .before .before .before .before .if2 .taken) (did-then (c .before .before .before .before .before .before .before .before .before .bump2 .ensures _) (c .before .before .before .before .no-args .ensures)))))
 
 at-plain-method-requires : tie.Need-at-plain-method-requires
-unfolding parseMethod
 at-plain-method-requires c κs = c .before .before .before .before .before .before .before .before .before .pre .fits .ready
 
 bump-requires-3 : tie.Need-bump-requires-3
-unfolding parseMethod
-bump-requires-3 c κs = (asks-true _ _ _ (sym (c .before .before .at-plain-method .ensures) ∙ c .before .if3 .taken) (asks-false _ _ _ (sym (c .before .before .before .before .at-text .ensures) ∙ c .before .before .before .if2 .left) (asks-false _ _ _ (sym (c .before .before .before .before .before .before .before .at-predicate-method .ensures) ∙ c .before .before .before .before .before .before .if1 .left) (c .before .before .before .before .before .before .before .before .before .before .before .before .pre)))) .fits
+bump-requires-3 c κs = (asks-true _ _ _ (sym (c .before .before .at-plain-method .ensures) ∙ c .before .if3 .taken) (asks-false _ _ _ (sym (c .before .before .before .before .at-text .ensures) ∙ c .before .before .before .if2 .left) (asks-false _ _ _ (sym (c .before .before .before .before .before .before .before .at-predicate-method .ensures) ∙ c .before .before .before .before .before .before .if1 .left) (asks-is parse-method-is (c .before .before .before .before .before .before .before .before .before .before .before .before .pre))))) .fits
 
 same-length-5 : tie.Need-same-length-5
-unfolding parseMethod
 same-length-5 c = tree-long (c .before .before .bump3 .ensures [])
 
 returns-3 : tie.Need-returns-3
-unfolding parseMethod
-returns-3 c = (did-false _ _ _ (sym (c .before .before .before .before .before .before .before .before .before .before .at-predicate-method .ensures) ∙ c .before .before .before .before .before .before .before .before .before .if1 .left) (did-false _ _ _ (sym (c .before .before .before .before .before .before .before .at-text .ensures) ∙ c .before .before .before .before .before .before .if2 .left) (did-true _ _ _ (sym (c .before .before .before .before .before .at-plain-method .ensures) ∙ c .before .before .before .before .if3 .taken) (c .before .before .bump3 .ensures _))))
+returns-3 c = did-is parse-method-is ((did-false _ _ _ (sym (c .before .before .before .before .before .before .before .before .before .before .at-predicate-method .ensures) ∙ c .before .before .before .before .before .before .before .before .before .if1 .left) (did-false _ _ _ (sym (c .before .before .before .before .before .before .before .at-text .ensures) ∙ c .before .before .before .before .before .before .if2 .left) (did-true _ _ _ (sym (c .before .before .before .before .before .at-plain-method .ensures) ∙ c .before .before .before .before .if3 .taken) (c .before .before .bump3 .ensures _)))))
 
 no-method-requires : tie.Need-no-method-requires
-unfolding parseMethod
-no-method-requires c κs = (asks-false _ _ _ (sym (c .before .before .before .at-plain-method .ensures) ∙ c .before .before .if3 .left) (asks-false _ _ _ (sym (c .before .before .before .before .before .at-text .ensures) ∙ c .before .before .before .before .if2 .left) (asks-false _ _ _ (sym (c .before .before .before .before .before .before .before .before .at-predicate-method .ensures) ∙ c .before .before .before .before .before .before .before .if1 .left) (c .before .before .before .before .before .before .before .before .before .before .before .before .before .pre))))
+no-method-requires c κs = (asks-false _ _ _ (sym (c .before .before .before .at-plain-method .ensures) ∙ c .before .before .if3 .left) (asks-false _ _ _ (sym (c .before .before .before .before .before .at-text .ensures) ∙ c .before .before .before .before .if2 .left) (asks-false _ _ _ (sym (c .before .before .before .before .before .before .before .before .at-predicate-method .ensures) ∙ c .before .before .before .before .before .before .before .if1 .left) (asks-is parse-method-is (c .before .before .before .before .before .before .before .before .before .before .before .before .before .pre)))))
 
 same-length-6 : tie.Need-same-length-6
-unfolding parseMethod
 same-length-6 c = tree-long (c .before .before .before .before .no-method .ensures)
 
 same-length-7 : tie.Need-same-length-7
-unfolding parseMethod
 same-length-7 c = errors-long (c .before .before .before .before .no-method .ensures)
 
 returns-4 : tie.Need-returns-4
-unfolding parseMethod
-returns-4 c = (did-false _ _ _ (sym (c .before .before .before .before .before .before .before .before .before .before .before .before .before .at-predicate-method .ensures) ∙ c .before .before .before .before .before .before .before .before .before .before .before .before .if1 .left) (did-false _ _ _ (sym (c .before .before .before .before .before .before .before .before .before .before .at-text .ensures) ∙ c .before .before .before .before .before .before .before .before .before .if2 .left) (did-false _ _ _ (sym (c .before .before .before .before .before .before .before .before .at-plain-method .ensures) ∙ c .before .before .before .before .before .before .before .if3 .left) (c .before .before .before .before .no-method .ensures))))
+returns-4 c = did-is parse-method-is ((did-false _ _ _ (sym (c .before .before .before .before .before .before .before .before .before .before .before .before .before .at-predicate-method .ensures) ∙ c .before .before .before .before .before .before .before .before .before .before .before .before .if1 .left) (did-false _ _ _ (sym (c .before .before .before .before .before .before .before .before .before .before .at-text .ensures) ∙ c .before .before .before .before .before .before .before .before .before .if2 .left) (did-false _ _ _ (sym (c .before .before .before .before .before .before .before .before .at-plain-method .ensures) ∙ c .before .before .before .before .before .before .before .if3 .left) (c .before .before .before .before .no-method .ensures)))))
 
 pub parse-method-spec : {M : Type 1} → statement M
 parse-method-spec =

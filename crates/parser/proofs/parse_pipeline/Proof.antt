@@ -1,45 +1,36 @@
 -- `parse_pipeline` follows `parsePipeline`. Assumes nothing.
 use mathlib.Core.Path.{_∙_}
-use Rattle.parser.specs.Parse.{parsePipeline}
-use Rattle.parser.proofs.WritingLaws.{did-then, asks-first, asks-then, tree-long, errors-long, node-room, node-level, asks-node, did-node, started-long, finished-long, finish-room}
+use Rattle.parser.proofs.ParseLaws.{parse-pipeline-is}
+use Rattle.parser.proofs.WritingLaws.{did-then, asks-first, asks-then, tree-long, errors-long, node-room, node-level, asks-node, did-node, started-long, finished-long, finish-room, asks-is, did-is}
 use Rattle.parser.proofs.parse_pipeline.Statement.{statement}
 use Rattle.parser.proofs.parse_pipeline.Tie as tie
 
 start-node-requires : tie.Need-start-node-requires
-unfolding parsePipeline
-start-node-requires c κs = node-room _ _ (c .before .before .before .before .before .pre)
+start-node-requires c κs = node-room _ _ (asks-is parse-pipeline-is (c .before .before .before .before .before .pre))
 
 add-parse-source : tie.Need-add-parse-source
-unfolding parsePipeline
-add-parse-source c = record { fits = node-level _ _ (c .before .before .before .before .before .before .before .before .before .before .pre) }
+add-parse-source c = record { fits = node-level _ _ (asks-is parse-pipeline-is (c .before .before .before .before .before .before .before .before .before .before .pre)) }
 
 parse-source-requires : tie.Need-parse-source-requires
-unfolding parsePipeline
-parse-source-requires c κs = (asks-first _ _ (asks-node _ _ (c .before .before .before .before .before .before .before .before .before .before .pre) (c .before .before .before .before .start-node .ensures)))
+parse-source-requires c κs = (asks-first _ _ (asks-node _ _ (asks-is parse-pipeline-is (c .before .before .before .before .before .before .before .before .before .before .pre)) (c .before .before .before .before .start-node .ensures)))
 
 add-parse-calls : tie.Need-add-parse-calls
-unfolding parsePipeline
-add-parse-calls c = record { fits = node-level _ _ (c .before .before .before .before .before .before .before .before .before .before .before .before .before .before .before .before .before .pre) }
+add-parse-calls c = record { fits = node-level _ _ (asks-is parse-pipeline-is (c .before .before .before .before .before .before .before .before .before .before .before .before .before .before .before .before .before .pre)) }
 
 parse-calls-requires : tie.Need-parse-calls-requires
-unfolding parsePipeline
-parse-calls-requires c κs = (asks-then _ _ (asks-node _ _ (c .before .before .before .before .before .before .before .before .before .before .before .before .before .before .before .before .before .pre) (c .before .before .before .before .before .before .before .before .before .before .before .start-node .ensures)) (c .before .before .before .before .before .before .parse-source .ensures))
+parse-calls-requires c κs = (asks-then _ _ (asks-node _ _ (asks-is parse-pipeline-is (c .before .before .before .before .before .before .before .before .before .before .before .before .before .before .before .before .before .pre)) (c .before .before .before .before .before .before .before .before .before .before .before .start-node .ensures)) (c .before .before .before .before .before .before .parse-source .ensures))
 
 finish-node-requires : tie.Need-finish-node-requires
-unfolding parsePipeline
-finish-node-requires c κs = finish-room (node-room _ _ (c .before .before .before .before .before .before .before .before .before .before .before .before .before .before .before .before .before .before .before .before .before .before .before .pre)) (c .before .before .before .before .before .before .before .before .before .before .before .before .before .before .before .before .before .start-node .ensures) (did-then (c .before .before .before .before .before .before .before .before .before .before .before .before .parse-source .ensures) (c .before .before .before .before .before .parse-calls .ensures))
+finish-node-requires c κs = finish-room (node-room _ _ (asks-is parse-pipeline-is (c .before .before .before .before .before .before .before .before .before .before .before .before .before .before .before .before .before .before .before .before .before .before .before .pre))) (c .before .before .before .before .before .before .before .before .before .before .before .before .before .before .before .before .before .start-node .ensures) (did-then (c .before .before .before .before .before .before .before .before .before .before .before .before .parse-source .ensures) (c .before .before .before .before .before .parse-calls .ensures))
 
 same-length : tie.Need-same-length
-unfolding parsePipeline
 same-length c = finished-long (c .before .before .finish-node .ensures) ∙ tree-long (did-then (c .before .before .before .before .before .before .before .before .before .before .before .before .before .before .before .parse-source .ensures) (c .before .before .before .before .before .before .before .before .parse-calls .ensures)) ∙ started-long (c .before .before .before .before .before .before .before .before .before .before .before .before .before .before .before .before .before .before .before .before .start-node .ensures)
 
 same-length-2 : tie.Need-same-length-2
-unfolding parsePipeline
 same-length-2 c = errors-long (did-then (c .before .before .before .before .before .before .before .before .before .before .before .before .before .before .before .parse-source .ensures) (c .before .before .before .before .before .before .before .before .parse-calls .ensures))
 
 returns : tie.Need-returns
-unfolding parsePipeline
-returns c = (did-node (c .before .before .before .before .before .before .before .before .before .before .before .before .before .before .before .before .before .before .before .before .start-node .ensures) (did-then (c .before .before .before .before .before .before .before .before .before .before .before .before .before .before .before .parse-source .ensures) (c .before .before .before .before .before .before .before .before .parse-calls .ensures)) (c .before .before .finish-node .ensures))
+returns c = did-is parse-pipeline-is ((did-node (c .before .before .before .before .before .before .before .before .before .before .before .before .before .before .before .before .before .before .before .before .start-node .ensures) (did-then (c .before .before .before .before .before .before .before .before .before .before .before .before .before .before .before .parse-source .ensures) (c .before .before .before .before .before .before .before .before .parse-calls .ensures)) (c .before .before .finish-node .ensures)))
 
 pub parse-pipeline-spec : {M : Type 1} → statement M
 parse-pipeline-spec =

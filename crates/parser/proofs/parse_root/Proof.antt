@@ -1,53 +1,42 @@
 -- `parse_root` follows `parseRoot`. Assumes nothing.
 use mathlib.Core.Path.{_∙_}
-use Rattle.parser.specs.Parse.{parseRoot}
-use Rattle.parser.proofs.WritingLaws.{did-then, asks-first, asks-then, tree-long, errors-long, node-room, node-level, asks-node, did-node, started-long, finished-long, finish-room}
+use Rattle.parser.proofs.ParseLaws.{parse-root-is}
+use Rattle.parser.proofs.WritingLaws.{did-then, asks-first, asks-then, tree-long, errors-long, node-room, node-level, asks-node, did-node, started-long, finished-long, finish-room, asks-is, did-is}
 use Rattle.parser.proofs.parse_root.Statement.{statement}
 use Rattle.parser.proofs.parse_root.Tie as tie
 
 start-node-requires : tie.Need-start-node-requires
-unfolding parseRoot
-start-node-requires c κs = node-room _ _ (c .before .before .before .before .before .pre)
+start-node-requires c κs = node-room _ _ (asks-is parse-root-is (c .before .before .before .before .before .pre))
 
 add-parse-pipeline-or-count-compare : tie.Need-add-parse-pipeline-or-count-compare
-unfolding parseRoot
-add-parse-pipeline-or-count-compare c = record { fits = node-level _ _ (c .before .before .before .before .before .before .before .before .before .before .pre) }
+add-parse-pipeline-or-count-compare c = record { fits = node-level _ _ (asks-is parse-root-is (c .before .before .before .before .before .before .before .before .before .before .pre)) }
 
 parse-pipeline-or-count-compare-requires : tie.Need-parse-pipeline-or-count-compare-requires
-unfolding parseRoot
-parse-pipeline-or-count-compare-requires c κs = (asks-first _ _ (asks-first _ _ (asks-node _ _ (c .before .before .before .before .before .before .before .before .before .before .pre) (c .before .before .before .before .start-node .ensures))))
+parse-pipeline-or-count-compare-requires c κs = (asks-first _ _ (asks-first _ _ (asks-node _ _ (asks-is parse-root-is (c .before .before .before .before .before .before .before .before .before .before .pre)) (c .before .before .before .before .start-node .ensures))))
 
 add-eat-ws : tie.Need-add-eat-ws
-unfolding parseRoot
-add-eat-ws c = record { fits = node-level _ _ (c .before .before .before .before .before .before .before .before .before .before .before .before .before .before .before .before .pre) }
+add-eat-ws c = record { fits = node-level _ _ (asks-is parse-root-is (c .before .before .before .before .before .before .before .before .before .before .before .before .before .before .before .before .pre)) }
 
 eat-ws-requires : tie.Need-eat-ws-requires
-unfolding parseRoot
-eat-ws-requires c κs = (asks-then _ _ (asks-first _ _ (asks-node _ _ (c .before .before .before .before .before .before .before .before .before .before .before .before .before .before .before .before .pre) (c .before .before .before .before .before .before .before .before .before .before .start-node .ensures))) (c .before .before .before .before .before .parse-pipeline-or-count-compare .ensures)) .fits
+eat-ws-requires c κs = (asks-then _ _ (asks-first _ _ (asks-node _ _ (asks-is parse-root-is (c .before .before .before .before .before .before .before .before .before .before .before .before .before .before .before .before .pre)) (c .before .before .before .before .before .before .before .before .before .before .start-node .ensures))) (c .before .before .before .before .before .parse-pipeline-or-count-compare .ensures)) .fits
 
 add-left-over : tie.Need-add-left-over
-unfolding parseRoot
-add-left-over c = record { fits = node-level _ _ (c .before .before .before .before .before .before .before .before .before .before .before .before .before .before .before .before .before .before .before .before .before .pre) }
+add-left-over c = record { fits = node-level _ _ (asks-is parse-root-is (c .before .before .before .before .before .before .before .before .before .before .before .before .before .before .before .before .before .before .before .before .before .pre)) }
 
 left-over-requires : tie.Need-left-over-requires
-unfolding parseRoot
-left-over-requires c κs = (asks-then _ _ (asks-node _ _ (c .before .before .before .before .before .before .before .before .before .before .before .before .before .before .before .before .before .before .before .before .before .pre) (c .before .before .before .before .before .before .before .before .before .before .before .before .before .before .before .start-node .ensures)) (did-then (c .before .before .before .before .before .before .before .before .before .before .parse-pipeline-or-count-compare .ensures) (c .before .before .before .before .eat-ws .ensures _)))
+left-over-requires c κs = (asks-then _ _ (asks-node _ _ (asks-is parse-root-is (c .before .before .before .before .before .before .before .before .before .before .before .before .before .before .before .before .before .before .before .before .before .pre)) (c .before .before .before .before .before .before .before .before .before .before .before .before .before .before .before .start-node .ensures)) (did-then (c .before .before .before .before .before .before .before .before .before .before .parse-pipeline-or-count-compare .ensures) (c .before .before .before .before .eat-ws .ensures _)))
 
 finish-node-requires : tie.Need-finish-node-requires
-unfolding parseRoot
-finish-node-requires c κs = finish-room (node-room _ _ (c .before .before .before .before .before .before .before .before .before .before .before .before .before .before .before .before .before .before .before .before .before .before .before .before .before .before .before .pre)) (c .before .before .before .before .before .before .before .before .before .before .before .before .before .before .before .before .before .before .before .before .before .start-node .ensures) (did-then (did-then (c .before .before .before .before .before .before .before .before .before .before .before .before .before .before .before .before .parse-pipeline-or-count-compare .ensures) (c .before .before .before .before .before .before .before .before .before .before .eat-ws .ensures _)) (c .before .before .before .before .before .left-over .ensures))
+finish-node-requires c κs = finish-room (node-room _ _ (asks-is parse-root-is (c .before .before .before .before .before .before .before .before .before .before .before .before .before .before .before .before .before .before .before .before .before .before .before .before .before .before .before .pre))) (c .before .before .before .before .before .before .before .before .before .before .before .before .before .before .before .before .before .before .before .before .before .start-node .ensures) (did-then (did-then (c .before .before .before .before .before .before .before .before .before .before .before .before .before .before .before .before .parse-pipeline-or-count-compare .ensures) (c .before .before .before .before .before .before .before .before .before .before .eat-ws .ensures _)) (c .before .before .before .before .before .left-over .ensures))
 
 same-length : tie.Need-same-length
-unfolding parseRoot
 same-length c = finished-long (c .before .before .finish-node .ensures) ∙ tree-long (did-then (did-then (c .before .before .before .before .before .before .before .before .before .before .before .before .before .before .before .before .before .before .before .parse-pipeline-or-count-compare .ensures) (c .before .before .before .before .before .before .before .before .before .before .before .before .before .eat-ws .ensures _)) (c .before .before .before .before .before .before .before .before .left-over .ensures)) ∙ started-long (c .before .before .before .before .before .before .before .before .before .before .before .before .before .before .before .before .before .before .before .before .before .before .before .before .start-node .ensures)
 
 same-length-2 : tie.Need-same-length-2
-unfolding parseRoot
 same-length-2 c = errors-long (did-then (did-then (c .before .before .before .before .before .before .before .before .before .before .before .before .before .before .before .before .before .before .before .parse-pipeline-or-count-compare .ensures) (c .before .before .before .before .before .before .before .before .before .before .before .before .before .eat-ws .ensures _)) (c .before .before .before .before .before .before .before .before .left-over .ensures))
 
 returns : tie.Need-returns
-unfolding parseRoot
-returns c = (did-node (c .before .before .before .before .before .before .before .before .before .before .before .before .before .before .before .before .before .before .before .before .before .before .before .before .start-node .ensures) (did-then (did-then (c .before .before .before .before .before .before .before .before .before .before .before .before .before .before .before .before .before .before .before .parse-pipeline-or-count-compare .ensures) (c .before .before .before .before .before .before .before .before .before .before .before .before .before .eat-ws .ensures _)) (c .before .before .before .before .before .before .before .before .left-over .ensures)) (c .before .before .finish-node .ensures))
+returns c = did-is parse-root-is ((did-node (c .before .before .before .before .before .before .before .before .before .before .before .before .before .before .before .before .before .before .before .before .before .before .before .before .start-node .ensures) (did-then (did-then (c .before .before .before .before .before .before .before .before .before .before .before .before .before .before .before .before .before .before .before .parse-pipeline-or-count-compare .ensures) (c .before .before .before .before .before .before .before .before .before .before .before .before .before .eat-ws .ensures _)) (c .before .before .before .before .before .before .before .before .left-over .ensures)) (c .before .before .finish-node .ensures)))
 
 pub parse-root-spec : {M : Type 1} → statement M
 parse-root-spec =

@@ -1,8 +1,8 @@
 -- `simple_atom` follows `simpleAtom`, test by test. Assumes nothing.
 use mathlib.Core.Path.{sym, _∙_}
 use mathlib.Core.List.{[]}
-use Rattle.parser.specs.Parse.{simpleAtom}
-use Rattle.parser.proofs.WritingLaws.{tree-long, errors-long, asks-true, asks-false, did-true, did-false}
+use Rattle.parser.proofs.ParseLaws.{simple-atom-is}
+use Rattle.parser.proofs.WritingLaws.{tree-long, errors-long, asks-true, asks-false, did-true, did-false, asks-is, did-is}
 use Rattle.parser.proofs.LookLaws.{fail-ahead-room}
 use borrow.Author.Needs.{needs}
 use Rattle.parser.proofs.simple_atom.Statement.{statement}
@@ -12,99 +12,76 @@ slice-aggregate-at-ident : tie.Need-slice-aggregate-at-ident
 slice-aggregate-at-ident c = search needs
 
 at-ident-requires : tie.Need-at-ident-requires
-unfolding simpleAtom
 at-ident-requires c κs = c .before .before .before .before .before .pre .fits .ready
 
 call-expr-requires : tie.Need-call-expr-requires
-unfolding simpleAtom
-call-expr-requires c κs = (asks-true _ _ _ (sym (c .before .before .before .at-ident .ensures) ∙ c .before .before .if1 .taken) (c .before .before .before .before .before .before .before .before .before .pre))
+call-expr-requires c κs = (asks-true _ _ _ (sym (c .before .before .before .at-ident .ensures) ∙ c .before .before .if1 .taken) (asks-is simple-atom-is (c .before .before .before .before .before .before .before .before .before .pre)))
 
 same-length : tie.Need-same-length
-unfolding simpleAtom
 same-length c = tree-long (c .before .before .before .before .call-expr .ensures)
 
 same-length-2 : tie.Need-same-length-2
-unfolding simpleAtom
 same-length-2 c = errors-long (c .before .before .before .before .call-expr .ensures)
 
 returns : tie.Need-returns
-unfolding simpleAtom
-returns c = (did-true _ _ _ (sym (c .before .before .before .before .before .before .before .before .at-ident .ensures) ∙ c .before .before .before .before .before .before .before .if1 .taken) (c .before .before .before .before .call-expr .ensures))
+returns c = did-is simple-atom-is ((did-true _ _ _ (sym (c .before .before .before .before .before .before .before .before .at-ident .ensures) ∙ c .before .before .before .before .before .before .before .if1 .taken) (c .before .before .before .before .call-expr .ensures)))
 
 slice-aggregate-at-ident-2 : tie.Need-slice-aggregate-at-ident-2
 slice-aggregate-at-ident-2 c = search needs
 
 at-ident-requires-2 : tie.Need-at-ident-requires-2
-unfolding simpleAtom
 at-ident-requires-2 c κs = c .before .before .before .before .before .before .before .before .pre .fits .ready
 
 ident-expr-requires : tie.Need-ident-expr-requires
-unfolding simpleAtom
-ident-expr-requires c κs = (asks-true _ _ _ (sym (c .before .before .before .at-ident2 .ensures) ∙ c .before .before .if2 .taken) (asks-false _ _ _ (sym (c .before .before .before .before .before .before .at-ident .ensures) ∙ c .before .before .before .before .before .if1 .left) (c .before .before .before .before .before .before .before .before .before .before .before .before .pre)))
+ident-expr-requires c κs = (asks-true _ _ _ (sym (c .before .before .before .at-ident2 .ensures) ∙ c .before .before .if2 .taken) (asks-false _ _ _ (sym (c .before .before .before .before .before .before .at-ident .ensures) ∙ c .before .before .before .before .before .if1 .left) (asks-is simple-atom-is (c .before .before .before .before .before .before .before .before .before .before .before .before .pre))))
 
 same-length-3 : tie.Need-same-length-3
-unfolding simpleAtom
 same-length-3 c = tree-long (c .before .before .before .before .ident-expr .ensures)
 
 same-length-4 : tie.Need-same-length-4
-unfolding simpleAtom
 same-length-4 c = errors-long (c .before .before .before .before .ident-expr .ensures)
 
 returns-2 : tie.Need-returns-2
-unfolding simpleAtom
-returns-2 c = (did-false _ _ _ (sym (c .before .before .before .before .before .before .before .before .before .before .before .at-ident .ensures) ∙ c .before .before .before .before .before .before .before .before .before .before .if1 .left) (did-true _ _ _ (sym (c .before .before .before .before .before .before .before .before .at-ident2 .ensures) ∙ c .before .before .before .before .before .before .before .if2 .taken) (c .before .before .before .before .ident-expr .ensures)))
+returns-2 c = did-is simple-atom-is ((did-false _ _ _ (sym (c .before .before .before .before .before .before .before .before .before .before .before .at-ident .ensures) ∙ c .before .before .before .before .before .before .before .before .before .before .if1 .left) (did-true _ _ _ (sym (c .before .before .before .before .before .before .before .before .at-ident2 .ensures) ∙ c .before .before .before .before .before .before .before .if2 .taken) (c .before .before .before .before .ident-expr .ensures))))
 
 at-message-dot-requires : tie.Need-at-message-dot-requires
-unfolding simpleAtom
 at-message-dot-requires c κs = c .before .before .before .before .before .before .before .before .before .before .pre .fits .ready
 
 contains-expr-requires : tie.Need-contains-expr-requires
-unfolding simpleAtom
-contains-expr-requires c κs = (asks-true _ _ _ (sym (c .before .before .before .at-message-dot .ensures) ∙ c .before .before .if3 .taken) (asks-false _ _ _ (sym (c .before .before .before .before .before .at-ident2 .ensures) ∙ c .before .before .before .before .if2 .left) (asks-false _ _ _ (sym (c .before .before .before .before .before .before .before .before .at-ident .ensures) ∙ c .before .before .before .before .before .before .before .if1 .left) (c .before .before .before .before .before .before .before .before .before .before .before .before .before .before .pre))))
+contains-expr-requires c κs = (asks-true _ _ _ (sym (c .before .before .before .at-message-dot .ensures) ∙ c .before .before .if3 .taken) (asks-false _ _ _ (sym (c .before .before .before .before .before .at-ident2 .ensures) ∙ c .before .before .before .before .if2 .left) (asks-false _ _ _ (sym (c .before .before .before .before .before .before .before .before .at-ident .ensures) ∙ c .before .before .before .before .before .before .before .if1 .left) (asks-is simple-atom-is (c .before .before .before .before .before .before .before .before .before .before .before .before .before .before .pre)))))
 
 same-length-5 : tie.Need-same-length-5
-unfolding simpleAtom
 same-length-5 c = tree-long (c .before .before .before .before .contains-expr .ensures)
 
 same-length-6 : tie.Need-same-length-6
-unfolding simpleAtom
 same-length-6 c = errors-long (c .before .before .before .before .contains-expr .ensures)
 
 returns-3 : tie.Need-returns-3
-unfolding simpleAtom
-returns-3 c = (did-false _ _ _ (sym (c .before .before .before .before .before .before .before .before .before .before .before .before .before .at-ident .ensures) ∙ c .before .before .before .before .before .before .before .before .before .before .before .before .if1 .left) (did-false _ _ _ (sym (c .before .before .before .before .before .before .before .before .before .before .at-ident2 .ensures) ∙ c .before .before .before .before .before .before .before .before .before .if2 .left) (did-true _ _ _ (sym (c .before .before .before .before .before .before .before .before .at-message-dot .ensures) ∙ c .before .before .before .before .before .before .before .if3 .taken) (c .before .before .before .before .contains-expr .ensures))))
+returns-3 c = did-is simple-atom-is ((did-false _ _ _ (sym (c .before .before .before .before .before .before .before .before .before .before .before .before .before .at-ident .ensures) ∙ c .before .before .before .before .before .before .before .before .before .before .before .before .if1 .left) (did-false _ _ _ (sym (c .before .before .before .before .before .before .before .before .before .before .at-ident2 .ensures) ∙ c .before .before .before .before .before .before .before .before .before .if2 .left) (did-true _ _ _ (sym (c .before .before .before .before .before .before .before .before .at-message-dot .ensures) ∙ c .before .before .before .before .before .before .before .if3 .taken) (c .before .before .before .before .contains-expr .ensures)))))
 
 at-field-requires : tie.Need-at-field-requires
-unfolding simpleAtom
 at-field-requires c κs = c .before .before .before .before .before .before .before .before .before .before .before .before .pre .fits .ready
 
 compare-expr-requires : tie.Need-compare-expr-requires
-unfolding simpleAtom
-compare-expr-requires c κs = (asks-true _ _ _ (sym (c .before .before .before .at-field .ensures) ∙ c .before .before .if4 .taken) (asks-false _ _ _ (sym (c .before .before .before .before .before .at-message-dot .ensures) ∙ c .before .before .before .before .if3 .left) (asks-false _ _ _ (sym (c .before .before .before .before .before .before .before .at-ident2 .ensures) ∙ c .before .before .before .before .before .before .if2 .left) (asks-false _ _ _ (sym (c .before .before .before .before .before .before .before .before .before .before .at-ident .ensures) ∙ c .before .before .before .before .before .before .before .before .before .if1 .left) (c .before .before .before .before .before .before .before .before .before .before .before .before .before .before .before .before .pre)))))
+compare-expr-requires c κs = (asks-true _ _ _ (sym (c .before .before .before .at-field .ensures) ∙ c .before .before .if4 .taken) (asks-false _ _ _ (sym (c .before .before .before .before .before .at-message-dot .ensures) ∙ c .before .before .before .before .if3 .left) (asks-false _ _ _ (sym (c .before .before .before .before .before .before .before .at-ident2 .ensures) ∙ c .before .before .before .before .before .before .if2 .left) (asks-false _ _ _ (sym (c .before .before .before .before .before .before .before .before .before .before .at-ident .ensures) ∙ c .before .before .before .before .before .before .before .before .before .if1 .left) (asks-is simple-atom-is (c .before .before .before .before .before .before .before .before .before .before .before .before .before .before .before .before .pre))))))
 
 same-length-7 : tie.Need-same-length-7
-unfolding simpleAtom
 same-length-7 c = tree-long (c .before .before .before .before .compare-expr .ensures)
 
 same-length-8 : tie.Need-same-length-8
-unfolding simpleAtom
 same-length-8 c = errors-long (c .before .before .before .before .compare-expr .ensures)
 
 returns-4 : tie.Need-returns-4
-unfolding simpleAtom
-returns-4 c = (did-false _ _ _ (sym (c .before .before .before .before .before .before .before .before .before .before .before .before .before .before .before .at-ident .ensures) ∙ c .before .before .before .before .before .before .before .before .before .before .before .before .before .before .if1 .left) (did-false _ _ _ (sym (c .before .before .before .before .before .before .before .before .before .before .before .before .at-ident2 .ensures) ∙ c .before .before .before .before .before .before .before .before .before .before .before .if2 .left) (did-false _ _ _ (sym (c .before .before .before .before .before .before .before .before .before .before .at-message-dot .ensures) ∙ c .before .before .before .before .before .before .before .before .before .if3 .left) (did-true _ _ _ (sym (c .before .before .before .before .before .before .before .before .at-field .ensures) ∙ c .before .before .before .before .before .before .before .if4 .taken) (c .before .before .before .before .compare-expr .ensures)))))
+returns-4 c = did-is simple-atom-is ((did-false _ _ _ (sym (c .before .before .before .before .before .before .before .before .before .before .before .before .before .before .before .at-ident .ensures) ∙ c .before .before .before .before .before .before .before .before .before .before .before .before .before .before .if1 .left) (did-false _ _ _ (sym (c .before .before .before .before .before .before .before .before .before .before .before .before .at-ident2 .ensures) ∙ c .before .before .before .before .before .before .before .before .before .before .before .if2 .left) (did-false _ _ _ (sym (c .before .before .before .before .before .before .before .before .before .before .at-message-dot .ensures) ∙ c .before .before .before .before .before .before .before .before .before .if3 .left) (did-true _ _ _ (sym (c .before .before .before .before .before .before .before .before .at-field .ensures) ∙ c .before .before .before .before .before .before .before .if4 .taken) (c .before .before .before .before .compare-expr .ensures))))))
 
 fail-ahead-requires : tie.Need-fail-ahead-requires
-unfolding simpleAtom
-fail-ahead-requires c κs = ((asks-false _ _ _ (sym (c .before .before .at-field .ensures) ∙ c .before .if4 .left) (asks-false _ _ _ (sym (c .before .before .before .before .at-message-dot .ensures) ∙ c .before .before .before .if3 .left) (asks-false _ _ _ (sym (c .before .before .before .before .before .before .at-ident2 .ensures) ∙ c .before .before .before .before .before .if2 .left) (asks-false _ _ _ (sym (c .before .before .before .before .before .before .before .before .before .at-ident .ensures) ∙ c .before .before .before .before .before .before .before .before .if1 .left) (c .before .before .before .before .before .before .before .before .before .before .before .before .before .before .before .pre))))) .fits .ready, fail-ahead-room _ (asks-false _ _ _ (sym (c .before .before .at-field .ensures) ∙ c .before .if4 .left) (asks-false _ _ _ (sym (c .before .before .before .before .at-message-dot .ensures) ∙ c .before .before .before .if3 .left) (asks-false _ _ _ (sym (c .before .before .before .before .before .before .at-ident2 .ensures) ∙ c .before .before .before .before .before .if2 .left) (asks-false _ _ _ (sym (c .before .before .before .before .before .before .before .before .before .at-ident .ensures) ∙ c .before .before .before .before .before .before .before .before .if1 .left) (c .before .before .before .before .before .before .before .before .before .before .before .before .before .before .before .pre))))))
+fail-ahead-requires c κs = ((asks-false _ _ _ (sym (c .before .before .at-field .ensures) ∙ c .before .if4 .left) (asks-false _ _ _ (sym (c .before .before .before .before .at-message-dot .ensures) ∙ c .before .before .before .if3 .left) (asks-false _ _ _ (sym (c .before .before .before .before .before .before .at-ident2 .ensures) ∙ c .before .before .before .before .before .if2 .left) (asks-false _ _ _ (sym (c .before .before .before .before .before .before .before .before .before .at-ident .ensures) ∙ c .before .before .before .before .before .before .before .before .if1 .left) (asks-is simple-atom-is (c .before .before .before .before .before .before .before .before .before .before .before .before .before .before .before .pre)))))) .fits .ready, fail-ahead-room _ (asks-false _ _ _ (sym (c .before .before .at-field .ensures) ∙ c .before .if4 .left) (asks-false _ _ _ (sym (c .before .before .before .before .at-message-dot .ensures) ∙ c .before .before .before .if3 .left) (asks-false _ _ _ (sym (c .before .before .before .before .before .before .at-ident2 .ensures) ∙ c .before .before .before .before .before .if2 .left) (asks-false _ _ _ (sym (c .before .before .before .before .before .before .before .before .before .at-ident .ensures) ∙ c .before .before .before .before .before .before .before .before .if1 .left) (asks-is simple-atom-is (c .before .before .before .before .before .before .before .before .before .before .before .before .before .before .before .pre)))))))
 
 same-length-9 : tie.Need-same-length-9
-unfolding simpleAtom
 same-length-9 c = errors-long (c .before .before .fail-ahead .ensures [] 0)
 
 returns-5 : tie.Need-returns-5
-unfolding simpleAtom
-returns-5 c = (did-false _ _ _ (sym (c .before .before .before .before .before .before .before .before .before .before .before .before .at-ident .ensures) ∙ c .before .before .before .before .before .before .before .before .before .before .before .if1 .left) (did-false _ _ _ (sym (c .before .before .before .before .before .before .before .before .before .at-ident2 .ensures) ∙ c .before .before .before .before .before .before .before .before .if2 .left) (did-false _ _ _ (sym (c .before .before .before .before .before .before .before .at-message-dot .ensures) ∙ c .before .before .before .before .before .before .if3 .left) (did-false _ _ _ (sym (c .before .before .before .before .before .at-field .ensures) ∙ c .before .before .before .before .if4 .left) (c .before .before .fail-ahead .ensures _ _)))))
+returns-5 c = did-is simple-atom-is ((did-false _ _ _ (sym (c .before .before .before .before .before .before .before .before .before .before .before .before .at-ident .ensures) ∙ c .before .before .before .before .before .before .before .before .before .before .before .if1 .left) (did-false _ _ _ (sym (c .before .before .before .before .before .before .before .before .before .at-ident2 .ensures) ∙ c .before .before .before .before .before .before .before .before .if2 .left) (did-false _ _ _ (sym (c .before .before .before .before .before .before .before .at-message-dot .ensures) ∙ c .before .before .before .before .before .before .if3 .left) (did-false _ _ _ (sym (c .before .before .before .before .before .at-field .ensures) ∙ c .before .before .before .before .if4 .left) (c .before .before .fail-ahead .ensures _ _))))))
 
 pub simple-atom-spec : {M : Type 1} → statement M
 simple-atom-spec =
