@@ -109,14 +109,21 @@ or-left : (p q : Bool) → p || q ≡ false → p ≡ false
 or-left true q e = e
 or-left false q e = refl
 
--- what `check_rule` passes, `lex` has room for
-pub passed-has-room : (rule : List ℕ) (tokens tree errors : ℕ) → checkRule rule tokens tree errors ≡ Check.Passed → checkRoom rule tokens ≡ Check.Passed
-unfolding checkRule checkRoom
-passed-has-room rule tokens tree errors e =
+-- what `check_rule` passes has lengths that refusals 1 and 3 pass
+pub passed-lengths : (rule : List ℕ) (tokens tree errors : ℕ) → checkRule rule tokens tree errors ≡ Check.Passed
+    → (ltb MAX-RULE (length rule) ≡ false) × (tablesShort (length rule) tokens tree errors ≡ false)
+unfolding checkRule
+passed-lengths rule tokens tree errors e =
     let long = not-met (ltb MAX-RULE (length rule)) _ _ e in
     let utf = not-met (not (utf8 rule)) _ _ (long .1) in
-    let short = not-met (tablesShort (length rule) tokens tree errors) _ _ (utf .1) in
-    rw (long .0, or-left (tokensShort (length rule) tokens) _ (short .0))
+    (long .0, not-met (tablesShort (length rule) tokens tree errors) _ _ (utf .1) .0)
+
+-- so `lex` has room for it
+pub passed-has-room : (rule : List ℕ) (tokens tree errors : ℕ) → checkRule rule tokens tree errors ≡ Check.Passed → checkRoom rule tokens ≡ Check.Passed
+unfolding checkRoom
+passed-has-room rule tokens tree errors e =
+    let l = passed-lengths rule tokens tree errors e in
+    rw (l .0, or-left (tokensShort (length rule) tokens) _ (l .1))
 
 -- a check that passed reads as another that passed does, and one that refused gives its refusal and leaves the table
 pub passed-reads : {k m : Check} {rule before after : List ℕ} {r : Lexed} → k ≡ Check.Passed → m ≡ Check.Passed
@@ -139,12 +146,10 @@ lex-length s = lexFrom-length s 0
 
 -- a number of tokens that was given is at most the most bytes of a rule
 pub tokens-few : (rule : List ℕ) (tokens tree errors n : ℕ) → Lexed.Tokens n ≡ tokensRead (checkRule rule tokens tree errors) rule → n ≤ MAX-RULE
-unfolding checkRule
 tokens-few rule tokens tree errors n e = go (checkRule rule tokens tree errors) refl e
   where
     go : (k : Check) → checkRule rule tokens tree errors ≡ k → Lexed.Tokens n ≡ tokensRead k rule → n ≤ MAX-RULE
     go Check.Passed p q =
         let same : n ≡ length (lex rule) = cc in
-        let long = not-met (ltb MAX-RULE (length rule)) _ _ p in
-        omega (arith, ltb-false MAX-RULE (length rule) (long .0), lex-length rule)
+        omega (arith, ltb-false MAX-RULE (length rule) (passed-lengths rule tokens tree errors p .0), lex-length rule)
     go (Check.Refused r) p q = let z : _≡_ {A = ℕ} 0 1 = cc in omega arith

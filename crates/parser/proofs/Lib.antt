@@ -6,4 +6,6 @@ pub mod LookLaws
 pub mod TreeLaws
 pub mod StepLaws
 pub mod CycleLaws
+pub mod BoundLaws
+pub mod ReadLaws
 pub mod Vectors

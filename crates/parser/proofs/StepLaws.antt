@@ -1,4 +1,4 @@
--- The steps of `parse` always suffice, so it is what one step over it is; and a token that is seen and taken is behind the cursor. Assumes nothing.
+-- The steps of `parse` always suffice: one step more changes nothing. And taking a token that is seen brings the cursor ahead. Assumes nothing.
 use mathlib.Core.Path.{_≡_, refl, sym, ap}
 use mathlib.Core.List.{List, [], _∷_}
 use mathlib.Core.Bool.{Bool, true}
@@ -11,24 +11,18 @@ use Rattle.syntax.specs.Kind.{DOT, L-PAREN, R-PAREN, AND-KW, OR-KW, NOT-KW, BIN
 use Rattle.syntax.specs.Text.{ascii}
 use Rattle.syntax.proofs.BoolLaws.{whether}
 use Rattle.lexer.specs.Lex.{Token}
-use Rattle.parser.specs.Look.{isBlank, skipWs, headKind, currentKind, atKind, atText, atPredicateMethod, atPlainMethod, hasBinaryOpAtLevel}
+use Rattle.parser.specs.Look.{skipWs, headKind, currentKind, atKind, atText, atPredicateMethod, atPlainMethod, hasBinaryOpAtLevel}
 use Rattle.parser.specs.Parse.{Parser, next, join, _▹_, inNode, choose, eatWs, bump, expect, Mode, OrExpr, OrRest, AndExpr, AndRest, Atom, Calls, noArgs, noMethod, parseMethod, step, steps, parse}
 use Rattle.parser.specs.Writing.{Asks, Did}
 use Rattle.parser.specs.declared.Cursor.{Cursor}
 use Rattle.parser.proofs.WritingLaws.{asks-as, did-as}
-use Rattle.parser.proofs.TreeLaws.{Keeps, keeping, keeps-bump, keeps-expect, keeps-simple, keeps-done, keeps-eatWs, keeps-steps, keeps-parse}
+use Rattle.parser.proofs.TreeLaws.{Keeps, eat-rest, keeping, keeps-bump, keeps-expect, keeps-simple, keeps-done, keeps-eatWs, keeps-steps, keeps-parse}
 
 -- ---- how many tokens are left
 
+-- a parser that keeps tokens leaves no more than there were
 pub short : {p : Parser} → Keeps p → (ts : List Token) → length (p ts .rest) ≤ length ts
 short a ts = omega (arith, simp length-append at (ap length (a .keeps ts .kept)))
-
-eat-rest : (ts : List Token) → eatWs ts .rest ≡ skipWs ts
-unfolding eatWs skipWs
-eat-rest [] = refl
-eat-rest (t ∷ ts) =
-    let ih = eat-rest ts in
-    whether (isBlank t) (λ e. rw (e, eatWs, skipWs) ih) (λ e. rw (e, eatWs, skipWs))
 
 -- a look that passes sees a token that is no blank
 pub record Sees (test : List Token → Bool) : Type 0 where
@@ -63,7 +57,7 @@ expect-less k n ts e = rw (expect-bump k ts e) (bump-less (sees-kind k n) ts e)
 -- ---- two parsers that do the same where they are asked
 
 -- a look that always passes
-abbrev always : List Token → Bool
+abbrev pub always : List Token → Bool
 always ts = true
 
 -- p does what q does on fewer than n tokens that pass the test, and leaves fewer than m
@@ -72,7 +66,8 @@ record Alike (test : List Token → Bool) (n m : ℕ) (p q : Parser) : Type 0 wh
   left : (ts : List Token) → test ts ≡ true → length ts < n → length (q ts .rest) < m
 
 infixl 60 _then_
-_then_ : {test : List Token → Bool} {n m l : ℕ} {p p′ q q′ : Parser} → Alike test n m p p′ → Alike always m l q q′ → Alike test n l (p ▹ q) (p′ ▹ q′)
+_then_ : {test : List Token → Bool} {n m l : ℕ} {p p′ q q′ : Parser} → Alike test n m p p′ → Alike always m l q q′
+    → Alike test n l (p ▹ q) (p′ ▹ q′)
 unfolding _▹_ join
 _then_ {p = p} {p′} {q} {q′} a b =
     record {
@@ -96,9 +91,11 @@ module _ {test : List Token → Bool} {n m : ℕ} {p p′ : Parser} (a : Alike t
         left = λ ts e s. whether (test ts) (λ t. rw (t, choose) (a .left ts t s)) (λ t. rw (t, choose) (b .left ts e s));
       }
 
+-- where the test passes as elsewhere
 any : {n m : ℕ} {p p′ : Parser} (test : List Token → Bool) → Alike always n m p p′ → Alike test n m p p′
 any test a = record { same = λ ts e s. a .same ts refl s; left = λ ts e s. a .left ts refl s }
 
+-- a parser is like itself; one that takes a token leaves one fewer
 module _ {n : ℕ} where
   alike : {p : Parser} → Keeps p → Alike always n n p p
   alike k = record { same = λ ts e s. refl; left = λ ts e s. omega (arith, short k ts) }
@@ -114,11 +111,12 @@ alike-method : {n : ℕ} {p q : Parser} → Alike always n n p q → Alike alway
 unfolding parseMethod
 alike-method a =
     let others : Keeps (choose (atText (ascii "count")) (bump ▹ noArgs) (choose atPlainMethod bump noMethod)) = search keeping depth 20 in
-    alike-choose (any atPredicateMethod (alike keeps-bump then alike-node CALL-ARGS (alike (keeps-expect L-PAREN) then a then alike (keeps-expect R-PAREN))))
-    (alike others)
+    let brackets = alike (keeps-expect L-PAREN) then a then alike (keeps-expect R-PAREN) in
+    alike-choose (any atPredicateMethod (alike keeps-bump then alike-node CALL-ARGS brackets)) (alike others)
 
 -- ---- one step asks for less
 
+-- the modes that a mode asks for at the same tokens are of a lower order
 abbrev order : Mode → ℕ
 order OrExpr = 2
 order AndExpr = 1
@@ -141,6 +139,7 @@ record Agree (g h : Mode → Parser) (n o : ℕ) : Type 0 where
   agree : (m : Mode) (ts : List Token) → 3 * length ts + order m < 3 * n + o → g m ts ≡ h m ts
 
 module _ {g h : Mode → Parser} {n o : ℕ} (a : Agree g h n o) (m : Mode) where
+  -- at the same tokens a mode of lower order, at fewer tokens any mode
   lower : order m < o → Alike always (suc n) (suc n) (g m) (h m)
   lower l = record { same = λ ts e s. a .agree m ts (omega arith); left = λ ts e s. omega (arith, short (a .keep m) ts) }
 
@@ -156,17 +155,17 @@ step-alike AndExpr a =
     let first = lower a Atom (omega arith) in
     alike-choose (any (hasBinaryOpAtLevel AND-KW) (alike-node BINARY-EXPR (first then lower a AndRest (omega arith)))) first
 step-alike OrRest a =
-    alike-choose (wider (alike-bump (sees-kind OR-KW (λ q. omega arith)) then fewer a AndExpr then fewer a OrRest)) (alike keeps-done)
+    alike-choose (wider (alike-bump (sees-kind OR-KW (omega arith)) then fewer a AndExpr then fewer a OrRest)) (alike keeps-done)
 step-alike AndRest a =
-    alike-choose (wider (alike-bump (sees-kind AND-KW (λ q. omega arith)) then fewer a Atom then fewer a AndRest)) (alike keeps-done)
+    alike-choose (wider (alike-bump (sees-kind AND-KW (omega arith)) then fewer a Atom then fewer a AndRest)) (alike keeps-done)
 step-alike Atom a =
     alike keeps-eatWs
-    then alike-choose (wider (alike-node UNARY-EXPR (alike-bump (sees-kind NOT-KW (λ q. omega arith)) then fewer a Atom)))
-    (alike-choose (wider (alike-node PAREN-EXPR (alike-bump (sees-kind L-PAREN (λ q. omega arith)) then fewer a OrExpr then alike (keeps-expect R-PAREN))))
+    then alike-choose (wider (alike-node UNARY-EXPR (alike-bump (sees-kind NOT-KW (omega arith)) then fewer a Atom)))
+    (alike-choose (wider (alike-node PAREN-EXPR (alike-bump (sees-kind L-PAREN (omega arith)) then fewer a OrExpr then alike (keeps-expect R-PAREN))))
     (alike keeps-simple))
 step-alike Calls a =
     alike keeps-eatWs
-    then alike-choose (wider (alike-node DOT-CALL (alike-expect DOT (λ q. omega arith) then alike-method (fewer a OrExpr)) then fewer a Calls)) (alike keeps-done)
+    then alike-choose (wider (alike-node DOT-CALL (alike-expect DOT (omega arith) then alike-method (fewer a OrExpr)) then fewer a Calls)) (alike keeps-done)
 
 -- ---- so more steps than enough change nothing
 
@@ -180,10 +179,13 @@ steps-same (suc f) (suc g) m ts a b =
 pub parse-step : (m : Mode) (ts : List Token) → parse m ts ≡ step parse m ts
 unfolding parse steps
 parse-step m ts =
-    step-alike {n = length ts} m (record { keep = keeps-parse; agree = λ o us l. steps-same (3 * length ts + 2) (suc (3 * length us + 2)) o us (omega (arith, order-le m)) (omega (arith, order-le o)) })
-    .same ts refl (omega arith)
+    step-alike {n = length ts} m (record {
+      keep = keeps-parse;
+      agree = λ o us l. steps-same (3 * length ts + 2) (suc (3 * length us + 2)) o us (omega (arith, order-le m)) (omega (arith, order-le o));
+    }) .same ts refl (omega arith)
 
-pub asks-step : {ts : List Token} {tokens t e : List ℕ} {l : ℕ} {c : Cursor} (m : Mode) → Asks ts tokens t e l c (parse m) → Asks ts tokens t e l c (step parse m)
+pub asks-step : {ts : List Token} {tokens t e : List ℕ} {l : ℕ} {c : Cursor} (m : Mode) → Asks ts tokens t e l c (parse m)
+    → Asks ts tokens t e l c (step parse m)
 asks-step {ts} {c = c} m f = asks-as (parse-step m (drop (c .token) ts)) f
 
 pub did-step : {ts : List Token} {t₀ t₁ e₀ e₁ : List ℕ} {l : ℕ} {c r : Cursor} (m : Mode)
@@ -201,6 +203,7 @@ pub at-kind : (k : ℕ) (ts : List Token) → currentKind ts ≡ k → atKind k 
 unfolding atKind
 at-kind k ts e = eq-eqb (currentKind ts) k e
 
+-- past a token of the kind that is seen
 module _ {ts : List Token} {t₀ t₁ e₀ e₁ : List ℕ} {l : ℕ} {c d : Cursor} (k : ℕ) (n : k ≡ NONE → ⊥) (e : currentKind (drop (c .token) ts) ≡ k) where
   pub bump-ahead : Did ts t₀ t₁ e₀ e₁ l c d bump → c .token < d .token
   bump-ahead a = ahead (bump-less (sees-kind k n) _ (at-kind k _ e)) a

@@ -1,13 +1,19 @@
 -- The tree of a rule has the rule's tokens, all of them and in order. Assumes nothing.
-use mathlib.Core.Path.{_≡_, refl}
+use mathlib.Core.Path.{_≡_, refl, sym, ap, _∙_}
 use mathlib.Core.List.{List, [], _∷_, _++_, append-assoc, append-nil}
-use mathlib.Core.Bool.{Bool, true, false}
-use Prim.Native.Nat.{ℕ, zero, suc, _+_, _*_}
+use mathlib.Core.Bool.{Bool, true, false, cond}
+use Prim.Native.Nat.{ℕ, zero, suc, _+_, _*_, _<_}
+use native.Mathlib.Omega.{arith}
+use borrow.Author.Tests.{eqb-true}
+use lib.Dec.{T, ltb, ltb→lt}
 use lib.ListN.{length}
-use Rattle.lexer.specs.Lex.{Token}
+use Rattle.syntax.specs.Kind.{ROOT, NONE}
+use Rattle.syntax.proofs.BoolLaws.{whether}
+use Rattle.lexer.specs.Lex.{Token, wordKind, kindOf, past, token, lexFrom, lex}
+use Rattle.lexer.specs.Bytes.{shapeOf}
 use Rattle.parser.specs.Green.{tokensOf}
-use Rattle.parser.specs.Look.{isBlank}
-use Rattle.parser.specs.Parse.{Parsed, Parser, done, next, fails, failsAhead, join, _▹_, inNode, choose, eatWs, bump, expect, simpleAtom, Mode, OrExpr, OrRest, AndExpr, AndRest, Atom, Calls, step, steps, parse, parsePipelineOrCountCompare}
+use Rattle.parser.specs.Look.{isBlank, skipWs, headKind, currentKind, atKind}
+use Rattle.parser.specs.Parse.{Parsed, Parser, done, next, fails, failsAhead, join, _▹_, inNode, choose, eatWs, bump, expect, simpleAtom, Mode, OrExpr, OrRest, AndExpr, AndRest, Atom, Calls, step, steps, parse, parsePipelineOrCountCompare, remaining, leftOver, parseRoot, parseExpr}
 use Rattle.parser.proofs.GreenLaws.{tokensOf-⊹}
 
 -- x is what was read from ts: the tokens of its tree and those left are ts
@@ -63,6 +69,7 @@ keeps-eatWs = record { keeps = go }
     go [] = record { kept = refl }
     go (t ∷ ts) = kept-test (isBlank t) (kept-join (keeps-next .keeps (t ∷ ts)) (go ts)) (record { kept = refl })
 
+-- the laws by which a parser's keeping is found along its definition
 pub ruleset keeping = (keeps-then, keeps-choose, keeps-node, keeps-done, keeps-next, keeps-fails, keeps-fails-ahead, keeps-eatWs)
 
 pub keeps-bump : Keeps bump
@@ -75,7 +82,7 @@ keeps-expect k = search keeping
 
 pub keeps-simple : Keeps simpleAtom
 unfolding simpleAtom
-keeps-simple = search keeping depth 30
+keeps-simple = search keeping depth 20
 
 keeps-step : {g : Mode → Parser} → ((m : Mode) → Keeps (g m)) → (m : Mode) → Keeps (step g m)
 unfolding step
@@ -95,6 +102,102 @@ pub keeps-parse : (m : Mode) → Keeps (parse m)
 unfolding parse
 keeps-parse m = record { keeps = λ ts. keeps-steps (suc (3 * length ts + 2)) m .keeps ts }
 
-keeps-compare : Keeps parsePipelineOrCountCompare
+pub keeps-compare : Keeps parsePipelineOrCountCompare
 unfolding parsePipelineOrCountCompare
 keeps-compare = search (keeping, keeps-parse) depth 20
+
+keeps-remaining : Keeps remaining
+unfolding remaining tokensOf
+keeps-remaining = record { keeps = go }
+  where
+    go : (ts : List Token) → Kept ts (remaining ts)
+    go [] = record { kept = refl }
+    go (t ∷ ts) = kept-join (keeps-next .keeps (t ∷ ts)) (go ts)
+
+keeps-root : Keeps parseRoot
+unfolding parseRoot
+keeps-root = search (keeping, keeps-compare, keeps-remaining) depth 20
+
+-- ---- the kinds of tokens come before those of nodes, and so before the one that stands for no token
+
+-- a test between two shapes of tokens, or between two kinds
+module _ (w : List ℕ) where
+  shape-cond : (t : Bool) (x y : _) → T (ltb (kindOf x w) ROOT) → T (ltb (kindOf y w) ROOT) → T (ltb (kindOf (cond t x y) w) ROOT)
+  shape-cond true x y a b = a
+  shape-cond false x y a b = b
+
+kind-cond : (t : Bool) (k m : ℕ) → T (ltb k ROOT) → T (ltb m ROOT) → T (ltb (cond t k m) ROOT)
+kind-cond true x y a b = a
+kind-cond false x y a b = b
+
+token-kind : (b : ℕ) (s : List ℕ) → T (ltb (token b s .kind) ROOT)
+unfolding token shapeOf wordKind
+token-kind b s = search (shape-cond, kind-cond, tt) depth 20
+
+-- every token has a kind of tokens
+unfoldable pub Kinds : List Token → Type 0
+Kinds [] = Unit {0}
+Kinds (t ∷ ts) = (t .kind < ROOT) × Kinds ts
+
+kinds-from : (s : List ℕ) (n : ℕ) → Kinds (lexFrom s n)
+unfolding lexFrom Kinds
+kinds-from [] n = tt
+kinds-from (b ∷ s) zero = (ltb→lt (token b s .kind) ROOT (token-kind b s), kinds-from s (past b s))
+kinds-from (b ∷ s) (suc n) = kinds-from s n
+
+pub kinds-lex : (rule : List ℕ) → Kinds (lex rule)
+unfolding lex
+kinds-lex rule = kinds-from rule 0
+
+-- so has each token further on
+kinds-right : (xs ys : List Token) → Kinds (xs ++ ys) → Kinds ys
+unfolding Kinds
+kinds-right [] ys k = k
+kinds-right (x ∷ xs) ys k = kinds-right xs ys (k .1)
+
+-- ---- nothing is left
+
+-- `eat_ws` leaves what the looks see
+pub eat-rest : (ts : List Token) → eatWs ts .rest ≡ skipWs ts
+unfolding eatWs skipWs
+eat-rest [] = refl
+eat-rest (t ∷ ts) =
+    let ih = eat-rest ts in
+    whether (isBlank t) (λ e. rw (e, eatWs, skipWs) ih) (λ e. rw (e, eatWs, skipWs))
+
+skip-twice : (ts : List Token) → skipWs (skipWs ts) ≡ skipWs ts
+unfolding skipWs
+skip-twice [] = refl
+skip-twice (t ∷ ts) =
+    let ih = skip-twice ts in
+    whether (isBlank t) (λ e. rw (e, skipWs) ih) (λ e. rw (e, skipWs, e, skipWs))
+
+-- where no token is seen, blanks alone are left
+skip-none : (ts : List Token) → Kinds ts → currentKind ts ≡ NONE → skipWs ts ≡ []
+unfolding skipWs Kinds
+skip-none [] k n = refl
+skip-none (t ∷ ts) k n =
+    let ih = skip-none ts (k .1) in
+    whether (isBlank t) (λ e. rw (e, skipWs) (ih (rw (e, skipWs) at n))) (λ e. let z : t .kind ≡ NONE = rw (e, skipWs) at n in absurd (omega arith))
+
+remaining-rest : (ts : List Token) → remaining ts .rest ≡ []
+unfolding remaining
+remaining-rest [] = refl
+remaining-rest (t ∷ ts) = remaining-rest ts
+
+left-over-rest : (ts : List Token) → Kinds ts → leftOver (skipWs ts) .rest ≡ []
+unfolding leftOver atKind
+left-over-rest ts k =
+    whether (atKind NONE (skipWs ts))
+    (λ e. rw (e, choose) (skip-none ts k (ap headKind (sym (skip-twice ts)) ∙ eqb-true _ _ e)))
+    (λ e. rw (e, choose) (remaining-rest (skipWs ts)))
+
+root-rest : (ts : List Token) → Kinds ts → parseRoot ts .rest ≡ []
+unfolding parseRoot
+root-rest ts k =
+    let us = parsePipelineOrCountCompare ts .rest in
+    rw (eat-rest us) (left-over-rest us (kinds-right (tokensOf (parsePipelineOrCountCompare ts .made)) us (rw (keeps-compare .keeps ts .kept) k)))
+
+pub tree-tokens : (rule : List ℕ) → tokensOf (parseExpr rule .made) ≡ lex rule
+unfolding parseExpr
+tree-tokens rule = rw (root-rest (lex rule) (kinds-lex rule), append-nil) at (keeps-root .keeps (lex rule) .kept)

@@ -1,75 +1,71 @@
+-- `parse_rule` meets its contract: test by test, and what the root's rows are in the tables. Assumes nothing.
+use denote.Ref.{now}
+use mathlib.Core.Path.{_≡_, refl, sym, ap, _∙_}
+use Prim.Native.Nat.{ℕ}
+use borrow.Author.Tests.{lt-ltb, le-ltb}
+use lib.ListN.{length}
+use Rattle.parser.specs.Read.{checkTables}
+use Rattle.parser.specs.declared.Reading.{Reading}
+use Rattle.parser.proofs.BoundLaws.{asks-root}
+use Rattle.parser.proofs.ReadLaws.{Room, room, lexes, lex-refuses-not, rooted, rows-read}
+use native.Mathlib.Omega.{arith}
 use borrow.Author.Needs.{needs}
 use Rattle.parser.proofs.parse_rule.Statement.{statement}
 use Rattle.parser.proofs.parse_rule.Tie as tie
-use Rattle.parser.proofs.parse_rule.Reads as reads
-use Rattle.parser.proofs.parse_rule.Lts as lts
-use Rattle.lexer.proofs.lex.Reads as lex-reads
-use Rattle.lexer.proofs.tables_short.Reads as tables-short-reads
-use Rattle.parser.proofs.parse_root.Reads as parse-root-reads
 
--- src/lib.rt:46:9
 returns : tie.Need-returns
-returns c = ?
+unfolding checkTables
+returns c = rw (lt-ltb _ _ (c .if1 .taken)) record { answer = refl; tokens = refl; tree = refl; errors = refl }
 
--- src/lib.rt:48:8
 tables-short-requires : tie.Need-tables-short-requires
 tables-short-requires c κs = search needs
 
--- src/lib.rt:49:9
 returns-2 : tie.Need-returns-2
-returns-2 c = ?
+unfolding checkTables
+returns-2 c = rw (le-ltb _ _ (c .before .before .if1 .left), sym (c .before .tables-short .ensures) ∙ c .if2 .taken) record { answer = refl; tokens = refl; tree = refl; errors = refl }
 
--- src/lib.rt:51:11
 lex-requires : tie.Need-lex-requires
 lex-requires c κs = search needs
 
--- src/lib.rt:52:24
 enum-known-r : tie.Need-enum-known-r
 enum-known-r c = search needs
 
--- src/lib.rt:53:23
 enum-known-n : tie.Need-enum-known-n
 enum-known-n c = search needs
 
--- src/lib.rt:54:23
 mul-end : tie.Need-mul-end
-mul-end c = ?
+mul-end c = omega (arith, c .before .before .before .before .before .before .before .before .before .if1 .left, lexes (c .before .before .before .before .before .before .before .before .before .if1 .left) (room _ _ _ _ (sym (c .before .before .before .before .before .before .before .before .tables-short .ensures) ∙ c .before .before .before .before .before .before .before .if2 .left) .tokens) (c .before .before .before .before .before .lex .ensures) (c .before .n .given .1) .few)
 
--- src/lib.rt:61:38
 slice-reshare-prefix-parse-root : tie.Need-slice-reshare-prefix-parse-root
-slice-reshare-prefix-parse-root c = ?
+slice-reshare-prefix-parse-root c = lexes (c .before .before .before .before .before .before .before .before .before .if1 .left) (room _ _ _ _ (sym (c .before .before .before .before .before .before .before .before .tables-short .ensures) ∙ c .before .before .before .before .before .before .before .if2 .left) .tokens) (c .before .before .before .before .before .lex .ensures) (c .before .n .given .1) .within
 
--- src/lib.rt:61:38
 slice-aggregate-parse-root : tie.Need-slice-aggregate-parse-root
-slice-aggregate-parse-root c = ?
+slice-aggregate-parse-root c = lexes (c .before .before .before .before .before .before .before .before .before .before .if1 .left) (room _ _ _ _ (sym (c .before .before .before .before .before .before .before .before .before .tables-short .ensures) ∙ c .before .before .before .before .before .before .before .before .if2 .left) .tokens) (c .before .before .before .before .before .before .lex .ensures) (c .before .before .n .given .1) .part
 
--- src/lib.rt:61:17
 parse-root-requires : tie.Need-parse-root-requires
-parse-root-requires c κs = ?
+parse-root-requires c κs = asks-root (now (c .before .before .before .before .before .before .before .before .before .before .before .before .before .before .before .before .before .args .rule)) (lexes (c .before .before .before .before .before .before .before .before .before .before .before .before .if1 .left) (room _ _ _ _ (sym (c .before .before .before .before .before .before .before .before .before .before .before .tables-short .ensures) ∙ c .before .before .before .before .before .before .before .before .before .before .if2 .left) .tokens) (c .before .before .before .before .before .before .before .before .lex .ensures) (c .before .before .before .before .n .given .1) .rows) (room _ _ _ _ (sym (c .before .before .before .before .before .before .before .before .before .before .before .tables-short .ensures) ∙ c .before .before .before .before .before .before .before .before .before .before .if2 .left) .tree) (room _ _ _ _ (sym (c .before .before .before .before .before .before .before .before .before .before .before .tables-short .ensures) ∙ c .before .before .before .before .before .before .before .before .before .before .if2 .left) .errors) (c .before .before .before .before .before .before .before .before .before .before .before .before .if1 .left)
 
--- src/lib.rt:42:1
 same-length : tie.Need-same-length
 same-length c = search needs
 
--- src/lib.rt:42:1
 returns-3 : tie.Need-returns-3
-returns-3 c = ?
+returns-3 c = absurd (lex-refuses-not (c .before .before .before .before .before .before .before .before .before .if1 .left) (room _ _ _ _ (sym (c .before .before .before .before .before .before .before .before .tables-short .ensures) ∙ c .before .before .before .before .before .before .before .if2 .left) .tokens) (c .before .before .before .before .before .lex .ensures) (c .before .r .given .1))
 
--- src/lib.rt:42:1
 same-length-2 : tie.Need-same-length-2
 same-length-2 c = search needs
 
--- src/lib.rt:42:1
 same-length-3 : tie.Need-same-length-3
 same-length-3 c = search needs
 
--- src/lib.rt:42:1
 same-length-4 : tie.Need-same-length-4
 same-length-4 c = search needs
 
--- src/lib.rt:42:1
 returns-4 : tie.Need-returns-4
-returns-4 c = ?
+unfolding checkTables
+returns-4 c =
+    let l = lexes (c .before .before .before .before .before .before .before .before .before .before .before .before .before .before .before .before .before .before .before .if1 .left) (room _ _ _ _ (sym (c .before .before .before .before .before .before .before .before .before .before .before .before .before .before .before .before .before .before .tables-short .ensures) ∙ c .before .before .before .before .before .before .before .before .before .before .before .before .before .before .before .before .before .if2 .left) .tokens) (c .before .before .before .before .before .before .before .before .before .before .before .before .before .before .before .lex .ensures) (c .before .before .before .before .before .before .before .before .before .before .before .n .given .1) in
+    let q = rooted (now (c .before .before .before .before .before .before .before .before .before .before .before .before .before .before .before .before .before .before .before .before .before .before .before .before .args .rule)) (c .before .before .before .before .before .before .parse-root .ensures) (asks-root (now (c .before .before .before .before .before .before .before .before .before .before .before .before .before .before .before .before .before .before .before .before .before .before .before .before .args .rule)) (l .rows) (room _ _ _ _ (sym (c .before .before .before .before .before .before .before .before .before .before .before .before .before .before .before .before .before .before .tables-short .ensures) ∙ c .before .before .before .before .before .before .before .before .before .before .before .before .before .before .before .before .before .if2 .left) .tree) (room _ _ _ _ (sym (c .before .before .before .before .before .before .before .before .before .before .before .before .before .before .before .before .before .before .tables-short .ensures) ∙ c .before .before .before .before .before .before .before .before .before .before .before .before .before .before .before .before .before .if2 .left) .errors) (c .before .before .before .before .before .before .before .before .before .before .before .before .before .before .before .before .before .before .before .if1 .left)) in
+    rw (le-ltb _ _ (c .before .before .before .before .before .before .before .before .before .before .before .before .before .before .before .before .before .before .before .if1 .left), sym (c .before .before .before .before .before .before .before .before .before .before .before .before .before .before .before .before .before .before .tables-short .ensures) ∙ c .before .before .before .before .before .before .before .before .before .before .before .before .before .before .before .before .before .if2 .left) record { answer = rows-read (l .count) (q .rows) (q .found); tokens = l .table; tree = q .tree; errors = q .errors }
 
 pub parse-rule-spec : {M : Type 1} → statement M
 parse-rule-spec =
