@@ -1,0 +1,4 @@
+pub mod Form
+pub mod Message
+pub mod Write
+pub mod Parts
