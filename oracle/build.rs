@@ -51,12 +51,21 @@ const FORMS: [Form; 6] = [
     },
 ];
 
+/// `parse_expr` over tokens that are at hand, so that a reading calls `lex` once less.
+const PARSE_TOKENS: &str = "
+pub(crate) fn parse_tokens(tokens: Vec<(ExprSyntaxKind, String)>) -> ParseResult {
+    let mut p = ExprParser::new(tokens);
+    p.parse_root();
+    p.finish()
+}
+";
+
 fn main() {
     let folder = source_folder();
     let out = PathBuf::from(env::var_os("OUT_DIR").unwrap());
     let placed = out.join("placed_parser.rs");
     let parser = read(&folder.join("parser.rs"));
-    write(&placed, &record_places(&parser));
+    write(&placed, &(record_places(&parser) + PARSE_TOKENS));
     write(&out.join("assertion.rs"), &modules(&folder, &placed));
     if env::var_os("CARGO_FEATURE_PROVED").is_some() {
         link_proved();

@@ -94,6 +94,9 @@ const DAMAGE: [&[u8]; 24] = [
 /// Texts of which a rule at the length limit may be made.
 const FILLINGS: [&str; 10] = ["a", " ", ".", "3", "%", "é", "€", "😀", "' ", "components "];
 
+/// Numbers in a table that is far longer than any rule needs.
+pub const FAR_MORE: usize = 20_000;
+
 /// Gives case after case of one kind, over buffers that are used again.
 pub struct Generator {
     kind: Kind,
@@ -158,8 +161,7 @@ impl Generator {
             0 => **length = length.saturating_sub(*row),
             1 => **length = length.saturating_sub(1),
             2 => **length += 1,
-            // Only the lengths of tree and errors are lent, so that they may be vast.
-            3 if chosen > 0 => **length = 1 << 32,
+            3 if chosen > 0 => **length = FAR_MORE,
             _ => {}
         }
     }
@@ -375,7 +377,7 @@ fn cut(rule: &mut Vec<u8>, length: usize) {
 #[cfg(test)]
 mod tests {
     use super::*;
-    use crate::reading::{read, refusal};
+    use crate::reading::read;
 
     /// Every refusal, every form of error and every kind in a tree arises.
     #[test]
@@ -386,18 +388,14 @@ mod tests {
             let mut generator = Generator::new(kind, 1);
             for _ in 0..5000 {
                 generator.fill(&mut case);
-                let number = refusal(&case.rule, case.tokens, case.tree, case.errors);
-                refusals[number.unwrap_or(0) as usize] += 1;
-                if number.is_none() {
-                    let reading = read(str::from_utf8(&case.rule).unwrap());
-                    reading
-                        .errors
-                        .iter()
-                        .for_each(|row| forms[row[0] as usize] += 1);
-                    reading
-                        .tree
-                        .iter()
-                        .for_each(|row| kinds[row[0] as usize] += 1);
+                let read = read(&case);
+                refusals[*read.as_ref().err().unwrap_or(&0) as usize] += 1;
+                let Ok(reading) = read else { continue };
+                for row in &reading.errors {
+                    forms[row[0] as usize] += 1;
+                }
+                for row in &reading.tree {
+                    kinds[row[0] as usize] += 1;
                 }
             }
         }

@@ -2,6 +2,7 @@
 
 #[allow(dead_code)]
 mod assertion;
+mod bench;
 #[cfg(test)]
 mod boards;
 mod case;
@@ -9,12 +10,18 @@ mod compare;
 mod exhaustive;
 mod generate;
 mod grammar;
+mod messages;
 mod pieces;
 mod places;
 mod proved;
 mod random;
 mod reading;
 mod replay;
+mod replay_tokens;
+mod replay_trees;
+mod sequences;
+mod sides;
+mod tables;
 
 use std::env;
 use std::fs;
@@ -23,24 +30,32 @@ use std::path::Path;
 use std::process::ExitCode;
 
 use case::Case;
+use compare::Wanted;
 
 const HELP: &str = "\
 oracle: the four Rust files beside the proved code
 
-  compare [--count N] [--seed S]
-      compares all short texts, all beginnings of characters and N generated
-      cases (1000000), drawn from the seed S (1); stops at the first difference
+  compare [--count N] [--seed S] [--sequences L]
+      compares all short texts, all beginnings of characters, all sequences of
+      up to L tokens (4; at most 8) and N generated cases (1000000), drawn from
+      the seed S (1); stops at the first difference
   one HEX TOKENS TREE ERRORS
       runs one case, a rule in hex (- for none) and the three table lengths in
       numbers, and prints what both sides say
+  bench [--rounds N]
+      measures both sides on the same rules, N times (31)
   tree [FILE]
       reads a rule from FILE or standard input and prints its tree, the number
       of errors and their messages
   replay FOLDER
-      writes the fixed cases to FOLDER/stdin and their answers to FOLDER/stdout
+      writes the fixed cases of tokens to FOLDER/stdin and their answers to
+      FOLDER/stdout
+  replay-trees FOLDER
+      the same for whole readings: tokens, trees, errors and messages
   help
 
-compare and one need the proved code: build with --features proved.
+compare, one and bench need the proved code: build with --features proved for
+its tokens, with --features parse for its trees and messages too.
 Exit status: 0 done or agreed; 1 a difference; 2 bad usage or a file's failure.
 ";
 
@@ -50,15 +65,17 @@ fn main() -> ExitCode {
         return usage();
     };
     let done = match (command.as_str(), words) {
-        ("compare" | "one", _) if !proved::LINKED => {
+        ("compare" | "one" | "bench", _) if !proved::LINKED => {
             eprintln!("{command} needs the proved code: build with --features proved");
             return ExitCode::from(2);
         }
         ("compare", _) => return compare(words),
         ("one", _) => return one(words),
+        ("bench", _) => return bench(words),
         ("tree", []) => tree(&mut io::stdin()),
         ("tree", [file]) => fs::File::open(file).and_then(|mut file| tree(&mut file)),
-        ("replay", [folder]) => replay::write(Path::new(folder)),
+        ("replay", [folder]) => replay::write_tokens(Path::new(folder)),
+        ("replay-trees", [folder]) => replay::write_trees(Path::new(folder)),
         ("help", []) => io::stdout().write_all(HELP.as_bytes()),
         _ => return usage(),
     };
@@ -77,10 +94,10 @@ fn usage() -> ExitCode {
 }
 
 fn compare(words: &[String]) -> ExitCode {
-    let Some((count, seed)) = count_and_seed(words) else {
+    let Some(wanted) = wanted(words) else {
         return usage();
     };
-    match compare::compare(count, seed) {
+    match compare::compare(&wanted) {
         Ok(()) => ExitCode::SUCCESS,
         Err(difference) => {
             println!("{difference}");
@@ -89,31 +106,56 @@ fn compare(words: &[String]) -> ExitCode {
     }
 }
 
-/// The values after `--count` and `--seed`.
-fn count_and_seed(words: &[String]) -> Option<(usize, u64)> {
-    let (mut count, mut seed) = (1_000_000, 1);
+/// The values after `--count`, `--seed` and `--sequences`.
+fn wanted(words: &[String]) -> Option<Wanted> {
+    let mut wanted = Wanted {
+        count: 1_000_000,
+        seed: 1,
+        sequences: 4,
+    };
     for pair in words.chunks(2) {
         match pair {
-            [name, value] if name == "--count" => count = value.parse().ok()?,
-            [name, value] if name == "--seed" => seed = value.parse().ok()?,
+            [name, value] if name == "--count" => wanted.count = value.parse().ok()?,
+            [name, value] if name == "--seed" => wanted.seed = value.parse().ok()?,
+            [name, value] if name == "--sequences" => wanted.sequences = value.parse().ok()?,
             _ => return None,
         }
     }
-    Some((count, seed))
+    (wanted.sequences <= sequences::LONGEST).then_some(wanted)
 }
 
 fn one(words: &[String]) -> ExitCode {
     let Some(case) = Case::from_words(words) else {
         return usage();
     };
-    let comparison = compare::one(&case);
-    println!("{}", comparison.sides());
-    if comparison.agrees() {
-        println!("agreed");
-        return ExitCode::SUCCESS;
+    match compare::one(&case) {
+        Ok(said) => {
+            println!("{said}\nagreed");
+            ExitCode::SUCCESS
+        }
+        Err(difference) => {
+            println!("{difference}");
+            ExitCode::FAILURE
+        }
     }
-    println!("differs");
-    ExitCode::FAILURE
+}
+
+fn bench(words: &[String]) -> ExitCode {
+    let rounds = match words {
+        [] => Some(31),
+        [name, value] if name == "--rounds" => value.parse().ok(),
+        _ => None,
+    };
+    let Some(rounds @ 1..) = rounds else {
+        return usage();
+    };
+    match bench::bench(rounds) {
+        Ok(()) => ExitCode::SUCCESS,
+        Err(difference) => {
+            println!("{difference}");
+            ExitCode::FAILURE
+        }
+    }
 }
 
 /// Prints a rule's tree rows, the number of its errors and their messages, or its refusal.
@@ -121,16 +163,15 @@ fn tree(input: &mut dyn Read) -> io::Result<()> {
     let mut rule = Vec::new();
     input.read_to_end(&mut rule)?;
     let mut out = io::stdout().lock();
-    let most = usize::MAX;
-    if let Some(number) = reading::refusal(&rule, most, most, most) {
-        return writeln!(out, "refused {number}");
-    }
-    let reading = reading::read(str::from_utf8(&rule).unwrap());
+    let reading = match reading::read(&Case::new(&rule)) {
+        Ok(reading) => reading,
+        Err(number) => return writeln!(out, "refused {number}"),
+    };
     for [kind, level, first, end] in &reading.tree {
         writeln!(out, "{kind} {level} {first} {end}")?;
     }
     writeln!(out, "errors {}", reading.errors.len())?;
-    for message in &reading.messages {
+    for message in reading.messages() {
         writeln!(out, "{message}")?;
     }
     Ok(())

@@ -27,9 +27,9 @@ pub fn record(form: u32, expected: u32, token: usize) {
     PLACES.with_borrow_mut(|places| places.push(place));
 }
 
-/// The places recorded since they were last taken.
-pub fn take() -> Vec<Place> {
-    PLACES.take()
+/// The places recorded since they were last taken, each as `row` makes it.
+pub fn take<Row>(row: impl Fn(Place) -> Row) -> Vec<Row> {
+    PLACES.with_borrow_mut(|places| places.drain(..).map(row).collect())
 }
 
 /// The index of the first token from `at` that is not blank.

@@ -1,7 +1,10 @@
 //! The proved code, called through the C interface of its static library.
 
-/// Whether the proved code is part of this build.
+use crate::case::ERROR_ROW;
+
+/// Whether the proved code is part of this build, and whether it has the parser and its messages.
 pub const LINKED: bool = cfg!(feature = "proved");
+pub const PARSES: bool = cfg!(feature = "parse");
 
 #[cfg(feature = "proved")]
 unsafe extern "C" {
@@ -13,6 +16,35 @@ unsafe extern "C" {
         tree_len: usize,
         errors_len: usize,
         count: *mut u32,
+    ) -> u32;
+}
+
+#[cfg(feature = "parse")]
+unsafe extern "C" {
+    fn assertion_parse_expr(
+        rule: *const u8,
+        rule_len: usize,
+        tokens: *mut u32,
+        tokens_len: usize,
+        tree: *mut u32,
+        tree_len: usize,
+        errors: *mut u32,
+        errors_len: usize,
+        token_rows: *mut u32,
+        tree_rows: *mut u32,
+        error_rows: *mut u32,
+    ) -> u32;
+
+    fn assertion_message(
+        rule: *const u8,
+        rule_len: usize,
+        form: u32,
+        expected: u32,
+        first: u32,
+        end: u32,
+        out: *mut u8,
+        out_len: usize,
+        written: *mut u32,
     ) -> u32;
 }
 
@@ -40,7 +72,67 @@ pub fn read_tokens(
     }
 }
 
+/// Returns 0 with token, tree and error rows at the front of the tables and their numbers in
+/// `counts`, or the refusal's number with all as found.
+#[cfg(feature = "parse")]
+pub fn parse_expr(
+    rule: &[u8],
+    tokens: &mut [u32],
+    tree: &mut [u32],
+    errors: &mut [u32],
+    counts: &mut [u32; 3],
+) -> u32 {
+    let [token_rows, tree_rows, error_rows] = counts;
+    // SAFETY: each pointer is valid for the length beside it, and nothing lent overlaps.
+    unsafe {
+        assertion_parse_expr(
+            rule.as_ptr(),
+            rule.len(),
+            tokens.as_mut_ptr(),
+            tokens.len(),
+            tree.as_mut_ptr(),
+            tree.len(),
+            errors.as_mut_ptr(),
+            errors.len(),
+            token_rows,
+            tree_rows,
+            error_rows,
+        )
+    }
+}
+
+/// Returns 0 with the message of an error row at the front of `out` and its length in `written`,
+/// or 1 with both as found where `out` is too short.
+#[cfg(feature = "parse")]
+pub fn message(rule: &[u8], error: [u32; ERROR_ROW], out: &mut [u8], written: &mut u32) -> u32 {
+    let [form, expected, first, end] = error;
+    // SAFETY: each pointer is valid for the length beside it, and nothing lent overlaps.
+    unsafe {
+        assertion_message(
+            rule.as_ptr(),
+            rule.len(),
+            form,
+            expected,
+            first,
+            end,
+            out.as_mut_ptr(),
+            out.len(),
+            written,
+        )
+    }
+}
+
 #[cfg(not(feature = "proved"))]
 pub fn read_tokens(_: &[u8], _: &mut [u32], _: usize, _: usize, _: &mut u32) -> u32 {
     unreachable!("whoever calls this asks LINKED first")
+}
+
+#[cfg(not(feature = "parse"))]
+pub fn parse_expr(_: &[u8], _: &mut [u32], _: &mut [u32], _: &mut [u32], _: &mut [u32; 3]) -> u32 {
+    unreachable!("whoever calls this asks PARSES first")
+}
+
+#[cfg(not(feature = "parse"))]
+pub fn message(_: &[u8], _: [u32; ERROR_ROW], _: &mut [u8], _: &mut u32) -> u32 {
+    unreachable!("whoever calls this asks PARSES first")
 }

@@ -1,208 +1,54 @@
-//! The fixed cases, with the Rust's answers, for the program that replays them without Rust.
+//! Fixed cases, with the Rust's answers, for the programs that replay them without Rust.
 
-use std::collections::HashSet;
 use std::fs;
 use std::io::{self, Write};
 use std::path::Path;
 
-use crate::case::{Case, TOKEN_ROW};
+use crate::case::Case;
 use crate::generate::{Generator, Kind};
-use crate::reading;
+use crate::reading::{self, Reading};
+use crate::{replay_tokens, replay_trees};
 
 /// The seed of the cases drawn from the generator.
 const SEED: u64 = 1;
 
-/// The longest rule that the replaying program takes, and the most numbers in its token table, and
-/// in its tree and error tables.
-const LONGEST_RULE: usize = 520;
-const LONGEST_TOKENS: usize = 1520;
-const LONGEST_TREE: usize = 16_800;
+/// Writes a reading's rows.
+type WriteRows = fn(&Reading, &mut Vec<u8>) -> io::Result<()>;
 
-/// How many cases are drawn of each kind, and how long their rules may be.
-const DRAWN: [(Kind, usize, usize); 6] = [
-    (Kind::Grammar, 170, 150),
-    (Kind::NearMiss, 170, 150),
-    (Kind::TokenSoup, 170, 150),
-    (Kind::Utf8, 170, 150),
-    (Kind::Bytes, 170, 150),
-    (Kind::Limits, 100, LONGEST_RULE),
-];
+/// Writes the cases of tokens to `folder/stdin` and their answers to `folder/stdout`.
+pub fn write_tokens(folder: &Path) -> io::Result<()> {
+    write(folder, &replay_tokens::cases(), token_rows)
+}
 
-/// The corners of `lexer.rs` in document 01, and texts whose tokens its parser treats apart.
-const CORNERS: &[&str] = &[
-    "",
-    // A form feed belongs to a blank run that it does not begin.
-    "\x0c",
-    " \x0c",
-    "\x0c ",
-    " \x0c ",
-    "\x0c\x0c",
-    "\t\x0c\r\x0c\n",
-    "a\x0cb",
-    "a \x0cb",
-    "a\x0c b",
-    "components \x0c.count()",
-    "components\x0c.count()",
-    "components.where(connected)\x0c.count()",
-    "components.where(connected) \x0c.count()",
-    // A vertical tab is an error outside quotes.
-    "\x0b",
-    " \x0b ",
-    "\x0b\x0b",
-    "a\x0bb",
-    "'\x0b'",
-    "'\x0b",
-    "'\x0c'",
-    // `=` and `!` need an `=` after them.
-    "=",
-    "!",
-    "= =",
-    "! =",
-    "==",
-    "!=",
-    "===",
-    "====",
-    "!==",
-    "!!=",
-    "=!=",
-    "=!",
-    "<=",
-    ">=",
-    "<==",
-    ">==",
-    "<>",
-    "><=",
-    "=>",
-    "=<",
-    "= 'a'",
-    "=\u{e9}",
-    "components = 3",
-    // Any other error is one whole character.
-    "%",
-    "-",
-    "\"",
-    ":",
-    "::",
-    "a-b",
-    "a::b",
-    "\0",
-    "\u{7f}",
-    "\u{80}",
-    "\u{85}",
-    "\u{a0}",
-    "\u{e9}",
-    "\u{7ff}",
-    "\u{800}",
-    "\u{2028}",
-    "\u{20ac}",
-    "\u{d7ff}",
-    "\u{e000}",
-    "\u{feff}components",
-    "\u{ffff}",
-    "\u{10000}",
-    "\u{1f600}",
-    "\u{10ffff}",
-    "\u{e9}\u{20ac}\u{1f600}",
-    "a\u{e9}b",
-    "3\u{660}",
-    " \u{3000} ",
-    // An unclosed quote reaches the end.
-    "'",
-    "''",
-    "'''",
-    "''''",
-    "'a",
-    "'a'b",
-    "'a'b'",
-    "a'b",
-    "' ",
-    "'\n'",
-    "'\u{e9}",
-    "'\u{1f600}'",
-    "'\u{1f600}",
-    "\u{1f600}'",
-    "'components.count() > 2",
-    "components.where(has('probe).count()",
-    // Digits, then letters.
-    "3ab",
-    "3_",
-    "3.4",
-    "ab3",
-    "_3",
-    "007",
-    "0x1f",
-    "18446744073709551615",
-    "18446744073709551616",
-    // Keywords are whole words as typed.
-    "and",
-    "or",
-    "not",
-    "And",
-    "OR",
-    "Not",
-    "an",
-    "no",
-    "o",
-    "ands",
-    "orc",
-    "nots",
-    "not_",
-    "not1",
-    "_not",
-    "1not",
-    "notnot",
-    "not not",
-    "not(",
-    "or'and'not",
-    "and.or,not",
-    // Rules that the parser reads in its own way.
-    ".",
-    "..",
-    "> 3",
-    ">3",
-    "components x > 3",
-    "components.where(category == 3",
-    "components.where(or connected)",
-    "components.where(and and connected)",
-    "components.where(connected or connected and connected)",
-    "components.where(connected or connected or connected and connected)",
-    "components.where( connected or  connected )",
-    "  components  .  count (  )  ",
-    " analysis ( 'name' ) . diagnostics",
-    "analysis( )",
-    "components.nothing",
-    "components.  ",
-    "components.where(message.contains('')).count()",
-    "components.where(message. contains ( 'a\u{b}b' ) )",
-    // Document 01's cases.
-    "components.count() > 2",
-    "components.features.all(connected)",
-    "components.none(category == 'devce')",
-    "components.where(category == 'bus').all(connected)",
-    "components.where(has('probe')).count()",
-    "components.features.any(has('probe'))",
-    "components.features.where(not kind == 'Data-Port').count()",
-    "components.all(connected) == 1",
-    "components.any(connected)",
-    "components.none(connected)",
-    "components.where(has('a::b::c'))",
-    "components.count() >= 18446744073709551616",
-];
+/// The same for whole readings: tokens, trees, errors and messages.
+pub fn write_trees(folder: &Path) -> io::Result<()> {
+    write(folder, &replay_trees::cases(), all_rows)
+}
 
-/// Writes the cases to `folder/stdin` and their answers to `folder/stdout`.
-pub fn write(folder: &Path) -> io::Result<()> {
-    let cases = cases();
-    let (mut stdin, mut stdout) = (Vec::new(), Vec::new());
-    for (index, case) in cases.iter().enumerate() {
-        write_case(case, &mut stdin)?;
-        write_answer(index + 1, case, &mut stdout)?;
-    }
+fn write(folder: &Path, cases: &[Case], rows: WriteRows) -> io::Result<()> {
+    let (stdin, stdout) = texts(cases, rows)?;
     fs::create_dir_all(folder)?;
     fs::write(folder.join("stdin"), &stdin)?;
     fs::write(folder.join("stdout"), &stdout)?;
     let (count, asked, answered) = (cases.len(), stdin.len(), stdout.len());
     println!("{count} cases, stdin {asked} bytes, stdout {answered} bytes");
     Ok(())
+}
+
+/// The cases and their answers, one after the other.
+pub fn texts(cases: &[Case], rows: WriteRows) -> io::Result<(Vec<u8>, Vec<u8>)> {
+    let (mut stdin, mut stdout) = (Vec::new(), Vec::new());
+    for (index, case) in cases.iter().enumerate() {
+        write_case(case, &mut stdin)?;
+        writeln!(stdout, "case {}", index + 1)?;
+        match reading::read(case) {
+            Ok(reading) => rows(&reading, &mut stdout)?,
+            Err(number) => writeln!(stdout, "refused {number}")?,
+        }
+        // All else stays as found.
+        writeln!(stdout, "kept")?;
+    }
+    Ok((stdin, stdout))
 }
 
 /// `TOKENS TREE ERRORS LENGTH:`, the rule's bytes and a line feed.
@@ -219,132 +65,80 @@ fn write_case(case: &Case, out: &mut Vec<u8>) -> io::Result<()> {
     writeln!(out)
 }
 
-/// The token rows and their number, or the refusal; then `kept`, as all else stays as found.
-fn write_answer(number: usize, case: &Case, out: &mut Vec<u8>) -> io::Result<()> {
-    let mut tokens = vec![0; case.tokens];
-    let mut count = 0;
-    let Case { tree, errors, .. } = *case;
-    let returned = reading::read_tokens(&case.rule, &mut tokens, tree, errors, &mut count);
-    writeln!(out, "case {number}")?;
-    if returned == 0 {
-        for row in tokens.chunks_exact(TOKEN_ROW).take(count as usize) {
-            writeln!(out, "{} {} {}", row[0], row[1], row[2])?;
-        }
-        writeln!(out, "tokens {count}")?;
-    } else {
-        writeln!(out, "refused {returned}")?;
+fn token_rows(reading: &Reading, out: &mut Vec<u8>) -> io::Result<()> {
+    for [kind, first, end] in &reading.tokens {
+        writeln!(out, "{kind} {first} {end}")?;
     }
-    writeln!(out, "kept")
+    writeln!(out, "tokens {}", reading.tokens.len())
 }
 
-/// The corners, every single byte, the limits, and cases drawn of each kind; each case once.
-fn cases() -> Vec<Case> {
-    let mut cases = Vec::new();
-    cases.extend(CORNERS.iter().map(|text| Case::new(text.as_bytes())));
-    cases.extend((0..=0xff).map(|byte| Case::new(&[byte])));
-    length_limits(&mut cases);
-    opener_limits(&mut cases);
-    table_limits(&mut cases);
-    for (kind, count, longest) in DRAWN {
-        draw(kind, count, longest, &mut cases);
+pub fn all_rows(reading: &Reading, out: &mut Vec<u8>) -> io::Result<()> {
+    token_rows(reading, out)?;
+    for [kind, level, first, end] in &reading.tree {
+        writeln!(out, "{kind} {level} {first} {end}")?;
     }
-    let mut seen = HashSet::new();
-    cases.retain(|case| seen.insert(case.clone()));
-    cases
+    writeln!(out, "tree {}", reading.tree.len())?;
+    for ([form, expected, first, end], message) in reading.errors.iter().zip(reading.messages()) {
+        writeln!(out, "{form} {expected} {first} {end}")?;
+        writeln!(out, "{message}")?;
+    }
+    writeln!(out, "errors {}", reading.errors.len())
 }
 
-/// A case whose token table is not longer than the replaying program takes.
-fn bounded(rule: &[u8]) -> Case {
-    let mut case = Case::new(rule);
-    case.tokens = case.tokens.min(LONGEST_TOKENS);
-    case
+/// What a replaying program takes: the longest rule in bytes, and the longest tables in numbers.
+pub struct Bounds {
+    pub rule: usize,
+    pub tokens: usize,
+    /// Of the tree table, and of the error table.
+    pub tree: usize,
 }
 
-/// Texts around 500 bytes, of which some end in the first byte of a character.
-fn length_limits(cases: &mut Vec<Case>) {
-    for length in [499, 500, 501, LONGEST_RULE] {
-        for filling in ["a", "'", "%", "\u{e9}", "\u{20ac}", "\u{1f600}"] {
-            let mut rule = filling.repeat(length / filling.len()).into_bytes();
-            rule.resize(length, b' ');
-            cases.push(bounded(&rule));
-        }
-        let mut rule = vec![b'.'; length];
-        rule[length - 1] = 0xc3;
-        cases.push(bounded(&rule));
+impl Bounds {
+    /// A rule with tables of just enough rows, or as long as they may be.
+    pub fn case(&self, rule: &[u8]) -> Case {
+        let mut case = Case::new(rule);
+        case.tokens = case.tokens.min(self.tokens);
+        case.tree = case.tree.min(self.tree);
+        case.errors = case.errors.min(self.tree);
+        case
+    }
+
+    pub fn hold(&self, case: &Case) -> bool {
+        case.rule.len() <= self.rule
+            && case.tokens <= self.tokens
+            && case.tree <= self.tree
+            && case.errors <= self.tree
     }
 }
 
-/// Texts with 63 to 66 openers, among texts that only look like them; 65 with another refusal.
-fn opener_limits(cases: &mut Vec<Case>) {
-    for count in 63..=66 {
-        for opener in ["(", "not ", "not\t", "'('(", "nots(", "(not_ ", "or not "] {
-            cases.push(Case::new(opener.repeat(count).as_bytes()));
-        }
-        let mixed = "not(".repeat(count / 2) + &"(".repeat(count % 2);
-        cases.push(Case::new(mixed.as_bytes()));
-    }
-    let many = "not ".repeat(65);
-    cases.push(Case::new(&[many.as_bytes(), b"\x80"].concat()));
-    cases.push(Case::new("not(".repeat(125).as_bytes()));
-    cases.push(Case::new("not(".repeat(126).as_bytes()));
-    let mut short = Case::new(many.as_bytes());
-    short.tokens -= 1;
-    cases.push(short);
-}
-
-/// Each table by itself around just enough, and empty; then no tables at all.
-fn table_limits(cases: &mut Vec<Case>) {
-    let long = "ab ".repeat(166) + "cd";
-    for rule in ["", "a", "components.count() > 2", long.as_str()] {
-        let enough = Case::new(rule.as_bytes());
-        for table in 0..3 {
-            for change in [1, 2, 3, 4, -1, -2, -3, -4, isize::MIN] {
-                let mut case = enough.clone();
-                let (length, _) = &mut case.tables()[table];
-                **length = length.saturating_add_signed(change);
-                cases.push(case);
-            }
-        }
-    }
-    for rule in ["", "a", "\u{e9}", "not"] {
-        cases.push(without_tables(rule.as_bytes()));
-    }
-    cases.push(without_tables(b"\xc3"));
-}
-
-fn without_tables(rule: &[u8]) -> Case {
-    Case {
-        rule: rule.to_vec(),
-        ..Case::default()
-    }
-}
-
-/// Adds cases of one kind, passing over those that are too long.
-fn draw(kind: Kind, count: usize, longest: usize, cases: &mut Vec<Case>) {
+/// Cases of one kind without end, passing over those that are too long.
+pub fn drawn(kind: Kind, bounds: &Bounds) -> impl Iterator<Item = Case> {
     let mut generator = Generator::new(kind, SEED);
-    let end = cases.len() + count;
-    while cases.len() < end {
+    let next = move || {
         let mut case = Case::default();
         generator.fill(&mut case);
-        if case.rule.len() <= longest && fits(&case) {
+        Some(case)
+    };
+    std::iter::from_fn(next).filter(|case| bounds.hold(case))
+}
+
+/// A rule with each table by itself around just enough, and empty.
+pub fn around_enough(rule: &[u8], cases: &mut Vec<Case>) {
+    let enough = Case::new(rule);
+    for table in 0..3 {
+        for change in [1, 2, 3, 4, -1, -2, -3, -4, isize::MIN] {
+            let mut case = enough.clone();
+            let (length, _) = &mut case.tables()[table];
+            **length = length.saturating_add_signed(change);
             cases.push(case);
         }
     }
 }
 
-fn fits(case: &Case) -> bool {
-    case.rule.len() <= LONGEST_RULE
-        && case.tokens <= LONGEST_TOKENS
-        && case.tree <= LONGEST_TREE
-        && case.errors <= LONGEST_TREE
-}
-
-#[cfg(test)]
-mod tests {
-    use super::*;
-
-    #[test]
-    fn every_case_fits() {
-        assert!(cases().iter().all(fits));
+/// A rule with no tables at all.
+pub fn without_tables(rule: &[u8]) -> Case {
+    Case {
+        rule: rule.to_vec(),
+        ..Case::default()
     }
 }
