@@ -44,13 +44,13 @@ impl Messages {
         noise: &mut Random,
     ) -> Result<(), String> {
         self.grow(room + MARGIN);
-        let written_before = noise.next() as u32;
+        let written_before = noise.next() as usize;
         let mut written = written_before;
         let out = &mut self.bytes[..room];
         let returned = proved::message(said.rule, said.error, out, &mut written);
 
         let (expected, message, count) = match said.message.len() {
-            length if length <= room => (0, said.message, length as u32),
+            length if length <= room => (0, said.message, length),
             _ => (1, &[][..], written_before),
         };
         let end = room + MARGIN;

@@ -44,7 +44,7 @@ unsafe extern "C" {
         end: u32,
         out: *mut u8,
         out_len: usize,
-        written: *mut u32,
+        written: *mut usize,
     ) -> u32;
 }
 
@@ -104,7 +104,7 @@ pub fn parse_expr(
 /// Returns 0 with the message of an error row at the front of `out` and its length in `written`,
 /// or 1 with both as found where `out` is too short.
 #[cfg(feature = "parse")]
-pub fn message(rule: &[u8], error: [u32; ERROR_ROW], out: &mut [u8], written: &mut u32) -> u32 {
+pub fn message(rule: &[u8], error: [u32; ERROR_ROW], out: &mut [u8], written: &mut usize) -> u32 {
     let [form, expected, first, end] = error;
     // SAFETY: each pointer is valid for the length beside it, and nothing lent overlaps.
     unsafe {

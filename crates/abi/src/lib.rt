@@ -1,9 +1,12 @@
 // The static library for C and Rust: what the crates below do, over plain numbers and slices. A slice passes as a pointer and a length.
 use lexer::Lexed;
+use message::Message;
+use parser::Reading;
 use syntax::refusal;
 ghost use lib.ListN.{length};
 ghost use Rattle.lexer.specs.Read.{checkRule};
-ghost use Rattle.abi.specs.Abi.{Answers};
+ghost use Rattle.message.specs.Message.{messageOf};
+ghost use Rattle.abi.specs.Abi.{Answers, RowsAnswer, Tables, MessageAnswer};
 
 // Reads a rule's tokens into a table. `tree` and `errors` are the lengths of the other two tables. It gives 0, and the number of
 // tokens in `count`; or the number of a refusal from 1 to 4, with table and count as they were.
@@ -23,5 +26,58 @@ pub extern "C" fn assertion_read_tokens(
             0
         }
         Lexed::Refused(r) => refusal::number(r),
+    }
+}
+
+// Reads a rule into three tables. It gives 0, and the numbers of token, tree and error rows in their places; or the number of a
+// refusal from 1 to 4, with tables and places as they were.
+#[no_mangle]
+pub extern "C" fn assertion_parse_expr(
+    rule: &[u8],
+    tokens: &mut [u32],
+    tree: &mut [u32],
+    errors: &mut [u32],
+    token_rows: &mut u32,
+    tree_rows: &mut u32,
+    error_rows: &mut u32,
+) -> u32
+    ensures { λ r. ⌜ RowsAnswer (checkRule (now (rule .entry)) (length (now (tokens .entry))) (length (now (tree .entry))) (length (now (errors .entry)))) (now (rule .entry)) (now («token_rows» .entry)) (now («token_rows» .exit)) (now («tree_rows» .entry)) (now («tree_rows» .exit)) (now («error_rows» .entry)) (now («error_rows» .exit)) r ⌝ }
+    ensures { λ _. ⌜ Tables (checkRule (now (rule .entry)) (length (now (tokens .entry))) (length (now (tree .entry))) (length (now (errors .entry)))) (now (rule .entry)) (now (tokens .entry)) (now (tokens .exit)) (now (tree .entry)) (now (tree .exit)) (now (errors .entry)) (now (errors .exit)) ⌝ }
+{
+    match parser::parse_expr(rule, tokens, tree, errors) {
+        Reading::Rows {
+            tokens: a,
+            tree: b,
+            errors: c,
+        } => {
+            *token_rows = a as u32;
+            *tree_rows = b as u32;
+            *error_rows = c as u32;
+            0
+        }
+        Reading::Refused(r) => refusal::number(r),
+    }
+}
+
+// Writes the message of an error row. It gives 0, and the number of the message's bytes in `written`; or 1 where `out` is shorter
+// than the message, with both as they were.
+#[no_mangle]
+pub extern "C" fn assertion_message(
+    rule: &[u8],
+    form: u32,
+    expected: u32,
+    first: u32,
+    end: u32,
+    out: &mut [u8],
+    written: &mut usize,
+) -> u32
+    ensures { λ r. ⌜ MessageAnswer (messageOf (now (rule .entry)) form expected first end) (now (out .entry)) (now (out .exit)) (now (written .entry)) (now (written .exit)) r ⌝ }
+{
+    match message::write_message(rule, form, expected, first, end, out) {
+        Message::Written(n) => {
+            *written = n;
+            0
+        }
+        Message::NoRoom => 1,
     }
 }

@@ -1,6 +1,5 @@
 // parser.rs: the messages of its parse errors, as text, from a rule and a row of the error table.
 use syntax::form;
-
 use syntax::kind;
 ghost use mathlib.Core.Path.{_≡_};
 ghost use mathlib.Core.List.{_++_};

@@ -25,7 +25,7 @@ use Rattle.parser.specs.declared.Cursor.{Cursor}
 use Rattle.parser.specs.declared.Reading.{Reading}
 use Rattle.parser.proofs.GreenLaws.{treeRows-length, errorRows-length}
 use Rattle.parser.proofs.TokenLaws.{tokenRows-length, width-lex}
-use Rattle.parser.proofs.BoundLaws.{asks-root}
+use Rattle.parser.proofs.BoundLaws.{rows-bound, errors-bound}
 
 -- a table that has room has it for the rows of any rule of n bytes
 pub record Room (n a b c : ℕ) : Type 0 where
@@ -123,3 +123,17 @@ passed-has-room rule tokens tree errors e = let l = passed-lengths rule tokens t
 
 pub rows-read : {a b c a′ b′ c′ : ℕ} → a ≡ a′ → b ≡ b′ → c ≡ c′ → Reading.Rows a b c ≡ Reading.Rows a′ b′ c′
 rows-read p q s = cc
+
+-- numbers of rows that were given are small
+pub rows-few : (rule : List ℕ) (tokens tree errors : ℕ) {a b c : ℕ} → Reading.Rows a b c ≡ rowsRead (checkRule rule tokens tree errors) rule
+    → (a ≤ 500) × (b ≤ 3505) × (c ≤ 3004)
+rows-few rule tokens tree errors {a} {b} {c} e = go (checkRule rule tokens tree errors) refl e
+  where
+    go : (k : Check) → checkRule rule tokens tree errors ≡ k → Reading.Rows a b c ≡ rowsRead k rule → (a ≤ 500) × (b ≤ 3505) × (c ≤ 3004)
+    go Check.Passed p q =
+        let x : a ≡ length (lex rule) = cc in
+        let y : b ≡ size (parseExpr rule .made) = cc in
+        let z : c ≡ length (parseExpr rule .errors) = cc in
+        let l = ltb-false MAX-RULE (length rule) (passed-lengths rule tokens tree errors p .0) in
+        (omega (arith, lex-length rule), omega (arith, rows-bound rule), omega (arith, errors-bound rule))
+    go (Check.Refused r) p q = let w : _≡_ {A = ℕ} 0 1 = cc in absurd (omega arith)
