@@ -4,7 +4,7 @@ use mathlib.Core.Path.{_≡_}
 use mathlib.Core.List.{List}
 use Rattle.syntax.specs.Refusal.{refusalNumber}
 use Rattle.lexer.specs.Read.{tokensRead, tokenTable}
-use Rattle.lexer.specs.declared.Check.{Check}
+use Rattle.syntax.specs.declared.refusal.Check.{Check}
 use Rattle.lexer.specs.declared.Lexed.{Lexed}
 use Rattle.parser.specs.Read.{rowsRead, treeTable, errorTable}
 use Rattle.parser.specs.declared.Reading.{Reading}

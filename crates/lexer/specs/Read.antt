@@ -9,7 +9,7 @@ use Rattle.syntax.specs.Table.{withRows}
 use Rattle.syntax.specs.Utf8.{utf8}
 use Rattle.syntax.specs.declared.refusal.Refusal.the-variants.{RuleTooLong, RuleNotUtf8, TableTooShort, TooManyOpeners}
 use Rattle.lexer.specs.Lex.{lex, tokenRows, openersIn}
-use Rattle.lexer.specs.declared.Check.{Check}
+use Rattle.syntax.specs.declared.refusal.Check.{Check}
 use Rattle.lexer.specs.declared.Lexed.{Lexed}
 
 -- the most bytes that a rule may have, and the most tokens `(` and `not`

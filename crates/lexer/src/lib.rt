@@ -7,6 +7,7 @@ use limits::MAX_RULE;
 use limits::TOKEN_ROW;
 use limits::TREE_ROW;
 use syntax::kind;
+use syntax::refusal::Check;
 use syntax::refusal::Refusal;
 use syntax::text;
 use syntax::utf8;
@@ -23,12 +24,6 @@ ghost use Rattle.lexer.specs.Lex.{run, quoted, equals, more, wordKind, k
 ghost use Rattle.lexer.specs.Read.{MAX-RULE, TOKEN-ROW, tablesShort, checkRule, checkRoom, Reads};
 
 const FORM_FEED: u8 = 0x0C;
-
-// Whether a rule may be read.
-pub enum Check {
-    Passed,
-    Refused(Refusal),
-}
 
 // What reading a rule's tokens gives: their number, or the refusal.
 pub enum Lexed {

@@ -13,7 +13,7 @@ use Rattle.syntax.specs.declared.refusal.Refusal.{Refusal}
 use Rattle.syntax.proofs.TableLaws.{sets-front}
 use Rattle.lexer.specs.Lex.{lex, tokenRows}
 use Rattle.lexer.specs.Read.{MAX-RULE, TOKEN-ROW, TREE-ROW, ERROR-ROW, rowsNeeded, tokensShort, tablesShort, checkRule, checkRoom, tokensRead, tokenTable}
-use Rattle.lexer.specs.declared.Check.{Check}
+use Rattle.syntax.specs.declared.refusal.Check.{Check}
 use Rattle.lexer.specs.declared.Lexed.{Lexed}
 use Rattle.lexer.proofs.ReadLaws.{lex-length, passed-lengths}
 use Rattle.parser.specs.Green.{size}

@@ -9,7 +9,7 @@ use Rattle.syntax.specs.Table.{withRows}
 use Rattle.syntax.specs.declared.refusal.Refusal.the-variants.{RuleTooLong, TableTooShort}
 use Rattle.lexer.specs.Lex.{lex}
 use Rattle.lexer.specs.Read.{MAX-RULE, tablesShort, tokenTable}
-use Rattle.lexer.specs.declared.Check.{Check}
+use Rattle.syntax.specs.declared.refusal.Check.{Check}
 use Rattle.parser.specs.Green.{size}
 use Rattle.parser.specs.Parse.{parseExpr}
 use Rattle.parser.specs.Rows.{treeRows, errorRows}

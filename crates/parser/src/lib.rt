@@ -1,8 +1,8 @@
 // parser.rs: the green tree of a rule, as rows of a lent table, and the parse errors, as rows of another.
-use lexer::Check;
 use lexer::Lexed;
 use syntax::form;
 use syntax::kind;
+use syntax::refusal::Check;
 use syntax::refusal::Refusal;
 use syntax::text;
 ghost use mathlib.Core.Path.{_≡_};

@@ -22,6 +22,12 @@ pub enum Refusal {
     IntegerTooLarge,
 }
 
+// What a check says.
+pub enum Check {
+    Passed,
+    Refused(Refusal),
+}
+
 // The number by which a refusal is known.
 pub fn number(r: Refusal) -> u32
     ensures { λ n. ⌜ n ≡ refusalNumber r ⌝ }
