@@ -48,10 +48,8 @@ oracle: the four Rust files beside the proved code
       reads a rule from FILE or standard input and prints its tree, the number
       of errors and their messages
   replay FOLDER
-      writes the fixed cases of tokens to FOLDER/stdin and their answers to
-      FOLDER/stdout
-  replay-trees FOLDER
-      the same for whole readings: tokens, trees, errors and messages
+      writes the fixed cases to FOLDER/stdin and their answers, tokens, trees,
+      errors and messages, to FOLDER/stdout
   help
 
 compare, one and bench need the proved code: build with --features proved for
@@ -74,8 +72,7 @@ fn main() -> ExitCode {
         ("bench", _) => return bench(words),
         ("tree", []) => tree(&mut io::stdin()),
         ("tree", [file]) => fs::File::open(file).and_then(|mut file| tree(&mut file)),
-        ("replay", [folder]) => replay::write_tokens(Path::new(folder)),
-        ("replay-trees", [folder]) => replay::write_trees(Path::new(folder)),
+        ("replay", [folder]) => replay::write(Path::new(folder)),
         ("help", []) => io::stdout().write_all(HELP.as_bytes()),
         _ => return usage(),
     };

@@ -133,6 +133,6 @@ pub fn parse_expr(_: &[u8], _: &mut [u32], _: &mut [u32], _: &mut [u32], _: &mut
 }
 
 #[cfg(not(feature = "parse"))]
-pub fn message(_: &[u8], _: [u32; ERROR_ROW], _: &mut [u8], _: &mut u32) -> u32 {
+pub fn message(_: &[u8], _: [u32; ERROR_ROW], _: &mut [u8], _: &mut usize) -> u32 {
     unreachable!("whoever calls this asks PARSES first")
 }

@@ -12,21 +12,10 @@ use crate::{replay_tokens, replay_trees};
 /// The seed of the cases drawn from the generator.
 const SEED: u64 = 1;
 
-/// Writes a reading's rows.
-type WriteRows = fn(&Reading, &mut Vec<u8>) -> io::Result<()>;
-
-/// Writes the cases of tokens to `folder/stdin` and their answers to `folder/stdout`.
-pub fn write_tokens(folder: &Path) -> io::Result<()> {
-    write(folder, &replay_tokens::cases(), token_rows)
-}
-
-/// The same for whole readings: tokens, trees, errors and messages.
-pub fn write_trees(folder: &Path) -> io::Result<()> {
-    write(folder, &replay_trees::cases(), all_rows)
-}
-
-fn write(folder: &Path, cases: &[Case], rows: WriteRows) -> io::Result<()> {
-    let (stdin, stdout) = texts(cases, rows)?;
+/// Writes the cases, first those about tokens, to `folder/stdin` and their answers to `folder/stdout`.
+pub fn write(folder: &Path) -> io::Result<()> {
+    let cases = cases();
+    let (stdin, stdout) = texts(&cases)?;
     fs::create_dir_all(folder)?;
     fs::write(folder.join("stdin"), &stdin)?;
     fs::write(folder.join("stdout"), &stdout)?;
@@ -35,14 +24,25 @@ fn write(folder: &Path, cases: &[Case], rows: WriteRows) -> io::Result<()> {
     Ok(())
 }
 
+/// The cases about tokens and those about whole readings, each once.
+fn cases() -> Vec<Case> {
+    let mut cases = replay_tokens::cases();
+    for case in replay_trees::cases() {
+        if !cases.contains(&case) {
+            cases.push(case);
+        }
+    }
+    cases
+}
+
 /// The cases and their answers, one after the other.
-pub fn texts(cases: &[Case], rows: WriteRows) -> io::Result<(Vec<u8>, Vec<u8>)> {
+pub fn texts(cases: &[Case]) -> io::Result<(Vec<u8>, Vec<u8>)> {
     let (mut stdin, mut stdout) = (Vec::new(), Vec::new());
     for (index, case) in cases.iter().enumerate() {
         write_case(case, &mut stdin)?;
         writeln!(stdout, "case {}", index + 1)?;
         match reading::read(case) {
-            Ok(reading) => rows(&reading, &mut stdout)?,
+            Ok(reading) => write_rows(&reading, &mut stdout)?,
             Err(number) => writeln!(stdout, "refused {number}")?,
         }
         // All else stays as found.
@@ -65,15 +65,12 @@ fn write_case(case: &Case, out: &mut Vec<u8>) -> io::Result<()> {
     writeln!(out)
 }
 
-fn token_rows(reading: &Reading, out: &mut Vec<u8>) -> io::Result<()> {
+/// Every row, the rows' numbers, and the message of each error.
+fn write_rows(reading: &Reading, out: &mut Vec<u8>) -> io::Result<()> {
     for [kind, first, end] in &reading.tokens {
         writeln!(out, "{kind} {first} {end}")?;
     }
-    writeln!(out, "tokens {}", reading.tokens.len())
-}
-
-pub fn all_rows(reading: &Reading, out: &mut Vec<u8>) -> io::Result<()> {
-    token_rows(reading, out)?;
+    writeln!(out, "tokens {}", reading.tokens.len())?;
     for [kind, level, first, end] in &reading.tree {
         writeln!(out, "{kind} {level} {first} {end}")?;
     }

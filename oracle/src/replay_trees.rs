@@ -597,7 +597,7 @@ mod tests {
     fn every_case_fits() {
         let cases = cases();
         assert!(cases.iter().all(|case| BOUNDS.hold(case)));
-        let (stdin, stdout) = replay::texts(&cases, replay::all_rows).unwrap();
+        let (stdin, stdout) = replay::texts(&cases).unwrap();
         assert!(stdin.len() < 150_000, "{}", stdin.len());
         assert!(stdout.len() < 1_000_000, "{}", stdout.len());
     }

@@ -1,4 +1,4 @@
--- `run_case` lends the table's first numbers. Assumes nothing.
+-- `run_case` lends the first numbers of each table. Assumes nothing.
 use mathlib.Core.Path.{sym}
 use lib.Seq.{length-take-le}
 use native.Mathlib.Omega.{arith}
@@ -6,14 +6,32 @@ use borrow.Author.Needs.{needs}
 use Rattle.replay.proofs.run_case.Statement.{statement}
 use Rattle.replay.proofs.run_case.Tie as tie
 
-zeros-requires : tie.Need-zeros-requires
-zeros-requires c κs = search needs
+token-table-requires : tie.Need-token-table-requires
+token-table-requires c κs = search needs
 
-array-borrow-prefix-table : tie.Need-array-borrow-prefix-table
-array-borrow-prefix-table c = search needs
+row-table-requires : tie.Need-row-table-requires
+row-table-requires c κs = search needs
+
+row-table-requires-2 : tie.Need-row-table-requires-2
+row-table-requires-2 c κs = search needs
+
+array-borrow-prefix-first : tie.Need-array-borrow-prefix-first
+array-borrow-prefix-first c = search needs
 
 slice-aggregate-run-in : tie.Need-slice-aggregate-run-in
-slice-aggregate-run-in c = sym (length-take-le (c .before .before .before .args .tokens) (c .before .zeros .result) (omega (arith, c .before .zeros .ensures)))
+slice-aggregate-run-in c = sym (length-take-le (c .before .before .before .before .before .args .tokens) (c .before .before .before .token-table .result) (omega (arith, c .before .before .before .token-table .ensures, c .before .before .before .before .before .pre)))
+
+array-borrow-prefix-second : tie.Need-array-borrow-prefix-second
+array-borrow-prefix-second c = search needs
+
+slice-aggregate-run-in-2 : tie.Need-slice-aggregate-run-in-2
+slice-aggregate-run-in-2 c = sym (length-take-le (c .before .before .before .before .before .before .args .tree) (c .before .before .before .row-table .result) (omega (arith, c .before .before .before .row-table .ensures, c .before .before .before .before .before .before .pre)))
+
+array-borrow-prefix-third : tie.Need-array-borrow-prefix-third
+array-borrow-prefix-third c = search needs
+
+slice-aggregate-run-in-3 : tie.Need-slice-aggregate-run-in-3
+slice-aggregate-run-in-3 c = sym (length-take-le (c .before .before .before .before .before .before .before .args .errors) (c .before .before .before .row-table2 .result) (omega (arith, c .before .before .before .row-table2 .ensures, c .before .before .before .before .before .before .before .pre)))
 
 run-in-requires : tie.Need-run-in-requires
 run-in-requires c κs = search needs
@@ -25,8 +43,14 @@ pub run-case-spec : {M : Type 1} → statement M
 run-case-spec =
     tie.close
     (tie.spec
-    zeros-requires
-    array-borrow-prefix-table
+    token-table-requires
+    row-table-requires
+    row-table-requires-2
+    array-borrow-prefix-first
     slice-aggregate-run-in
+    array-borrow-prefix-second
+    slice-aggregate-run-in-2
+    array-borrow-prefix-third
+    slice-aggregate-run-in-3
     run-in-requires
     returns)

@@ -2,11 +2,11 @@
 use Prim.Native.Nat.{_-_, _≤_, _*_}
 use lib.ListN.{length}
 use borrow.Author.Needs.{needs}
-use Rattle.replay.proofs.print_rows.Statement.{statement}
-use Rattle.replay.proofs.print_rows.Tie as tie
+use Rattle.tree.proofs.print_rows.Statement.{statement}
+use Rattle.tree.proofs.print_rows.Tie as tie
 
 abbrev Inv-loop : tie.InvT-loop
-Inv-loop table n whole i₀ i = (i ≤ whole) × (whole * 3 ≤ length table)
+Inv-loop table n whole i₀ i = (i ≤ whole) × (whole * 4 ≤ length table)
 
 abbrev μ-loop : tie.MeasureT-loop
 μ-loop table n whole i₀ i = whole - i
@@ -44,6 +44,15 @@ mul-print-row-3 c = search needs
 shared-slice-read-print-row-3 : tie.Need-shared-slice-read-print-row-3 Inv-loop μ-loop
 shared-slice-read-print-row-3 c = search needs
 
+add-print-row-3 : tie.Need-add-print-row-3 Inv-loop μ-loop
+add-print-row-3 c = search needs
+
+mul-print-row-4 : tie.Need-mul-print-row-4 Inv-loop μ-loop
+mul-print-row-4 c = search needs
+
+shared-slice-read-print-row-4 : tie.Need-shared-slice-read-print-row-4 Inv-loop μ-loop
+shared-slice-read-print-row-4 c = search needs
+
 print-row-requires : tie.Need-print-row-requires Inv-loop μ-loop
 print-row-requires c κs = search needs
 
@@ -76,6 +85,9 @@ print-rows-spec =
     add-print-row-2
     mul-print-row-3
     shared-slice-read-print-row-3
+    add-print-row-3
+    mul-print-row-4
+    shared-slice-read-print-row-4
     print-row-requires
     add-i
     loop-less
