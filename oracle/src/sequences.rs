@@ -75,6 +75,27 @@ const IN_RULE: [&str; 14] = [
     "not",
 ];
 
+/// One token of each kind.
+const KINDS: [&str; 17] = [
+    "components",
+    "'x'",
+    ".",
+    "(",
+    ")",
+    "==",
+    "!=",
+    ">=",
+    ">",
+    "<=",
+    "<",
+    "3",
+    ",",
+    "and",
+    "or",
+    "not",
+    "%",
+];
+
 /// All sequences of some lengths over a list of tokens.
 pub struct Family {
     pub name: &'static str,
@@ -108,6 +129,8 @@ pub fn families(longest: u32) -> impl Iterator<Item = Family> {
         ),
         Family::apart("rules apart", "", &IN_RULE, &long),
         Family::joined("rules joined", "", &IN_RULE, &long),
+        Family::apart("kinds apart", "", &KINDS, &long),
+        Family::joined("kinds joined", "", &KINDS, &long),
     ];
     families
         .into_iter()

@@ -83,7 +83,7 @@ module _ {rule : List ℕ} {at kind end : ℕ} (k : TokenAt rule at kind end) wh
             ∙ ap (sets t (n * TOKEN-ROW)) (sym next-rows) ∙ w .rows;
       }
 
-tokenRows-length : (at : ℕ) (ts : List Token) → length (tokenRows at ts) ≡ length ts * TOKEN-ROW
+pub tokenRows-length : (at : ℕ) (ts : List Token) → length (tokenRows at ts) ≡ length ts * TOKEN-ROW
 unfolding tokenRows
 tokenRows-length at [] = refl
 tokenRows-length at (t ∷ ts) = omega (arith, tokenRows-length (at + length (t .text)) ts)

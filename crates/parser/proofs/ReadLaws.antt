@@ -15,7 +15,7 @@ use Rattle.lexer.specs.Lex.{lex, tokenRows}
 use Rattle.lexer.specs.Read.{MAX-RULE, TOKEN-ROW, TREE-ROW, ERROR-ROW, rowsNeeded, tokensShort, tablesShort, checkRule, checkRoom, tokensRead, tokenTable}
 use Rattle.syntax.specs.declared.refusal.Check.{Check}
 use Rattle.lexer.specs.declared.Lexed.{Lexed}
-use Rattle.lexer.proofs.ReadLaws.{lex-length, passed-lengths}
+use Rattle.lexer.proofs.ReadLaws.{lex-length, tokenRows-length, passed-lengths}
 use Rattle.parser.specs.Green.{size}
 use Rattle.parser.specs.Parse.{parseRoot, parseExpr}
 use Rattle.parser.specs.Rows.{treeRows, errorRows}
@@ -24,7 +24,7 @@ use Rattle.parser.specs.Read.{checkTables, rowsRead, treeTable, errorTab
 use Rattle.parser.specs.declared.Cursor.{Cursor}
 use Rattle.parser.specs.declared.Reading.{Reading}
 use Rattle.parser.proofs.GreenLaws.{treeRows-length, errorRows-length}
-use Rattle.parser.proofs.TokenLaws.{tokenRows-length, width-lex}
+use Rattle.parser.proofs.TokenLaws.{width-lex}
 use Rattle.parser.proofs.BoundLaws.{rows-bound, errors-bound}
 
 -- a table that has room has it for the rows of any rule of n bytes

@@ -11,16 +11,12 @@ use Rattle.syntax.specs.Kind.{NONE}
 use Rattle.syntax.proofs.BoolLaws.{whether}
 use Rattle.lexer.specs.Lex.{Token, lex, joined, tokenRows}
 use Rattle.lexer.proofs.LexLaws.{lex-joined}
+use Rattle.lexer.proofs.ReadLaws.{tokenRows-length}
 use Rattle.parser.specs.Green.{width}
 use Rattle.parser.specs.Look.{headKind, headText, tailOf}
 use Rattle.parser.specs.Writing.{Ready}
 use Rattle.parser.specs.declared.Cursor.{Cursor}
 use Rattle.parser.proofs.GreenLaws.{width-split}
-
-pub tokenRows-length : (at : ℕ) (ts : List Token) → length (tokenRows at ts) ≡ 3 * length ts
-unfolding tokenRows
-tokenRows-length at [] = omega arith
-tokenRows-length at (t ∷ ts) = let h = tokenRows-length (at + length (t .text)) ts in omega arith
 
 -- the bytes of a rule's tokens are the rule's
 width-joined : (ts : List Token) → width ts ≡ length (joined ts)
@@ -63,7 +59,7 @@ row-of o (t ∷ ts) (suc i) h =
 -- a table that has the rows of tokens: three numbers for each, at each place a row, past the last nothing
 module _ (ts : List Token) {tokens : List ℕ} (e : tokens ≡ tokenRows 0 ts) where
   pub rows-length : length tokens ≡ 3 * length ts
-  rows-length = ap length e ∙ tokenRows-length 0 ts
+  rows-length = omega (arith, ap length e, tokenRows-length 0 ts)
 
   pub row-in : (i : ℕ) → 3 * i < length tokens → Row 0 tokens ts i
   row-in i h = let k : i < length ts = omega (arith, rows-length) in rw e (row-of 0 ts i k)

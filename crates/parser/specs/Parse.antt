@@ -1,6 +1,6 @@
 -- parser.rs: what reading a rule's tokens gives, function by function in its order. Assumes nothing: these are definitions.
 use Prim.Native.Nat.{ℕ, zero, suc, _+_, _*_}
-use mathlib.Core.Bool.{Bool, true, false}
+use mathlib.Core.Bool.{Bool, true, false, _&&_}
 use mathlib.Core.List.{List, [], _∷_, _++_}
 use lib.Dec.{eqb}
 use lib.ListN.{length}
@@ -83,7 +83,7 @@ expect k = eatWs ▹ choose (nextIs k) next (fails EXPECT k)
 
 -- `expect_ident`: the same of a word
 unfoldable pub nextIsIdent : List ℕ → List Token → Bool
-nextIsIdent w ts = mathlib.Core.Bool._&&_ (eqb (headKind ts) IDENT) (same (headText ts) w)
+nextIsIdent w ts = eqb (headKind ts) IDENT && same (headText ts) w
 
 unfoldable pub expectIdent : List ℕ → Parser
 unfolding eatWs next fails choose nextIsIdent _▹_
