@@ -78,21 +78,37 @@ module _ {passes : ℕ → Bool} {count n : ℕ} (passing : Passing passes count
   unfolding each
   passing-done h = sym (ap (each passes n) (none-left n count h)) ∙ passing .rest
 
+-- two answers from one pass
+pub both-first : {p : Bool} (q : Bool) → false ≡ p → false ≡ (p && q)
+both-first q e = ap (λ (t : Bool). t && q) e
+
+pub both-second : (p : Bool) {q : Bool} → false ≡ q → false ≡ (p && q)
+both-second true e = e
+both-second false e = refl
+
+pub both-done : {r p q : Bool} → r ≡ p → true ≡ q → r ≡ (p && q)
+both-done {r} {p} e f = e ∙ at-true p ∙ ap (λ (t : Bool). p && t) f
+  where
+    at-true : (t : Bool) → t ≡ (t && true)
+    at-true true = refl
+    at-true false = refl
+
 -- three numbers of a record, each below its limit
-module _ (image : List ℕ) (section : Section) (further a b c n : ℕ) where
-  pub below-first : {x : ℕ} → x ≡ field image section n 0 → a ≤ x → below image section further a b c n ≡ false
+module _ (image : List ℕ) (section : Section) (a b c n : ℕ) where
+  pub below-first : {x : ℕ} → x ≡ field image section n 0 → a ≤ x → below image section a b c n ≡ false
   below-first {x} e h = rw (← e, le-ltb x a h)
 
-  pub below-second : {x y : ℕ} → x ≡ field image section n 0 → x < a → y ≡ field image section n 1 → b ≤ y → below image section further a b c n ≡ false
+  pub below-second : {x y : ℕ} → x ≡ field image section n 0 → x < a → y ≡ field image section n 1 → b ≤ y → below image section a b c n ≡ false
   below-second {x} {y} e h f g = rw (← e, lt-ltb x a h, ← f, le-ltb y b g)
 
-  pub below-further : {x y z : ℕ} → x ≡ field image section n 0 → x < a → y ≡ field image section n 1 → y < b → z ≡ field image section n further → below image section further a b c n ≡ ltb z c
-  below-further {x} {y} {z} e h f g k = rw (← e, lt-ltb x a h, ← f, lt-ltb y b g, ← k)
+  pub below-third : {x y z : ℕ} → x ≡ field image section n 0 → x < a → y ≡ field image section n 1 → y < b → z ≡ field image section n 2
+      → below image section a b c n ≡ ltb z c
+  below-third {x} {y} {z} e h f g k = rw (← e, lt-ltb x a h, ← f, lt-ltb y b g, ← k)
 
 -- the same tests at equal limits
-pub limits-same : (image : List ℕ) (section : Section) (further : ℕ) {a a′ b b′ c c′ : ℕ} → a ≡ a′ → b ≡ b′ → c ≡ c′
-    → allBelow image section further a b c ≡ allBelow image section further a′ b′ c′
-limits-same image section further p q r = λ j. allBelow image section further (p j) (q j) (r j)
+pub limits-same : (image : List ℕ) (section : Section) {a a′ b b′ c c′ : ℕ} → a ≡ a′ → b ≡ b′ → c ≡ c′
+    → allBelow image section a b c ≡ allBelow image section a′ b′ c′
+limits-same image section p q r = λ j. allBelow image section (p j) (q j) (r j)
 
 -- the text of a string, from the numbers that were read
 module _ (image : List ℕ) (n : ℕ) {letters x y : ℕ} (l : letters ≡ sectionOffset image Letters) (e : x ≡ stringOffset image n) (f : y ≡ stringLength image n) where

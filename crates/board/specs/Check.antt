@@ -120,12 +120,13 @@ diagnosticFits image n =
     && (ltb (severity image n) SEVERITIES
     && isIndex (message image n) (stringCount image))
 
--- every number of each section's records; "first feature's index and count of its features, laid like the string pairs over the features"
-unfoldable pub componentsFit : List ℕ → Bool
-componentsFit image = each (componentFits image) 0 (componentCount image)
-
+-- "first feature's index and count of its features, laid like the string pairs over the features"
 unfoldable pub featuresLaid : List ℕ → Bool
 featuresLaid image = laid (firstFeature image) (featuresOf image) 0 (componentCount image) 0 (featureCount image)
+
+-- every number of each section's records
+unfoldable pub componentsFit : List ℕ → Bool
+componentsFit image = featuresLaid image && each (componentFits image) 0 (componentCount image)
 
 unfoldable pub featuresFit : List ℕ → Bool
 featuresFit image = each (featureFits image) 0 (featureCount image)
@@ -142,11 +143,10 @@ diagnosticsFit image = each (diagnosticFits image) 0 (diagnosticCount image)
 unfoldable pub recordsFit : List ℕ → Bool
 recordsFit image =
     componentsFit image
-    && (featuresLaid image
     && (featuresFit image
     && (connectionsFit image
     && (propertiesFit image
-    && diagnosticsFit image))))
+    && diagnosticsFit image)))
 
 -- 8. "The collection table has fewer rows than components and features added, or fewer than diagnostics." Its rows are of two numbers,
 -- and numbers after the last whole row count as none

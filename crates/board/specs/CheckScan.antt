@@ -7,12 +7,13 @@ use Rattle.board.specs.declared.image.Section.{Section}
 use Rattle.board.specs.Image.{field, recordCount}
 use Rattle.board.specs.Check.{each}
 
--- the first number of a record, the second, and one further are below their limits
-abbrev pub below : List ℕ → Section → ℕ → ℕ → ℕ → ℕ → ℕ → Bool
-below image section further a b c n =
+-- the three numbers of a record are below their limits
+abbrev pub below : List ℕ → Section → ℕ → ℕ → ℕ → ℕ → Bool
+below image section a b c n =
     ltb (field image section n 0) a
     && (ltb (field image section n 1) b
-    && ltb (field image section n further) c)
+    && ltb (field image section n 2) c)
 
-abbrev pub allBelow : List ℕ → Section → ℕ → ℕ → ℕ → ℕ → Bool
-allBelow image section further a b c = each (below image section further a b c) 0 (recordCount image section)
+-- those of each record of a section
+abbrev pub allBelow : List ℕ → Section → ℕ → ℕ → ℕ → Bool
+allBelow image section a b c = each (below image section a b c) 0 (recordCount image section)

@@ -6,9 +6,7 @@ use syntax::refusal::Check;
 use syntax::refusal::Refusal;
 use syntax::utf8;
 ghost use mathlib.Core.Path.{_≡_};
-ghost use Prim.Native.Nat.{_+_, _*_, _≤_, _<_};
-ghost use Rattle.board.specs.Image.{field, recordCount};
-ghost use Rattle.board.specs.Check.{laid, each, wholeRecords, allWholeRecords, sectionsLaid, sectionsFit, stringsLaid, stringsUtf8, stringsFit, componentsFit, featuresLaid, featuresFit, connectionsFit, propertiesFit, diagnosticsFit, recordsFit, collectionShort, checkImage};
+ghost use Rattle.board.specs.Check.{wholeRecords, allWholeRecords, sectionsLaid, sectionsFit, stringsFit, componentFits, componentsFit, featuresFit, connectionsFit, propertiesFit, diagnosticsFit, recordsFit, collectionShort, checkImage};
 ghost use Rattle.board.specs.CheckScan.{allBelow};
 
 // The most bytes that an image may have, how many sections it has, and the bytes of their pairs, which are the fewest.
@@ -19,7 +17,7 @@ const SECTIONS: usize = 7;
 const PAIRS_SIZE: usize = 56;
 
 // How many categories, feature kinds, directions, severities and wired marks there are.
-const CATEGORIES: usize = 14;
+const CATEGORIES: u32 = 14;
 
 const FEATURE_KINDS: usize = 10;
 
@@ -27,7 +25,7 @@ const DIRECTIONS: usize = 4;
 
 const SEVERITIES: usize = 3;
 
-const WIRED_MARKS: usize = 2;
+const WIRED_MARKS: u32 = 2;
 
 // The numbers of a row of the collection table.
 const COLLECTION_ROW: usize = 2;
@@ -114,41 +112,26 @@ fn whole_records(image: &[u8], section: Section) -> bool
     image::section_length(image, section) % image::record_size(section) == 0
 }
 
-// Whether the strings cover the letters and each is UTF-8: refusal 6 does not come.
+// Whether the strings lie end to end over the letters and each is UTF-8: refusal 6 does not come.
 pub fn strings_fit(image: &[u8]) -> bool
     ensures { λ r. ⌜ r ≡ stringsFit (now (image .entry)) ⌝ }
 {
-    if !strings_laid(image) {
-        return false;
-    }
-    strings_utf8(image)
-}
-
-fn strings_laid(image: &[u8]) -> bool
-    ensures { λ r. ⌜ r ≡ stringsLaid (now (image .entry)) ⌝ }
-{
-    let letters = image::section_length(image, Section::Letters);
-    is_laid(
-        image,
-        Section::Strings,
-        image::STRING_OFFSET,
-        image::STRING_LENGTH,
-        letters,
-    )
-}
-
-fn strings_utf8(image: &[u8]) -> bool
-    ensures { λ r. ⌜ r ≡ stringsUtf8 (now (image .entry)) ⌝ }
-{
     let count = image::record_count(image, Section::Strings);
     let mut n = 0;
+    let mut at: usize = 0;
     while n < count {
+        let offset = image::field(image, Section::Strings, n, image::STRING_OFFSET) as usize;
+        let length = image::field(image, Section::Strings, n, image::STRING_LENGTH) as usize;
+        if offset != at {
+            return false;
+        }
         if !utf8::is_utf8(image::string(image, n)) {
             return false;
         }
+        at = offset + length;
         n += 1;
     }
-    true
+    at == image::section_length(image, Section::Letters) as usize
 }
 
 // Whether every number of a record is within its range or table: refusal 7 does not come.
@@ -156,9 +139,6 @@ pub fn records_fit(image: &[u8]) -> bool
     ensures { λ r. ⌜ r ≡ recordsFit (now (image .entry)) ⌝ }
 {
     if !components_fit(image) {
-        return false;
-    }
-    if !features_laid(image) {
         return false;
     }
     if !features_fit(image) {
@@ -173,33 +153,39 @@ pub fn records_fit(image: &[u8]) -> bool
     diagnostics_fit(image)
 }
 
-// Category, parent and wired of each component.
+// Category, parent and wired of each component, and that the components' features lie end to end over the features.
 fn components_fit(image: &[u8]) -> bool
     ensures { λ r. ⌜ r ≡ componentsFit (now (image .entry)) ⌝ }
 {
-    let components = image::record_count(image, Section::Components) as usize;
-    all_below(
-        image,
-        Section::Components,
-        image::WIRED,
-        CATEGORIES,
-        components + 1,
-        WIRED_MARKS,
-    )
+    let count = image::record_count(image, Section::Components);
+    let mut n = 0;
+    let mut at: usize = 0;
+    while n < count {
+        let first = image::field(image, Section::Components, n, image::FIRST_FEATURE) as usize;
+        let features = image::field(image, Section::Components, n, image::FEATURE_COUNT) as usize;
+        if first != at {
+            return false;
+        }
+        if !component_fits(image, n) {
+            return false;
+        }
+        at = first + features;
+        n += 1;
+    }
+    at == image::record_count(image, Section::Features) as usize
 }
 
-// The features of the components lie end to end over the features.
-fn features_laid(image: &[u8]) -> bool
-    ensures { λ r. ⌜ r ≡ featuresLaid (now (image .entry)) ⌝ }
+fn component_fits(image: &[u8], component: u32) -> bool
+    ensures { λ r. ⌜ r ≡ componentFits (now (image .entry)) component ⌝ }
 {
-    let features = image::record_count(image, Section::Features);
-    is_laid(
-        image,
-        Section::Components,
-        image::FIRST_FEATURE,
-        image::FEATURE_COUNT,
-        features,
-    )
+    if CATEGORIES <= image::field(image, Section::Components, component, image::CATEGORY) {
+        return false;
+    }
+    let components = image::record_count(image, Section::Components);
+    if components < image::field(image, Section::Components, component, image::PARENT) {
+        return false;
+    }
+    image::field(image, Section::Components, component, image::WIRED) < WIRED_MARKS
 }
 
 // Name, kind and direction of each feature.
@@ -207,14 +193,7 @@ fn features_fit(image: &[u8]) -> bool
     ensures { λ r. ⌜ r ≡ featuresFit (now (image .entry)) ⌝ }
 {
     let strings = image::record_count(image, Section::Strings) as usize;
-    all_below(
-        image,
-        Section::Features,
-        image::DIRECTION,
-        strings,
-        FEATURE_KINDS,
-        DIRECTIONS,
-    )
+    all_below(image, Section::Features, strings, FEATURE_KINDS, DIRECTIONS)
 }
 
 // Owner, source and target of each connection.
@@ -226,7 +205,6 @@ fn connections_fit(image: &[u8]) -> bool
     all_below(
         image,
         Section::Connections,
-        image::TARGET,
         components,
         strings + 1,
         strings + 1,
@@ -239,14 +217,7 @@ fn properties_fit(image: &[u8]) -> bool
 {
     let components = image::record_count(image, Section::Components) as usize;
     let strings = image::record_count(image, Section::Strings) as usize;
-    all_below(
-        image,
-        Section::Properties,
-        image::PROPERTY_NAME,
-        components,
-        strings,
-        strings,
-    )
+    all_below(image, Section::Properties, components, strings, strings)
 }
 
 // Analysis, severity and message of each diagnostic.
@@ -254,14 +225,7 @@ fn diagnostics_fit(image: &[u8]) -> bool
     ensures { λ r. ⌜ r ≡ diagnosticsFit (now (image .entry)) ⌝ }
 {
     let strings = image::record_count(image, Section::Strings) as usize;
-    all_below(
-        image,
-        Section::Diagnostics,
-        image::MESSAGE,
-        strings,
-        SEVERITIES,
-        strings,
-    )
+    all_below(image, Section::Diagnostics, strings, SEVERITIES, strings)
 }
 
 // Whether the collection table has fewer rows than a collection of this board can have members: refusal 8 comes.
@@ -277,35 +241,9 @@ pub fn collection_short(image: &[u8], collection: usize) -> bool
     rows < image::record_count(image, Section::Diagnostics) as usize
 }
 
-// Whether the pairs of two numbers of each record lie end to end, from 0 to an end.
-fn is_laid(image: &[u8], section: Section, first: u32, second: u32, end: u32) -> bool
-    ensures { λ r. ⌜ r ≡ laid (λ n. field (now (image .entry)) section n first) (λ n. field (now (image .entry)) section n second) 0 (recordCount (now (image .entry)) section) 0 end ⌝ }
-{
-    let count = image::record_count(image, section);
-    let mut n = 0;
-    let mut at: usize = 0;
-    while n < count {
-        let offset = image::field(image, section, n, first) as usize;
-        let length = image::field(image, section, n, second) as usize;
-        if offset != at {
-            return false;
-        }
-        at = offset + length;
-        n += 1;
-    }
-    at == end as usize
-}
-
-// Whether the first number of each record, the second, and one further are below the limits `first`, `second` and `third`.
-fn all_below(
-    image: &[u8],
-    section: Section,
-    further: u32,
-    first: usize,
-    second: usize,
-    third: usize,
-) -> bool
-    ensures { λ r. ⌜ r ≡ allBelow (now (image .entry)) section further first second third ⌝ }
+// Whether the three numbers of each record are below their limits.
+fn all_below(image: &[u8], section: Section, first: usize, second: usize, third: usize) -> bool
+    ensures { λ r. ⌜ r ≡ allBelow (now (image .entry)) section first second third ⌝ }
 {
     let count = image::record_count(image, section);
     let mut n = 0;
@@ -316,7 +254,7 @@ fn all_below(
         if second <= image::field(image, section, n, 1) as usize {
             return false;
         }
-        if third <= image::field(image, section, n, further) as usize {
+        if third <= image::field(image, section, n, 2) as usize {
             return false;
         }
         n += 1;

@@ -30,7 +30,7 @@ all-below-requires c κs = search needs
 
 returns : tie.Need-returns
 unfolding connectionsFit
-returns c = c .all-below .ensures ∙ limits-same _ _ _ (c .before .before .record-count .ensures) (ap (λ (m : ℕ). m + 1) (c .before .record-count2 .ensures)) (ap (λ (m : ℕ). m + 1) (c .before .record-count2 .ensures))
+returns c = c .all-below .ensures ∙ limits-same _ _ (c .before .before .record-count .ensures) (ap (λ (m : ℕ). m + 1) (c .before .record-count2 .ensures)) (ap (λ (m : ℕ). m + 1) (c .before .record-count2 .ensures))
 
 pub connections-fit-spec : {M : Type 1} → statement M
 connections-fit-spec =

@@ -17,7 +17,7 @@ all-below-requires c κs = search needs
 
 returns : tie.Need-returns
 unfolding diagnosticsFit
-returns c = c .all-below .ensures ∙ limits-same _ _ _ (c .before .record-count .ensures) refl (c .before .record-count .ensures)
+returns c = c .all-below .ensures ∙ limits-same _ _ (c .before .record-count .ensures) refl (c .before .record-count .ensures)
 
 pub diagnostics-fit-spec : {M : Type 1} → statement M
 diagnostics-fit-spec =

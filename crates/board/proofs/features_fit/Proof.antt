@@ -17,7 +17,7 @@ all-below-requires c κs = search needs
 
 returns : tie.Need-returns
 unfolding featuresFit
-returns c = c .all-below .ensures ∙ limits-same _ _ _ (c .before .record-count .ensures) refl refl
+returns c = c .all-below .ensures ∙ limits-same _ _ (c .before .record-count .ensures) refl refl
 
 pub features-fit-spec : {M : Type 1} → statement M
 features-fit-spec =

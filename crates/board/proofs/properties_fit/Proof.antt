@@ -23,7 +23,7 @@ all-below-requires c κs = search needs
 
 returns : tie.Need-returns
 unfolding propertiesFit
-returns c = c .all-below .ensures ∙ limits-same _ _ _ (c .before .before .record-count .ensures) (c .before .record-count2 .ensures) (c .before .record-count2 .ensures)
+returns c = c .all-below .ensures ∙ limits-same _ _ (c .before .before .record-count .ensures) (c .before .record-count2 .ensures) (c .before .record-count2 .ensures)
 
 pub properties-fit-spec : {M : Type 1} → statement M
 properties-fit-spec =
