@@ -1,3 +1,4 @@
 pub mod Image
 pub mod Check
 pub mod CheckScan
+pub mod WellFormed

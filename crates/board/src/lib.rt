@@ -70,18 +70,18 @@ fn sections_laid(image: &[u8]) -> bool
     ensures { λ r. ⌜ r ≡ sectionsLaid (now (image .entry)) ⌝ }
 {
     let mut n = 0;
-    let mut at = PAIRS_SIZE;
+    let mut end = PAIRS_SIZE;
     while n < SECTIONS {
         let pair = image::PAIR_SIZE * n;
         let offset = image::word(image, pair) as usize;
         let length = image::word(image, pair + image::NUMBER_SIZE) as usize;
-        if offset != at {
+        if offset != end {
             return false;
         }
-        at = offset + length;
+        end = offset + length;
         n += 1;
     }
-    at == image.len()
+    end == image.len()
 }
 
 // Whether each section that has records is whole records.

@@ -9,10 +9,10 @@ use Rattle.board.proofs.sections_laid.Statement.{statement}
 use Rattle.board.proofs.sections_laid.Tie as tie
 
 abbrev Inv-loop : tie.InvT-loop
-Inv-loop image n₀ at₀ n at = Laying (pairOffset image) (pairLength image) SECTIONS PAIRS-SIZE (length image) n at
+Inv-loop image n₀ end₀ n end = Laying (pairOffset image) (pairLength image) SECTIONS PAIRS-SIZE (length image) n end
 
 abbrev μ-loop : tie.MeasureT-loop
-μ-loop image n₀ at₀ n at = SECTIONS - n
+μ-loop image n₀ end₀ n end = SECTIONS - n
 
 loop-holds : tie.Need-loop-holds Inv-loop μ-loop
 loop-holds c = laying-start
@@ -39,8 +39,8 @@ returns : tie.Need-returns Inv-loop μ-loop
 unfolding sectionsLaid pairOffset
 returns c = laying-off (c .before .before .before .before .loop .inv) (c .before .before .before .loop-test .taken) (c .before .before .word .ensures) (c .if1 .taken)
 
-add-at : tie.Need-add-at Inv-loop μ-loop
-add-at c = search needs
+add-end : tie.Need-add-end Inv-loop μ-loop
+add-end c = search needs
 
 add-n : tie.Need-add-n Inv-loop μ-loop
 add-n c = search needs
@@ -70,7 +70,7 @@ sections-laid-spec =
     word-requires-2
     cast-length
     returns
-    add-at
+    add-end
     add-n
     loop-less
     loop-again
