@@ -2,3 +2,4 @@ pub mod Image
 pub mod Check
 pub mod CheckScan
 pub mod WellFormed
+pub mod Boards
