@@ -1,0 +1,5 @@
+pub mod Image
+pub mod Check
+pub mod CheckScan
+pub mod WellFormed
+pub mod Boards

@@ -1,0 +1,263 @@
+// The board image, checked: refusals 5 to 8. Nothing is altered, and each section is passed over once.
+pub mod image;
+
+use image::Section;
+use syntax::refusal::Check;
+use syntax::refusal::Refusal;
+use syntax::utf8;
+ghost use mathlib.Core.Path.{_≡_};
+ghost use Rattle.board.specs.Check.{wholeRecords, allWholeRecords, sectionsLaid, sectionsFit, stringsFit, componentFits, componentsFit, featuresFit, connectionsFit, propertiesFit, diagnosticsFit, recordsFit, collectionShort, checkImage};
+ghost use Rattle.board.specs.CheckScan.{allBelow};
+
+// The most bytes that an image may have, how many sections it has, and the bytes of their pairs, which are the fewest.
+const MAX_IMAGE: usize = 65536;
+
+const SECTIONS: usize = 7;
+
+const PAIRS_SIZE: usize = 56;
+
+// How many categories, feature kinds, directions, severities and wired marks there are.
+const CATEGORIES: u32 = 14;
+
+const FEATURE_KINDS: usize = 10;
+
+const DIRECTIONS: usize = 4;
+
+const SEVERITIES: usize = 3;
+
+const WIRED_MARKS: u32 = 2;
+
+// The numbers of a row of the collection table.
+const COLLECTION_ROW: usize = 2;
+
+// Refusals 5 to 8, in their order, of an image and the length of the collection table.
+pub fn check_image(image: &[u8], collection: usize) -> Check
+    ensures { λ r. ⌜ r ≡ checkImage (now (image .entry)) collection ⌝ }
+{
+    if !sections_fit(image) {
+        return Check::Refused(Refusal::ImageBadSections);
+    }
+    if !strings_fit(image) {
+        return Check::Refused(Refusal::ImageBadStrings);
+    }
+    if !records_fit(image) {
+        return Check::Refused(Refusal::ImageBadRecords);
+    }
+    if collection_short(image, collection) {
+        return Check::Refused(Refusal::CollectionTooShort);
+    }
+    Check::Passed
+}
+
+// Whether the image's length, the pairs of its sections and the sections' lengths are as they should be: refusal 5 does not come.
+pub fn sections_fit(image: &[u8]) -> bool
+    ensures { λ r. ⌜ r ≡ sectionsFit (now (image .entry)) ⌝ }
+{
+    if image.len() < PAIRS_SIZE {
+        return false;
+    }
+    if MAX_IMAGE < image.len() {
+        return false;
+    }
+    if !sections_laid(image) {
+        return false;
+    }
+    all_whole_records(image)
+}
+
+// Whether the sections lie end to end from the pairs' end to the image's.
+fn sections_laid(image: &[u8]) -> bool
+    ensures { λ r. ⌜ r ≡ sectionsLaid (now (image .entry)) ⌝ }
+{
+    let mut n = 0;
+    let mut end = PAIRS_SIZE;
+    while n < SECTIONS {
+        let pair = image::PAIR_SIZE * n;
+        let offset = image::word(image, pair) as usize;
+        let length = image::word(image, pair + image::NUMBER_SIZE) as usize;
+        if offset != end {
+            return false;
+        }
+        end = offset + length;
+        n += 1;
+    }
+    end == image.len()
+}
+
+// Whether each section that has records is whole records.
+fn all_whole_records(image: &[u8]) -> bool
+    ensures { λ r. ⌜ r ≡ allWholeRecords (now (image .entry)) ⌝ }
+{
+    if !whole_records(image, Section::Strings) {
+        return false;
+    }
+    if !whole_records(image, Section::Components) {
+        return false;
+    }
+    if !whole_records(image, Section::Features) {
+        return false;
+    }
+    if !whole_records(image, Section::Connections) {
+        return false;
+    }
+    if !whole_records(image, Section::Properties) {
+        return false;
+    }
+    whole_records(image, Section::Diagnostics)
+}
+
+fn whole_records(image: &[u8], section: Section) -> bool
+    ensures { λ r. ⌜ r ≡ wholeRecords (now (image .entry)) section ⌝ }
+{
+    image::section_length(image, section) % image::record_size(section) == 0
+}
+
+// Whether the strings lie end to end over the letters and each is UTF-8: refusal 6 does not come.
+pub fn strings_fit(image: &[u8]) -> bool
+    ensures { λ r. ⌜ r ≡ stringsFit (now (image .entry)) ⌝ }
+{
+    let count = image::record_count(image, Section::Strings);
+    let mut n = 0;
+    let mut at: usize = 0;
+    while n < count {
+        let offset = image::field(image, Section::Strings, n, image::STRING_OFFSET) as usize;
+        let length = image::field(image, Section::Strings, n, image::STRING_LENGTH) as usize;
+        if offset != at {
+            return false;
+        }
+        if !utf8::is_utf8(image::string(image, n)) {
+            return false;
+        }
+        at = offset + length;
+        n += 1;
+    }
+    at == image::section_length(image, Section::Letters) as usize
+}
+
+// Whether every number of a record is within its range or table: refusal 7 does not come.
+pub fn records_fit(image: &[u8]) -> bool
+    ensures { λ r. ⌜ r ≡ recordsFit (now (image .entry)) ⌝ }
+{
+    if !components_fit(image) {
+        return false;
+    }
+    if !features_fit(image) {
+        return false;
+    }
+    if !connections_fit(image) {
+        return false;
+    }
+    if !properties_fit(image) {
+        return false;
+    }
+    diagnostics_fit(image)
+}
+
+// Category, parent and wired of each component, and that the components' features lie end to end over the features.
+fn components_fit(image: &[u8]) -> bool
+    ensures { λ r. ⌜ r ≡ componentsFit (now (image .entry)) ⌝ }
+{
+    let count = image::record_count(image, Section::Components);
+    let mut n = 0;
+    let mut at: usize = 0;
+    while n < count {
+        let first = image::field(image, Section::Components, n, image::FIRST_FEATURE) as usize;
+        let features = image::field(image, Section::Components, n, image::FEATURE_COUNT) as usize;
+        if first != at {
+            return false;
+        }
+        if !component_fits(image, n) {
+            return false;
+        }
+        at = first + features;
+        n += 1;
+    }
+    at == image::record_count(image, Section::Features) as usize
+}
+
+fn component_fits(image: &[u8], component: u32) -> bool
+    ensures { λ r. ⌜ r ≡ componentFits (now (image .entry)) component ⌝ }
+{
+    if CATEGORIES <= image::field(image, Section::Components, component, image::CATEGORY) {
+        return false;
+    }
+    let components = image::record_count(image, Section::Components);
+    if components < image::field(image, Section::Components, component, image::PARENT) {
+        return false;
+    }
+    image::field(image, Section::Components, component, image::WIRED) < WIRED_MARKS
+}
+
+// Name, kind and direction of each feature.
+fn features_fit(image: &[u8]) -> bool
+    ensures { λ r. ⌜ r ≡ featuresFit (now (image .entry)) ⌝ }
+{
+    let strings = image::record_count(image, Section::Strings) as usize;
+    all_below(image, Section::Features, strings, FEATURE_KINDS, DIRECTIONS)
+}
+
+// Owner, source and target of each connection.
+fn connections_fit(image: &[u8]) -> bool
+    ensures { λ r. ⌜ r ≡ connectionsFit (now (image .entry)) ⌝ }
+{
+    let components = image::record_count(image, Section::Components) as usize;
+    let strings = image::record_count(image, Section::Strings) as usize;
+    all_below(
+        image,
+        Section::Connections,
+        components,
+        strings + 1,
+        strings + 1,
+    )
+}
+
+// Component, set and name of each property.
+fn properties_fit(image: &[u8]) -> bool
+    ensures { λ r. ⌜ r ≡ propertiesFit (now (image .entry)) ⌝ }
+{
+    let components = image::record_count(image, Section::Components) as usize;
+    let strings = image::record_count(image, Section::Strings) as usize;
+    all_below(image, Section::Properties, components, strings, strings)
+}
+
+// Analysis, severity and message of each diagnostic.
+fn diagnostics_fit(image: &[u8]) -> bool
+    ensures { λ r. ⌜ r ≡ diagnosticsFit (now (image .entry)) ⌝ }
+{
+    let strings = image::record_count(image, Section::Strings) as usize;
+    all_below(image, Section::Diagnostics, strings, SEVERITIES, strings)
+}
+
+// Whether the collection table has fewer rows than a collection of this board can have members: refusal 8 comes.
+pub fn collection_short(image: &[u8], collection: usize) -> bool
+    ensures { λ r. ⌜ r ≡ collectionShort (now (image .entry)) collection ⌝ }
+{
+    let rows = collection / COLLECTION_ROW;
+    let components = image::record_count(image, Section::Components) as usize;
+    let features = image::record_count(image, Section::Features) as usize;
+    if rows < components + features {
+        return true;
+    }
+    rows < image::record_count(image, Section::Diagnostics) as usize
+}
+
+// Whether the three numbers of each record are below their limits.
+fn all_below(image: &[u8], section: Section, first: usize, second: usize, third: usize) -> bool
+    ensures { λ r. ⌜ r ≡ allBelow (now (image .entry)) section first second third ⌝ }
+{
+    let count = image::record_count(image, section);
+    let mut n = 0;
+    while n < count {
+        if first <= image::field(image, section, n, 0) as usize {
+            return false;
+        }
+        if second <= image::field(image, section, n, 1) as usize {
+            return false;
+        }
+        if third <= image::field(image, section, n, 2) as usize {
+            return false;
+        }
+        n += 1;
+    }
+    true
+}
