@@ -73,3 +73,8 @@ pub record MessageAnswer (message before after : List ℕ) (x₀ x₁ r : ℕ) :
   pub answer : r ≡ messageNumber (written message before)
   pub count : x₁ ≡ writtenAfter (written message before) x₀
   pub out : after ≡ outAfter message before
+
+-- 0 for what passes, else the refusal's number
+abbrev pub checkNumber : Check → ℕ
+checkNumber Check.Passed = 0
+checkNumber (Check.Refused r) = refusalNumber r

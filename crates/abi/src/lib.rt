@@ -3,10 +3,13 @@ use lexer::Lexed;
 use message::Message;
 use parser::Reading;
 use syntax::refusal;
+use syntax::refusal::Check;
+ghost use mathlib.Core.Path.{_≡_};
 ghost use lib.ListN.{length};
+ghost use Rattle.board.specs.Check.{checkImage};
 ghost use Rattle.lexer.specs.Read.{checkRule};
 ghost use Rattle.message.specs.Message.{messageOf};
-ghost use Rattle.abi.specs.Abi.{Answers, RowsAnswer, Tables, MessageAnswer};
+ghost use Rattle.abi.specs.Abi.{Answers, RowsAnswer, Tables, MessageAnswer, checkNumber};
 
 // Reads a rule's tokens into a table. `tree` and `errors` are the lengths of the other two tables. It gives 0, and the number of
 // tokens in `count`; or the number of a refusal from 1 to 4, with table and count as they were.
@@ -79,5 +82,16 @@ pub extern "C" fn assertion_message(
             0
         }
         Message::NoRoom => 1,
+    }
+}
+
+// Checks a board image, and the length of the collection table that its members are to fit: 0, or the number of a refusal from 5 to 8.
+#[no_mangle]
+pub extern "C" fn assertion_check_image(image: &[u8], collection: usize) -> u32
+    ensures { λ r. ⌜ r ≡ checkNumber (checkImage (now (image .entry)) collection) ⌝ }
+{
+    match board::check_image(image, collection) {
+        Check::Passed => 0,
+        Check::Refused(r) => refusal::number(r),
     }
 }
