@@ -64,7 +64,7 @@ const BOUNDARY: [char; 10] = [
 ];
 
 /// Overlong forms, surrogates, numbers above U+10FFFF, cut characters, stray bytes.
-const DAMAGE: [&[u8]; 24] = [
+pub const DAMAGE: [&[u8]; 24] = [
     b"\xc0\x80",
     b"\xc1\xbf",
     b"\xe0\x80\x80",
@@ -250,22 +250,11 @@ impl Generator {
     fn characters(&mut self, before: &str, after: &str) {
         self.pieces.extend(before);
         for _ in 0..self.random.between(1, 4) {
-            let character = self.character();
+            let character = character(&mut self.random);
             self.pieces.extend(character.encode_utf8(&mut [0; 4]));
         }
         self.pieces.extend(after);
         self.pieces.close();
-    }
-
-    fn character(&mut self) -> char {
-        let number = match self.random.below(5) {
-            0 => return self.random.pick(&BOUNDARY),
-            1 => self.random.below(0x80),
-            2 => self.random.between(0x80, 0x7ff),
-            3 => self.random.between(0x800, 0xffff),
-            _ => self.random.between(0x1_0000, 0x10_ffff),
-        };
-        char::from_u32(number as u32).unwrap_or(char::REPLACEMENT_CHARACTER)
     }
 
     fn bytes(&mut self, rule: &mut Vec<u8>) {
@@ -362,6 +351,18 @@ impl Generator {
         rule.extend_from_slice(b"connected");
         rule.extend((0..=brackets).map(|_| b')'));
     }
+}
+
+/// A character of one to four bytes, at times the first or last of its length.
+pub fn character(random: &mut Random) -> char {
+    let number = match random.below(5) {
+        0 => return random.pick(&BOUNDARY),
+        1 => random.below(0x80),
+        2 => random.between(0x80, 0x7ff),
+        3 => random.between(0x800, 0xffff),
+        _ => random.between(0x1_0000, 0x10_ffff),
+    };
+    char::from_u32(number as u32).unwrap_or(char::REPLACEMENT_CHARACTER)
 }
 
 /// Cuts a text to a length of bytes; a character cut in two gives way to letters.

@@ -3,14 +3,23 @@
 #[allow(dead_code)]
 mod assertion;
 mod bench;
+mod board;
 #[cfg(test)]
 mod boards;
 mod case;
 mod compare;
+mod compare_images;
+mod damage;
+mod draw_board;
+mod example_boards;
 mod exhaustive;
 mod generate;
+mod generate_images;
 mod grammar;
+mod image;
 mod messages;
+#[cfg(test)]
+mod model;
 mod pieces;
 mod places;
 mod proved;
@@ -19,6 +28,7 @@ mod reading;
 mod replay;
 mod replay_tokens;
 mod replay_trees;
+mod sections;
 mod sequences;
 mod sides;
 mod tables;
@@ -42,6 +52,15 @@ oracle: the four Rust files beside the proved code
   one HEX TOKENS TREE ERRORS
       runs one case, a rule in hex (- for none) and the three table lengths in
       numbers, and prints what both sides say
+  compare-images [--count N] [--seed S]
+      compares every small change of the example boards and N generated images
+      (1000000), half of them damaged, drawn from the seed S (1); stops at the
+      first difference
+  one-image FILE COLLECTION
+      checks one image and a collection of so many numbers, and prints what
+      both sides say
+  images FOLDER
+      writes boards A and B and other example boards to FOLDER
   bench [--rounds N]
       measures both sides on the same rules, N times (31)
   tree [FILE]
@@ -54,6 +73,7 @@ oracle: the four Rust files beside the proved code
 
 compare, one and bench need the proved code: build with --features proved for
 its tokens, with --features parse for its trees and messages too.
+compare-images and one-image need --features board.
 Exit status: 0 done or agreed; 1 a difference; 2 bad usage or a file's failure.
 ";
 
@@ -67,11 +87,18 @@ fn main() -> ExitCode {
             eprintln!("{command} needs the proved code: build with --features proved");
             return ExitCode::from(2);
         }
+        ("compare-images" | "one-image", _) if !proved::CHECKS_IMAGES => {
+            eprintln!("{command} needs the proved code: build with --features board");
+            return ExitCode::from(2);
+        }
         ("compare", _) => return compare(words),
         ("one", _) => return one(words),
+        ("compare-images", _) => return compare_images(words),
+        ("one-image", [file, collection]) => return one_image(file, collection),
         ("bench", _) => return bench(words),
         ("tree", []) => tree(&mut io::stdin()),
         ("tree", [file]) => fs::File::open(file).and_then(|mut file| tree(&mut file)),
+        ("images", [folder]) => example_boards::write(Path::new(folder)),
         ("replay", [folder]) => replay::write(Path::new(folder)),
         ("help", []) => io::stdout().write_all(HELP.as_bytes()),
         _ => return usage(),
@@ -133,6 +160,47 @@ fn one(words: &[String]) -> ExitCode {
         Err(difference) => {
             println!("{difference}");
             ExitCode::FAILURE
+        }
+    }
+}
+
+fn compare_images(words: &[String]) -> ExitCode {
+    let (mut count, mut seed) = (Some(1_000_000), Some(1));
+    for pair in words.chunks(2) {
+        match pair {
+            [name, value] if name == "--count" => count = value.parse().ok(),
+            [name, value] if name == "--seed" => seed = value.parse().ok(),
+            _ => return usage(),
+        }
+    }
+    let (Some(count), Some(seed)) = (count, seed) else {
+        return usage();
+    };
+    match compare_images::compare(count, seed) {
+        Ok(()) => ExitCode::SUCCESS,
+        Err(difference) => {
+            println!("{difference}");
+            ExitCode::FAILURE
+        }
+    }
+}
+
+fn one_image(file: &str, collection: &str) -> ExitCode {
+    let Ok(collection) = collection.parse() else {
+        return usage();
+    };
+    match compare_images::one(Path::new(file), collection) {
+        Ok(Ok(said)) => {
+            println!("{said}\nagreed");
+            ExitCode::SUCCESS
+        }
+        Ok(Err(difference)) => {
+            println!("{difference}");
+            ExitCode::FAILURE
+        }
+        Err(error) => {
+            eprintln!("{file}: {error}");
+            ExitCode::from(2)
         }
     }
 }

@@ -2,9 +2,11 @@
 
 use crate::case::ERROR_ROW;
 
-/// Whether the proved code is part of this build, and whether it has the parser and its messages.
+/// Whether the proved code is part of this build, whether it has the parser and its messages, and
+/// whether it has the check of board images.
 pub const LINKED: bool = cfg!(feature = "proved");
 pub const PARSES: bool = cfg!(feature = "parse");
+pub const CHECKS_IMAGES: bool = cfg!(feature = "board");
 
 #[cfg(feature = "proved")]
 unsafe extern "C" {
@@ -46,6 +48,11 @@ unsafe extern "C" {
         out_len: usize,
         written: *mut usize,
     ) -> u32;
+}
+
+#[cfg(feature = "board")]
+unsafe extern "C" {
+    fn assertion_check_image(image: *const u8, image_len: usize, collection_len: usize) -> u32;
 }
 
 /// Returns 0 with the token rows at the front of the table and their number in `count`, or the
@@ -122,6 +129,14 @@ pub fn message(rule: &[u8], error: [u32; ERROR_ROW], out: &mut [u8], written: &m
     }
 }
 
+/// Returns 0, or the first of refusals 5 to 8 that holds. The collection is given by its length in
+/// numbers alone. No byte may be altered; the image is lent as if it might be, so that it can be seen.
+#[cfg(feature = "board")]
+pub fn check_image(image: &mut [u8], collection_len: usize) -> u32 {
+    // SAFETY: the pointer is valid for the length beside it.
+    unsafe { assertion_check_image(image.as_mut_ptr(), image.len(), collection_len) }
+}
+
 #[cfg(not(feature = "proved"))]
 pub fn read_tokens(_: &[u8], _: &mut [u32], _: usize, _: usize, _: &mut u32) -> u32 {
     unreachable!("whoever calls this asks LINKED first")
@@ -135,4 +150,9 @@ pub fn parse_expr(_: &[u8], _: &mut [u32], _: &mut [u32], _: &mut [u32], _: &mut
 #[cfg(not(feature = "parse"))]
 pub fn message(_: &[u8], _: [u32; ERROR_ROW], _: &mut [u8], _: &mut usize) -> u32 {
     unreachable!("whoever calls this asks PARSES first")
+}
+
+#[cfg(not(feature = "board"))]
+pub fn check_image(_: &mut [u8], _: usize) -> u32 {
+    unreachable!("whoever calls this asks CHECKS_IMAGES first")
 }
