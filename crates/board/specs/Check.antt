@@ -1,7 +1,7 @@
 -- Document 01, "Turned away", refusals 5 to 8: which bytes are a board image, and whether the collection table is long enough for it.
 -- Assumes nothing: these are definitions.
-use Prim.Native.Nat.{ℕ, zero, suc, _+_, _*_, _/_, _%_}
-use mathlib.Core.Bool.{Bool, true, false, cond, not, _&&_, _||_}
+use Prim.Native.Nat.{ℕ, zero, suc, _+_, _/_, _%_}
+use mathlib.Core.Bool.{Bool, true, cond, not, _&&_, _||_}
 use mathlib.Core.List.{List}
 use lib.Dec.{eqb, leb, ltb}
 use lib.ListN.{length}
@@ -10,7 +10,7 @@ use Rattle.syntax.specs.declared.refusal.Check.{Check}
 use Rattle.syntax.specs.declared.refusal.Refusal.the-variants.{ImageBadSections, ImageBadStrings, ImageBadRecords, CollectionTooShort}
 use Rattle.board.specs.declared.image.Section.{Section}
 use Rattle.board.specs.declared.image.Section.the-variants.{Letters, Strings, Components, Features, Connections, Properties, Diagnostics}
-use Rattle.board.specs.Image.{PAIR-SIZE, SECTIONS, pairOffset, pairLength, sectionLength, recordSize, field, text, stringCount, stringOffset, stringLength, componentCount, category, parent, firstFeature, featuresOf, wired, featureCount, featureName, featureKind, direction, connectionCount, owner, source, target, propertyCount, propertyComponent, propertySet, propertyName, diagnosticCount, analysis, severity, message}
+use Rattle.board.specs.Image.{SECTIONS, pairOffset, pairLength, sectionLength, recordSize, text, stringCount, stringOffset, stringLength, componentCount, category, parent, firstFeature, featuresOf, wired, featureCount, featureName, featureKind, direction, connectionCount, owner, source, target, propertyCount, propertyComponent, propertySet, propertyName, diagnosticCount, analysis, severity, message}
 
 -- pairs of offset and length, m of them from pair n on, lie end to end: the first at `at`, each where the one before ended, the last
 -- ending at `end`

@@ -32,6 +32,7 @@ pub record WellFormed (image : List ℕ) : Type 0 where
   pub sections : EndToEnd (pairOffset image) (pairLength image) SECTIONS PAIRS-SIZE (length image)
   pub sectionWithin : (s : Section) → sectionOffset image s + sectionLength image s ≤ length image
   pub sectionRecords : (s : Section) → recordSize s * recordCount image s ≡ sectionLength image s
+  pub recordWithin : (s : Section) (n : ℕ) → n < recordCount image s → sectionOffset image s + recordSize s * n + recordSize s ≤ length image
   -- the strings cover the letters, and each is a text of its own
   pub strings : EndToEnd (stringOffset image) (stringLength image) (stringCount image) 0 (sectionLength image Letters)
   pub texts : (n : ℕ) → n < stringCount image → text image n ≡ take (stringLength image n) (drop (stringOffset image n) (letters image))
