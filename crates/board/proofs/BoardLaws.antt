@@ -17,7 +17,7 @@ use Rattle.board.specs.declared.image.Section.{Section}
 use Rattle.board.specs.declared.image.Section.the-variants.{Letters, Strings, Components, Features, Connections, Properties, Diagnostics}
 use Rattle.board.specs.Image.{NUMBER-SIZE, littleEndian, word, SECTIONS, sectionNumber, pairOffset, pairLength, sectionOffset, sectionLength, recordSize, recordCount, field, text, textOffset, stringCount, stringOffset, stringLength, componentCount, category, parent, firstFeature, featuresOf, wired, featureCount, featureName, featureKind, direction, connectionCount, owner, source, target, propertyCount, propertyComponent, propertySet, propertyName, diagnosticCount, analysis, severity, message}
 use Rattle.board.specs.Check.{laid, each, PAIRS-SIZE, MAX-IMAGE, CATEGORIES, WIRED-MARKS, FEATURE-KINDS, DIRECTIONS, SEVERITIES, COLLECTION-ROW, wholeRecords, allWholeRecords, sectionsLaid, sectionsFit, stringsLaid, stringsUtf8, stringsFit, componentFits, featuresLaid, componentsFit, featureFits, featuresFit, connectionFits, connectionsFit, propertyFits, propertiesFit, diagnosticFits, diagnosticsFit, recordsFit, collectionShort, checkImage}
-use Rattle.board.specs.WellFormed.{EndToEnd, WellFormed, Room}
+use Rattle.board.specs.WellFormed.{total, EndToEnd, WellFormed, Room}
 
 -- both of two tests, and all of three
 both : (p q : Bool) → (p && q) ≡ true → (p ≡ true) × (q ≡ true)
@@ -117,6 +117,12 @@ onward offset long n (suc m) at end h =
     let parts = both (eqb (offset n) at) (laid offset long (suc n) m (at + long n) end) h in
     onward-one offset long n m at end (eqb-true (offset n) at (parts .0)) (onward offset long (suc n) m (at + long n) end (parts .1))
 
+laid-total : (offset long : ℕ → ℕ) (n m at end : ℕ) → laid offset long n m at end ≡ true → at + total long n m ≡ end
+unfolding laid total
+laid-total offset long n zero at end h = omega (arith, eqb-true at end h)
+laid-total offset long n (suc m) at end h =
+    omega (arith, laid-total offset long (suc n) m (at + long n) end (both (eqb (offset n) at) (laid offset long (suc n) m (at + long n) end) h .1))
+
 pub laid-end-to-end : (offset long : ℕ → ℕ) (count from end : ℕ) → laid offset long 0 count from end ≡ true → EndToEnd offset long count from end
 laid-end-to-end offset long count from end h =
     record {
@@ -125,6 +131,7 @@ laid-end-to-end offset long count from end h =
       last = λ n e. all .last n (omega arith) (omega arith);
       empty = all .empty;
       within = λ n l. all .within n (omega arith) (omega arith);
+      whole = laid-total offset long 0 count from end h;
     }
   where
     all : Onward offset long 0 count from end
