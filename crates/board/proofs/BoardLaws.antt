@@ -15,9 +15,9 @@ use Rattle.syntax.specs.declared.refusal.Refusal.{Refusal}
 use Rattle.syntax.specs.declared.refusal.Refusal.the-variants.{ImageBadSections, ImageBadStrings, ImageBadRecords, CollectionTooShort}
 use Rattle.board.specs.declared.image.Section.{Section}
 use Rattle.board.specs.declared.image.Section.the-variants.{Letters, Strings, Components, Features, Connections, Properties, Diagnostics}
-use Rattle.board.specs.Image.{SECTIONS, sectionNumber, pairOffset, pairLength, sectionOffset, sectionLength, recordSize, recordCount, field, text, textOffset, stringCount, stringOffset, stringLength, componentCount, category, parent, firstFeature, featuresOf, wired, featureCount, featureName, featureKind, direction, connectionCount, owner, source, target, propertyCount, propertyComponent, propertySet, propertyName, diagnosticCount, analysis, severity, message}
+use Rattle.board.specs.Image.{NUMBER-SIZE, littleEndian, word, SECTIONS, sectionNumber, pairOffset, pairLength, sectionOffset, sectionLength, recordSize, recordCount, field, text, textOffset, stringCount, stringOffset, stringLength, componentCount, category, parent, firstFeature, featuresOf, wired, featureCount, featureName, featureKind, direction, connectionCount, owner, source, target, propertyCount, propertyComponent, propertySet, propertyName, diagnosticCount, analysis, severity, message}
 use Rattle.board.specs.Check.{laid, each, PAIRS-SIZE, MAX-IMAGE, CATEGORIES, WIRED-MARKS, FEATURE-KINDS, DIRECTIONS, SEVERITIES, COLLECTION-ROW, wholeRecords, allWholeRecords, sectionsLaid, sectionsFit, stringsLaid, stringsUtf8, stringsFit, componentFits, featuresLaid, componentsFit, featureFits, featuresFit, connectionFits, connectionsFit, propertyFits, propertiesFit, diagnosticFits, diagnosticsFit, recordsFit, collectionShort, checkImage}
-use Rattle.board.specs.WellFormed.{EndToEnd, WellFormed, Room, letters}
+use Rattle.board.specs.WellFormed.{total, EndToEnd, WellFormed, Room}
 
 -- both of two tests, and all of three
 both : (p q : Bool) → (p && q) ≡ true → (p ≡ true) × (q ≡ true)
@@ -117,6 +117,12 @@ onward offset long n (suc m) at end h =
     let parts = both (eqb (offset n) at) (laid offset long (suc n) m (at + long n) end) h in
     onward-one offset long n m at end (eqb-true (offset n) at (parts .0)) (onward offset long (suc n) m (at + long n) end (parts .1))
 
+laid-total : (offset long : ℕ → ℕ) (n m at end : ℕ) → laid offset long n m at end ≡ true → at + total long n m ≡ end
+unfolding laid total
+laid-total offset long n zero at end h = omega (arith, eqb-true at end h)
+laid-total offset long n (suc m) at end h =
+    omega (arith, laid-total offset long (suc n) m (at + long n) end (both (eqb (offset n) at) (laid offset long (suc n) m (at + long n) end) h .1))
+
 pub laid-end-to-end : (offset long : ℕ → ℕ) (count from end : ℕ) → laid offset long 0 count from end ≡ true → EndToEnd offset long count from end
 laid-end-to-end offset long count from end h =
     record {
@@ -125,6 +131,7 @@ laid-end-to-end offset long count from end h =
       last = λ n e. all .last n (omega arith) (omega arith);
       empty = all .empty;
       within = λ n l. all .within n (omega arith) (omega arith);
+      whole = laid-total offset long 0 count from end h;
     }
   where
     all : Onward offset long 0 count from end
@@ -202,6 +209,15 @@ section-records image h Connections = omega (arith, eqb-true (sectionLength imag
 section-records image h Properties = omega (arith, eqb-true (sectionLength image Properties % 12) 0 (h Properties))
 section-records image h Diagnostics = omega (arith, eqb-true (sectionLength image Diagnostics % 12) 0 (h Diagnostics))
 
+record-within : (image : List ℕ) (s : Section) (n : ℕ) → recordSize s * recordCount image s ≡ sectionLength image s → sectionOffset image s + sectionLength image s ≤ length image → n < recordCount image s → sectionOffset image s + recordSize s * n + recordSize s ≤ length image
+record-within image Letters n e w l = omega arith
+record-within image Strings n e w l = omega arith
+record-within image Components n e w l = omega arith
+record-within image Features n e w l = omega arith
+record-within image Connections n e w l = omega arith
+record-within image Properties n e w l = omega arith
+record-within image Diagnostics n e w l = omega arith
+
 -- refusal 6 does not come
 strings-of : (image : List ℕ) → stringsFit image ≡ true → EndToEnd (stringOffset image) (stringLength image) (stringCount image) 0 (sectionLength image Letters)
 unfolding stringsFit stringsLaid
@@ -259,6 +275,7 @@ well-formed image h5 h6 h7 =
       sections = s .sections;
       sectionWithin = within;
       sectionRecords = section-records image (s .whole);
+      recordWithin = λ k n l. record-within image k n (section-records image (s .whole) k) (within k) l;
       strings = t;
       texts = λ n l. text-part image n (inside n l) ∙ sym (part-of-part image (sectionOffset image Letters) (sectionLength image Letters) (stringOffset image n) (stringLength image n) (t .within n l) (omega (arith, inside n l)));
       textLengths = λ n l. text-length image n (inside n l);
@@ -339,6 +356,13 @@ pub passed-well-formed : (image : List ℕ) (collection : ℕ) → checkImage im
 passed-well-formed image collection e =
     let p = passes-of image collection e in
     well-formed image (p .sections) (p .strings) (p .records)
+
+-- every number of its records is four bytes of the image, and no 0 for want of them
+pub field-read : (image : List ℕ) → WellFormed image → (s : Section) (index number : ℕ) → index < recordCount image s → NUMBER-SIZE * number + NUMBER-SIZE ≤ recordSize s
+    → field image s index number ≡ littleEndian image (sectionOffset image s + recordSize s * index + NUMBER-SIZE * number)
+unfolding field word
+field-read image w s index number l h =
+    rw (le-leb (sectionOffset image s + recordSize s * index + NUMBER-SIZE * number + NUMBER-SIZE) (length image) (omega (arith, w .recordWithin s index l)))
 
 -- and the collection table has room for its members
 pub passed-room : (image : List ℕ) (collection : ℕ) → checkImage image collection ≡ Check.Passed → Room image collection

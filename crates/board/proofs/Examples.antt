@@ -1,9 +1,8 @@
 -- The definitions, run: Board A and Board B pass, and damaged copies of them are turned away by the right refusal. Assumes nothing.
 use mathlib.Core.Path.{_≡_, refl}
-use mathlib.Core.Bool.{Bool, true, false}
 use mathlib.Core.List.{List, [], _∷_, _++_}
 use Prim.Native.Nat.{ℕ}
-use lib.ListN.{length, take, set}
+use lib.ListN.{take, set}
 use Rattle.syntax.specs.Text.{ascii}
 use Rattle.syntax.specs.Utf8.{utf8, wellFrom, after, afterIn, table}
 use Rattle.syntax.specs.Refusal.{refusalNumber}

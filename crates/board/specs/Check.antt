@@ -1,7 +1,7 @@
 -- Document 01, "Turned away", refusals 5 to 8: which bytes are a board image, and whether the collection table is long enough for it.
 -- Assumes nothing: these are definitions.
-use Prim.Native.Nat.{ℕ, zero, suc, _+_, _*_, _/_, _%_}
-use mathlib.Core.Bool.{Bool, true, false, cond, not, _&&_, _||_}
+use Prim.Native.Nat.{ℕ, zero, suc, _+_, _/_, _%_}
+use mathlib.Core.Bool.{Bool, true, cond, not, _&&_, _||_}
 use mathlib.Core.List.{List}
 use lib.Dec.{eqb, leb, ltb}
 use lib.ListN.{length}
@@ -10,7 +10,7 @@ use Rattle.syntax.specs.declared.refusal.Check.{Check}
 use Rattle.syntax.specs.declared.refusal.Refusal.the-variants.{ImageBadSections, ImageBadStrings, ImageBadRecords, CollectionTooShort}
 use Rattle.board.specs.declared.image.Section.{Section}
 use Rattle.board.specs.declared.image.Section.the-variants.{Letters, Strings, Components, Features, Connections, Properties, Diagnostics}
-use Rattle.board.specs.Image.{PAIR-SIZE, SECTIONS, pairOffset, pairLength, sectionLength, recordSize, field, text, stringCount, stringOffset, stringLength, componentCount, category, parent, firstFeature, featuresOf, wired, featureCount, featureName, featureKind, direction, connectionCount, owner, source, target, propertyCount, propertyComponent, propertySet, propertyName, diagnosticCount, analysis, severity, message}
+use Rattle.board.specs.Image.{SECTIONS, pairOffset, pairLength, sectionLength, recordSize, text, stringCount, stringOffset, stringLength, componentCount, category, parent, firstFeature, featuresOf, wired, featureCount, featureName, featureKind, direction, connectionCount, owner, source, target, propertyCount, propertyComponent, propertySet, propertyName, diagnosticCount, analysis, severity, message}
 
 -- pairs of offset and length, m of them from pair n on, lie end to end: the first at `at`, each where the one before ended, the last
 -- ending at `end`
@@ -31,9 +31,11 @@ MAX-IMAGE = 65536
 abbrev pub PAIRS-SIZE : ℕ
 PAIRS-SIZE = 56
 
+-- a section is whole records
 abbrev pub wholeRecords : List ℕ → Section → Bool
 wholeRecords image section = eqb (sectionLength image section % recordSize section) 0
 
+-- and so is each one; letters are records of one byte
 unfoldable pub allWholeRecords : List ℕ → Bool
 allWholeRecords image =
     wholeRecords image Strings
@@ -47,6 +49,7 @@ allWholeRecords image =
 unfoldable pub sectionsLaid : List ℕ → Bool
 sectionsLaid image = laid (pairOffset image) (pairLength image) 0 SECTIONS PAIRS-SIZE (length image)
 
+-- refusal 5 does not come
 unfoldable pub sectionsFit : List ℕ → Bool
 sectionsFit image =
     leb PAIRS-SIZE (length image)
@@ -54,14 +57,15 @@ sectionsFit image =
     && (sectionsLaid image
     && allWholeRecords image))
 
--- 6. "A string pair breaks its rule, or a string isn't UTF-8": "from 0, each where the last ended, covering all" letters, and each
--- string UTF-8 by itself
+-- 6. "A string pair breaks its rule, or a string isn't UTF-8." Its rule: "from 0, each where the last ended, covering all" letters
 unfoldable pub stringsLaid : List ℕ → Bool
 stringsLaid image = laid (stringOffset image) (stringLength image) 0 (stringCount image) 0 (sectionLength image Letters)
 
+-- each string by itself, so that no character lies across two
 unfoldable pub stringsUtf8 : List ℕ → Bool
 stringsUtf8 image = each (λ n. utf8 (text image n)) 0 (stringCount image)
 
+-- refusal 6 does not come
 unfoldable pub stringsFit : List ℕ → Bool
 stringsFit image = stringsLaid image && stringsUtf8 image
 
@@ -90,30 +94,35 @@ isIndex x count = ltb x count
 abbrev pub isIndexOrNone : ℕ → ℕ → Bool
 isIndexOrNone x count = ltb x (count + 1)
 
+-- category, parent and wired of a component
 abbrev pub componentFits : List ℕ → ℕ → Bool
 componentFits image n =
     ltb (category image n) CATEGORIES
     && (isIndexOrNone (parent image n) (componentCount image)
     && ltb (wired image n) WIRED-MARKS)
 
+-- name, kind and direction of a feature
 abbrev pub featureFits : List ℕ → ℕ → Bool
 featureFits image n =
     isIndex (featureName image n) (stringCount image)
     && (ltb (featureKind image n) FEATURE-KINDS
     && ltb (direction image n) DIRECTIONS)
 
+-- owner, source and target of a connection
 abbrev pub connectionFits : List ℕ → ℕ → Bool
 connectionFits image n =
     isIndex (owner image n) (componentCount image)
     && (isIndexOrNone (source image n) (stringCount image)
     && isIndexOrNone (target image n) (stringCount image))
 
+-- component, set and name of a property
 abbrev pub propertyFits : List ℕ → ℕ → Bool
 propertyFits image n =
     isIndex (propertyComponent image n) (componentCount image)
     && (isIndex (propertySet image n) (stringCount image)
     && isIndex (propertyName image n) (stringCount image))
 
+-- analysis, severity and message of a diagnostic
 abbrev pub diagnosticFits : List ℕ → ℕ → Bool
 diagnosticFits image n =
     isIndex (analysis image n) (stringCount image)
@@ -140,6 +149,7 @@ propertiesFit image = each (propertyFits image) 0 (propertyCount image)
 unfoldable pub diagnosticsFit : List ℕ → Bool
 diagnosticsFit image = each (diagnosticFits image) 0 (diagnosticCount image)
 
+-- refusal 7 does not come
 unfoldable pub recordsFit : List ℕ → Bool
 recordsFit image =
     componentsFit image
@@ -148,11 +158,12 @@ recordsFit image =
     && (propertiesFit image
     && diagnosticsFit image)))
 
--- 8. "The collection table has fewer rows than components and features added, or fewer than diagnostics." Its rows are of two numbers,
--- and numbers after the last whole row count as none
+-- 8. "The collection table has fewer rows than components and features added, or fewer than diagnostics." Its rows are of two numbers;
+-- numbers after the last whole row count as none
 abbrev pub COLLECTION-ROW : ℕ
 COLLECTION-ROW = 2
 
+-- refusal 8 comes
 unfoldable pub collectionShort : List ℕ → ℕ → Bool
 collectionShort image collection =
     ltb (collection / COLLECTION-ROW) (componentCount image + featureCount image)

@@ -1,7 +1,7 @@
 -- What holds of an image that `checkImage` passes: where its sections, records and strings lie, and the range of each number. It
 -- follows from `Check` (`passed-well-formed`, of proofs/BoardLaws), and is what those who read a board go by.
 -- Assumes nothing: these are definitions.
-use Prim.Native.Nat.{ℕ, _+_, _*_, _/_, _≤_, _<_}
+use Prim.Native.Nat.{ℕ, zero, suc, _+_, _*_, _/_, _≤_, _<_}
 use mathlib.Core.Path.{_≡_}
 use mathlib.Core.Bool.{true}
 use mathlib.Core.List.{List}
@@ -12,6 +12,11 @@ use Rattle.board.specs.declared.image.Section.the-variants.{Letters}
 use Rattle.board.specs.Image.{SECTIONS, pairOffset, pairLength, sectionOffset, sectionLength, recordSize, recordCount, text, stringCount, stringOffset, stringLength, componentCount, category, parent, firstFeature, featuresOf, wired, featureCount, featureName, featureKind, direction, connectionCount, owner, source, target, propertyCount, propertyComponent, propertySet, propertyName, diagnosticCount, analysis, severity, message}
 use Rattle.board.specs.Check.{PAIRS-SIZE, MAX-IMAGE, CATEGORIES, WIRED-MARKS, FEATURE-KINDS, DIRECTIONS, SEVERITIES, COLLECTION-ROW}
 
+-- the sum of m lengths from length n on
+unfoldable pub total : (ℕ → ℕ) → ℕ → ℕ → ℕ
+total long n zero = 0
+total long n (suc m) = long n + total long (suc n) m
+
 -- `count` pairs of offset and length, end to end from a place to an end
 pub record EndToEnd (offset long : ℕ → ℕ) (count from end : ℕ) : Type 0 where
   pub first : 0 < count → offset 0 ≡ from
@@ -19,6 +24,7 @@ pub record EndToEnd (offset long : ℕ → ℕ) (count from end : ℕ) : Type 0 
   pub last : (n : ℕ) → n + 1 ≡ count → offset n + long n ≡ end
   pub empty : count ≡ 0 → from ≡ end
   pub within : (n : ℕ) → n < count → offset n + long n ≤ end
+  pub whole : from + total long 0 count ≡ end
 
 -- the letters
 abbrev pub letters : List ℕ → List ℕ
@@ -32,6 +38,7 @@ pub record WellFormed (image : List ℕ) : Type 0 where
   pub sections : EndToEnd (pairOffset image) (pairLength image) SECTIONS PAIRS-SIZE (length image)
   pub sectionWithin : (s : Section) → sectionOffset image s + sectionLength image s ≤ length image
   pub sectionRecords : (s : Section) → recordSize s * recordCount image s ≡ sectionLength image s
+  pub recordWithin : (s : Section) (n : ℕ) → n < recordCount image s → sectionOffset image s + recordSize s * n + recordSize s ≤ length image
   -- the strings cover the letters, and each is a text of its own
   pub strings : EndToEnd (stringOffset image) (stringLength image) (stringCount image) 0 (sectionLength image Letters)
   pub texts : (n : ℕ) → n < stringCount image → text image n ≡ take (stringLength image n) (drop (stringOffset image n) (letters image))

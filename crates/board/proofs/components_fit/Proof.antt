@@ -1,6 +1,6 @@
 -- `components_fit` gives `componentsFit`, component by component. Assumes nothing.
 use denote.Ref.{now}
-use mathlib.Core.Path.{sym, ap, _∙_}
+use mathlib.Core.Path.{sym, _∙_}
 use Prim.Native.Nat.{_-_}
 use borrow.Author.Tests.{not-true, not-false}
 use borrow.Author.Needs.{needs}
