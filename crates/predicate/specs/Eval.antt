@@ -10,17 +10,20 @@ use Rattle.predicate.specs.declared.atom.Member.{Member}
 use Rattle.predicate.specs.declared.Truth.{Truth}
 use Rattle.predicate.specs.declared.Operands.{Operands}
 use Rattle.predicate.specs.Truth.{truths, truth, joined}
-use Rattle.predicate.specs.Rows.{ROW, levelAt, forestFrom, nodeAt, rowsFrom, pastBelow}
+use Rattle.predicate.specs.Rows.{ROW, levelAt, forestFrom, nodeAt, isBelow, rowsFrom, pastBelow}
 
--- a row is found at a place: these rows begin there
-pub record FoundAt (tree rows : List ℕ) (from at : ℕ) : Type 0 where
+-- the first row at a level from a place on that passes a test is found at a place, or nowhere
+pub record FoundAt (test : ℕ → Bool) (tree : List ℕ) (level from at : ℕ) : Type 0 where
   pub later : from ≤ at
   pub whole : at + ROW ≤ length tree
-  pub here : drop at tree ≡ rows
+  pub here : drop at tree ≡ rowsFrom test level (drop from tree)
 
-abbrev pub Finds : (tree rows : List ℕ) (from : ℕ) → Found → Type 0
-Finds tree rows from (Found.At at) = FoundAt tree rows from at
-Finds tree rows from Found.Absent = rows ≡ []
+pub record FoundNowhere (test : ℕ → Bool) (tree : List ℕ) (level from : ℕ) : Type 0 where
+  pub none : rowsFrom test level (drop from tree) ≡ []
+
+abbrev pub Finds : (test : ℕ → Bool) (tree : List ℕ) (level from : ℕ) → Found → Type 0
+Finds test tree level from (Found.At at) = FoundAt test tree level from at
+Finds test tree level from Found.Absent = FoundNowhere test tree level from
 
 -- the rows below a level from a place on are passed over
 pub record Skips (tree : List ℕ) (level from next : ℕ) : Type 0 where
@@ -48,6 +51,10 @@ joinedFrom rule image tree m level s =
 pub record Joined (rule image tree : List ℕ) (m : Member) (level from : ℕ) (r : Truth) : Type 0 where
   pub value : r .value ≡ joinedFrom rule image tree m level (record { at = from; or = false; before = true })
   pub next : Skips tree level from (r .next)
+
+-- a row is left to join
+pub record Operand (tree : List ℕ) (level : ℕ) (s : Operands) : Type 0 where
+  pub row : isBelow tree level (s .at) ≡ true
 
 -- a row more is joined
 pub record Joins (rule image tree : List ℕ) (m : Member) (level : ℕ) (s r : Operands) : Type 0 where

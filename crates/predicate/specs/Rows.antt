@@ -47,6 +47,9 @@ kindAt tree at = getD tree at 0
 abbrev pub levelAt : List ℕ → ℕ → ℕ
 levelAt tree at = getD tree (at + 1) 0
 
+abbrev pub textAt : List ℕ → List ℕ → ℕ → List ℕ
+textAt rule tree at = bytesBetween rule (getD tree (at + 2) 0) (getD tree (at + 3) 0)
+
 -- the forest at a level from a place of a tree table on
 unfoldable pub forestFrom : List ℕ → List ℕ → ℕ → ℕ → Forest
 unfolding forest
@@ -87,10 +90,7 @@ rowsFrom test level (k ∷ []) = []
 rowsFrom test level (k ∷ m ∷ []) = []
 rowsFrom test level (k ∷ m ∷ first ∷ []) = []
 rowsFrom test level (k ∷ m ∷ first ∷ end ∷ rows) =
-    elim (ltb m level) [
-      | true ↦ []
-      | false ↦ elim (eqb m level && test k) [ true ↦ k ∷ m ∷ first ∷ end ∷ rows | false ↦ rowsFrom test level rows ]
-    ]
+    cond (ltb m level) [] (cond (eqb m level && test k) (k ∷ m ∷ first ∷ end ∷ rows) (rowsFrom test level rows))
 
 -- the rows below a level that rows begin with are passed over
 unfoldable pub pastBelow : ℕ → List ℕ → List ℕ
@@ -98,4 +98,4 @@ pastBelow level [] = []
 pastBelow level (k ∷ []) = k ∷ []
 pastBelow level (k ∷ m ∷ []) = k ∷ m ∷ []
 pastBelow level (k ∷ m ∷ first ∷ []) = k ∷ m ∷ first ∷ []
-pastBelow level (k ∷ m ∷ first ∷ end ∷ rows) = elim (ltb level m) [ true ↦ pastBelow level rows | false ↦ k ∷ m ∷ first ∷ end ∷ rows ]
+pastBelow level (k ∷ m ∷ first ∷ end ∷ rows) = cond (ltb level m) (pastBelow level rows) (k ∷ m ∷ first ∷ end ∷ rows)

@@ -13,7 +13,7 @@ ghost use Prim.Native.Nat.{_+_, _≤_, _^_};
 ghost use lib.ListN.{length};
 ghost use Rattle.syntax.specs.Kind.{BINARY-EXPR, UNARY-EXPR, PAREN-EXPR};
 ghost use Rattle.predicate.specs.Truth.{content, literalOf, fieldOf, connected, hasPropertyOf, has, compares, messageContains, truth};
-ghost use Rattle.predicate.specs.Rows.{ROW, kindAt, bytesBetween, forestFrom, nodeAt};
+ghost use Rattle.predicate.specs.Rows.{ROW, kindAt, textAt, forestFrom, nodeAt};
 
 // A member of a collection: a component, a component's feature, or a diagnostic, by their indexes on the board.
 pub enum Member {
@@ -28,7 +28,7 @@ pub(crate) fn eval_atom(rule: &[u8], image: &[u8], tree: &[u32], member: Member,
     ensures { λ r. ⌜ r ≡ truth (now (image .entry)) member (nodeAt (now (rule .entry)) (now (tree .entry)) at) ⌝ }
 {
     let kind = tree[at];
-    let children = tree[at + 1] as usize + 1;
+    let children = rows::level_at(tree, at) + 1;
     if kind == kind::IDENT_EXPR {
         return connected(image, member);
     }
@@ -59,14 +59,13 @@ pub(crate) fn find_string_literal<'a>(rule: &'a [u8], tree: &[u32], level: usize
     let Found::At(row) = string else {
         return &rule[0..0];
     };
-    content(rule, tree[row + 2] as usize, tree[row + 3] as usize)
+    content(token_text(rule, tree, row))
 }
 
-// The bytes between the quotes of a string that lies from `first` to `end` in a rule.
-fn content(rule: &[u8], first: usize, end: usize) -> &[u8]
-    ensures { λ r. ⌜ now r ≡ content (bytesBetween (now (rule .entry)) first end) ⌝ }
+// The bytes between the quotes of a string.
+fn content(string: &[u8]) -> &[u8]
+    ensures { λ r. ⌜ now r ≡ content (now (string .entry)) ⌝ }
 {
-    let string = bytes_between(rule, first, end);
     if string.len() < 2 {
         return &string[0..0];
     }
@@ -83,21 +82,26 @@ fn find_field<'a>(rule: &'a [u8], tree: &[u32], level: usize, from: usize) -> &'
     let Found::At(row) = field else {
         return &rule[0..0];
     };
-    bytes_between(rule, tree[row + 2] as usize, tree[row + 3] as usize)
+    token_text(rule, tree, row)
 }
 
-// The bytes of a rule from `first` to `end`, as far as the rule goes.
-fn bytes_between(rule: &[u8], first: usize, end: usize) -> &[u8]
-    ensures { λ r. ⌜ now r ≡ bytesBetween (now (rule .entry)) first end ⌝ }
+// The text of the token whose row is at a place, as far as the rule goes.
+fn token_text<'a>(rule: &'a [u8], tree: &[u32], at: usize) -> &'a [u8]
+    requires { ⌜ at + ROW ≤ length (now tree) ⌝ }
+    ensures { λ r. ⌜ now r ≡ textAt (now (rule .entry)) (now (tree .entry)) at ⌝ }
 {
-    let mut last = rule.len();
-    if end < last {
-        last = end;
-    }
-    if last < first {
+    let first = tree[at + 2] as usize;
+    let end = tree[at + 3] as usize;
+    if end < first {
         return &rule[0..0];
     }
-    &rule[first..last]
+    if rule.len() < first {
+        return &rule[0..0];
+    }
+    if rule.len() < end {
+        return &rule[first..];
+    }
+    &rule[first..end]
 }
 
 // `connected`, which is false of a diagnostic.

@@ -7,12 +7,11 @@ use atom::Member;
 use matching::search::Found;
 use syntax::kind;
 ghost use mathlib.Core.Path.{_≡_};
-ghost use mathlib.Core.Bool.{true};
 ghost use Prim.Native.Nat.{_+_, _≤_, _<_, _^_};
 ghost use lib.ListN.{length};
 ghost use Rattle.predicate.specs.Truth.{truth, orAfter};
-ghost use Rattle.predicate.specs.Rows.{ROW, isBelow, nodeAt};
-ghost use Rattle.predicate.specs.Eval.{Evaluated, Inner, Joins, Joined};
+ghost use Rattle.predicate.specs.Rows.{ROW, nodeAt};
+ghost use Rattle.predicate.specs.Eval.{Evaluated, Inner, Operand, Joins, Joined};
 
 // The truth of a node, and the place of the row after its last.
 struct Truth {
@@ -46,7 +45,7 @@ fn eval_node(rule: &[u8], image: &[u8], tree: &[u32], member: Member, at: usize)
     ensures { λ r. ⌜ Evaluated (now (rule .entry)) (now (image .entry)) (now (tree .entry)) member at r ⌝ }
 {
     let kind = tree[at];
-    let level = tree[at + 1] as usize;
+    let level = rows::level_at(tree, at);
     if kind == kind::BINARY_EXPR {
         return eval_operands(rule, image, tree, member, level, at + rows::ROW);
     }
@@ -88,13 +87,13 @@ fn eval_operands(rule: &[u8], image: &[u8], tree: &[u32], member: Member, level:
 
 // One row more: an operator, or an operand, which is passed over where it cannot change the truth so far.
 fn eval_operand(rule: &[u8], image: &[u8], tree: &[u32], member: Member, level: usize, operands: Operands) -> Operands
-    requires { ⌜ (isBelow (now tree) level (operands .at) ≡ true) × (level < 2 ^ 32) ⌝ }
+    requires { ⌜ Operand (now tree) level operands × (level < 2 ^ 32) ⌝ }
     ensures { λ r. ⌜ Joins (now (rule .entry)) (now (image .entry)) (now (tree .entry)) member level operands r ⌝ }
 {
     let at = operands.at;
     let or = operands.or;
     let before = operands.before;
-    if level + 1 < tree[at + 1] as usize {
+    if level + 1 < rows::level_at(tree, at) {
         return Operands { at: at + rows::ROW, or: or, before: before };
     }
     let kind = tree[at];

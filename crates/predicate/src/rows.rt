@@ -3,9 +3,9 @@
 use matching::search::Found;
 use syntax::kind;
 ghost use mathlib.Core.Path.{_≡_};
-ghost use Prim.Native.Nat.{_+_, _≤_};
-ghost use lib.ListN.{length, drop};
-ghost use Rattle.predicate.specs.Rows.{ROW, isRow, isBelow, rowPasses, ofKind, ofNode, rowsFrom};
+ghost use Prim.Native.Nat.{_+_, _≤_, _<_, _^_};
+ghost use lib.ListN.{length};
+ghost use Rattle.predicate.specs.Rows.{ROW, levelAt, isRow, isBelow, rowPasses, ofKind, ofNode};
 ghost use Rattle.predicate.specs.Eval.{Finds, Skips};
 
 // The numbers of a row.
@@ -14,11 +14,11 @@ pub const ROW: usize = 4;
 // The first row of a kind at a level, from a place on, before one that is above the level.
 pub(crate) fn find_row(tree: &[u32], level: usize, kind: u32, from: usize) -> Found
     requires { ⌜ from ≤ length (now tree) ⌝ }
-    ensures { λ r. ⌜ Finds (now (tree .entry)) (rowsFrom (ofKind kind) level (drop from (now (tree .entry)))) from r ⌝ }
+    ensures { λ r. ⌜ Finds (ofKind kind) (now (tree .entry)) level from r ⌝ }
 {
     let mut at = from;
     while is_row(tree, at) {
-        if (tree[at + 1] as usize) < level {
+        if level_at(tree, at) < level {
             return Found::Absent;
         }
         if row_is(tree, level, kind, at) {
@@ -33,7 +33,7 @@ fn row_is(tree: &[u32], level: usize, kind: u32, at: usize) -> bool
     requires { ⌜ at + ROW ≤ length (now tree) ⌝ }
     ensures { λ r. ⌜ r ≡ rowPasses (ofKind kind) (now (tree .entry)) level at ⌝ }
 {
-    if tree[at + 1] as usize != level {
+    if level_at(tree, at) != level {
         return false;
     }
     tree[at] == kind
@@ -42,11 +42,11 @@ fn row_is(tree: &[u32], level: usize, kind: u32, at: usize) -> bool
 // The first node at a level, from a place on, before a row that is above the level.
 pub(crate) fn find_child(tree: &[u32], level: usize, from: usize) -> Found
     requires { ⌜ from ≤ length (now tree) ⌝ }
-    ensures { λ r. ⌜ Finds (now (tree .entry)) (rowsFrom ofNode level (drop from (now (tree .entry)))) from r ⌝ }
+    ensures { λ r. ⌜ Finds ofNode (now (tree .entry)) level from r ⌝ }
 {
     let mut at = from;
     while is_row(tree, at) {
-        if (tree[at + 1] as usize) < level {
+        if level_at(tree, at) < level {
             return Found::Absent;
         }
         if row_is_child(tree, level, at) {
@@ -61,7 +61,7 @@ fn row_is_child(tree: &[u32], level: usize, at: usize) -> bool
     requires { ⌜ at + ROW ≤ length (now tree) ⌝ }
     ensures { λ r. ⌜ r ≡ rowPasses ofNode (now (tree .entry)) level at ⌝ }
 {
-    if tree[at + 1] as usize != level {
+    if level_at(tree, at) != level {
         return false;
     }
     kind::ROOT <= tree[at]
@@ -86,7 +86,7 @@ pub(crate) fn is_below(tree: &[u32], level: usize, at: usize) -> bool
     if !is_row(tree, at) {
         return false;
     }
-    level < tree[at + 1] as usize
+    level < level_at(tree, at)
 }
 
 // Whether a whole row is at a place.
@@ -97,4 +97,12 @@ pub(crate) fn is_row(tree: &[u32], at: usize) -> bool
         return false;
     }
     at <= tree.len() - ROW
+}
+
+// The level of the row at a place.
+pub(crate) fn level_at(tree: &[u32], at: usize) -> usize
+    requires { ⌜ at + ROW ≤ length (now tree) ⌝ }
+    ensures { λ r. ⌜ (r ≡ levelAt (now (tree .entry)) at) × (r < 2 ^ 32) ⌝ }
+{
+    tree[at + 1] as usize
 }

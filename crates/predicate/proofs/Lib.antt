@@ -1,0 +1,4 @@
+pub mod RowLaws
+pub mod ForestLaws
+pub mod AtomLaws
+pub mod EvalLaws
