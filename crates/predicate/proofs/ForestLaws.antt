@@ -15,19 +15,19 @@ use Rattle.predicate.specs.Eval.{FoundAt, FoundNowhere, Skips}
 use Rattle.predicate.proofs.RowLaws.{both, row-there, row-missing, drop-row, few, short-forest}
 
 -- where a row stands to a forest
-place-below : (level k m : ℕ) → level < m → placeOf level k m ≡ below
+pub place-below : (level k m : ℕ) → level < m → placeOf level k m ≡ below
 unfolding placeOf
 place-below level k m h = rw (lt-ltb level m h)
 
-place-past : (level k m : ℕ) → m < level → placeOf level k m ≡ past
+pub place-past : (level k m : ℕ) → m < level → placeOf level k m ≡ past
 unfolding placeOf
 place-past level k m h = rw (le-ltb level m (omega arith), lt-ltb m level h)
 
-place-token : (level k m : ℕ) → m ≡ level → k < ROOT → placeOf level k m ≡ token
+pub place-token : (level k m : ℕ) → m ≡ level → k < ROOT → placeOf level k m ≡ token
 unfolding placeOf
 place-token level k m e h = rw (le-ltb level m (omega arith), le-ltb m level (omega arith), lt-ltb k ROOT h)
 
-place-child : (level k m : ℕ) → m ≡ level → ROOT ≤ k → placeOf level k m ≡ child
+pub place-child : (level k m : ℕ) → m ≡ level → ROOT ≤ k → placeOf level k m ≡ child
 unfolding placeOf
 place-child level k m e h = rw (le-ltb level m (omega arith), le-ltb m level (omega arith), le-ltb k ROOT h)
 

@@ -2,3 +2,4 @@ pub mod RowLaws
 pub mod ForestLaws
 pub mod AtomLaws
 pub mod EvalLaws
+pub mod ReadBackLaws
