@@ -43,7 +43,6 @@ module _ (rule image tree : List ℕ) (m : Member) where
   unfolding truth truths
   truth-ignores = record { tokens = λ t f h. refl; nodes = λ k s f l h. absurd (false≢true (sym h ∙ le-leb ROOT k l)) }
 
-
   -- no node is below a level from a place on, or the one found is the first
   pub inner-none : (level from : ℕ) → FoundNowhere ofNode tree level from → false ≡ truth image m (forestFrom rule tree level from)
   unfolding truth truths

@@ -40,7 +40,7 @@ module _ (rule tree : List ℕ) (level at : ℕ) where
   module _ (h : at + ROW ≤ length tree) where
     by-place : (p : Place) → placeOf level (kindAt tree at) (levelAt tree at) ≡ p
         → forestFrom rule tree level at
-          ≡ grown p (kindAt tree at) (textAt rule tree at) (forestFrom rule tree (level + 1) (at + ROW)) (forestFrom rule tree level (at + ROW))
+        ≡ grown p (kindAt tree at) (textAt rule tree at) (forestFrom rule tree (level + 1) (at + ROW)) (forestFrom rule tree level (at + ROW))
     unfolding forestFrom forest
     by-place p e =
         ap (forest rule level) (drop-row tree at h)

@@ -47,7 +47,12 @@ pub(crate) fn eval_atom(rule: &[u8], image: &[u8], tree: &[u32], member: Member,
 }
 
 // The content of the string of a node, a part of the rule. The node's children are at a level, from a place on.
-pub(crate) fn find_string_literal<'a>(rule: &'a [u8], tree: &[u32], level: usize, from: usize) -> &'a [u8]
+pub(crate) fn find_string_literal<'a>(
+    rule: &'a [u8],
+    tree: &[u32],
+    level: usize,
+    from: usize,
+) -> &'a [u8]
     requires { ⌜ (from ≤ length (now tree)) × (level ≤ 2 ^ 32) ⌝ }
     ensures { λ r. ⌜ now r ≡ literalOf (forestFrom (now (rule .entry)) (now (tree .entry)) level from) ⌝ }
 {
@@ -110,7 +115,11 @@ fn connected(image: &[u8], member: Member) -> bool
 {
     match member {
         Member::Component(component) => instance::component_connected(image, component),
-        Member::Feature(component, feature) => instance::feature_connected(image, component, feature),
+        Member::Feature(component, feature) => instance::feature_connected(
+            image,
+            component,
+            feature,
+        ),
         Member::Diagnostic(_) => false,
     }
 }
@@ -149,7 +158,13 @@ fn compares(image: &[u8], member: Member, field: &[u8], value: &[u8]) -> bool
 {
     match member {
         Member::Component(component) => category_is(image, component, field, value),
-        Member::Feature(component, feature) => feature_compares(image, component, feature, field, value),
+        Member::Feature(component, feature) => feature_compares(
+            image,
+            component,
+            feature,
+            field,
+            value,
+        ),
         Member::Diagnostic(diagnostic) => {
             if !text::same(field, b"severity") {
                 return false;

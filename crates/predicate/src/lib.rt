@@ -51,42 +51,82 @@ fn eval_node(rule: &[u8], image: &[u8], tree: &[u32], member: Member, at: usize)
     }
     if kind == kind::UNARY_EXPR {
         let inner = eval_inner(rule, image, tree, member, level, at + rows::ROW);
-        return Truth { value: !inner.value, next: inner.next };
+        return Truth {
+            value: !inner.value,
+            next: inner.next,
+        };
     }
     if kind == kind::PAREN_EXPR {
         return eval_inner(rule, image, tree, member, level, at + rows::ROW);
     }
     let value = atom::eval_atom(rule, image, tree, member, at);
-    Truth { value: value, next: rows::skip_below(tree, level, at + rows::ROW) }
+    Truth {
+        value: value,
+        next: rows::skip_below(tree, level, at + rows::ROW),
+    }
 }
 
 // The first node below a level from a place on: its truth, or false where there is none.
-fn eval_inner(rule: &[u8], image: &[u8], tree: &[u32], member: Member, level: usize, from: usize) -> Truth
+fn eval_inner(
+    rule: &[u8],
+    image: &[u8],
+    tree: &[u32],
+    member: Member,
+    level: usize,
+    from: usize,
+) -> Truth
     requires { ⌜ (from ≤ length (now tree)) × (level < 2 ^ 32) ⌝ }
     ensures { λ r. ⌜ Inner (now (rule .entry)) (now (image .entry)) (now (tree .entry)) member level from r ⌝ }
 {
     let found = rows::find_child(tree, level + 1, from);
     let Found::At(at) = found else {
-        return Truth { value: false, next: rows::skip_below(tree, level, from) };
+        return Truth {
+            value: false,
+            next: rows::skip_below(tree, level, from),
+        };
     };
     let inner = eval_node(rule, image, tree, member, at);
-    Truth { value: inner.value, next: rows::skip_below(tree, level, inner.next) }
+    Truth {
+        value: inner.value,
+        next: rows::skip_below(tree, level, inner.next),
+    }
 }
 
 // The operands below a level from a place on, joined from left to right.
-fn eval_operands(rule: &[u8], image: &[u8], tree: &[u32], member: Member, level: usize, from: usize) -> Truth
+fn eval_operands(
+    rule: &[u8],
+    image: &[u8],
+    tree: &[u32],
+    member: Member,
+    level: usize,
+    from: usize,
+) -> Truth
     requires { ⌜ (from ≤ length (now tree)) × (level < 2 ^ 32) ⌝ }
     ensures { λ r. ⌜ Joined (now (rule .entry)) (now (image .entry)) (now (tree .entry)) member level from r ⌝ }
 {
-    let mut operands = Operands { at: from, or: false, before: true };
+    let mut operands = Operands {
+        at: from,
+        or: false,
+        before: true,
+    };
     while rows::is_below(tree, level, operands.at) {
         operands = eval_operand(rule, image, tree, member, level, operands);
     }
-    Truth { value: operands.before, next: operands.at }
+    Truth {
+        value: operands.before,
+        next: operands.at,
+    }
 }
 
 // One row more: an operator, or an operand, which is passed over where it cannot change the truth so far.
-fn eval_operand(rule: &[u8], image: &[u8], tree: &[u32], member: Member, level: usize, operands: Operands) -> Operands
+fn eval_operand(
+    rule: &[u8],
+    image: &[u8],
+    tree: &[u32],
+    member: Member,
+    level: usize,
+    operands: Operands,
+) -> Operands
     requires { ⌜ Operand (now tree) level operands × (level < 2 ^ 32) ⌝ }
     ensures { λ r. ⌜ Joins (now (rule .entry)) (now (image .entry)) (now (tree .entry)) member level operands r ⌝ }
 {
@@ -94,17 +134,33 @@ fn eval_operand(rule: &[u8], image: &[u8], tree: &[u32], member: Member, level: 
     let or = operands.or;
     let before = operands.before;
     if level + 1 < rows::level_at(tree, at) {
-        return Operands { at: at + rows::ROW, or: or, before: before };
+        return Operands {
+            at: at + rows::ROW,
+            or: or,
+            before: before,
+        };
     }
     let kind = tree[at];
     if kind < kind::ROOT {
-        return Operands { at: at + rows::ROW, or: or_after(kind, or), before: before };
+        return Operands {
+            at: at + rows::ROW,
+            or: or_after(kind, or),
+            before: before,
+        };
     }
     if before == or {
-        return Operands { at: rows::skip_below(tree, level + 1, at + rows::ROW), or: or, before: before };
+        return Operands {
+            at: rows::skip_below(tree, level + 1, at + rows::ROW),
+            or: or,
+            before: before,
+        };
     }
     let operand = eval_node(rule, image, tree, member, at);
-    Operands { at: operand.next, or: or, before: operand.value }
+    Operands {
+        at: operand.next,
+        or: or,
+        before: operand.value,
+    }
 }
 
 // Whether the operator is `or` after a token of a kind.
