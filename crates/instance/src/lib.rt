@@ -89,7 +89,13 @@ pub fn has_property(image: &[u8], component: u32, set: &[u8], name: &[u8]) -> bo
 fn is_property(image: &[u8], component: u32, set: &[u8], name: &[u8], property: u32) -> bool
     ensures { λ r. ⌜ r ≡ isProperty (now (image .entry)) component (now (set .entry)) (now (name .entry)) property ⌝ }
 {
-    if image::field(image, Section::Properties, property, image::PROPERTY_COMPONENT) != component {
+    let owner = image::field(
+        image,
+        Section::Properties,
+        property,
+        image::PROPERTY_COMPONENT,
+    );
+    if owner != component {
         return false;
     }
     let set_number = image::field(image, Section::Properties, property, image::PROPERTY_SET);
@@ -127,7 +133,12 @@ pub fn features_end(image: &[u8], component: u32) -> u32
     ensures { λ r. ⌜ r ≡ featuresEnd (now (image .entry)) component ⌝ }
 {
     let first = image::field(image, Section::Components, component, image::FIRST_FEATURE) as usize;
-    let features = image::field(image, Section::Components, component, image::FEATURE_COUNT) as usize;
+    let features = image::field(
+        image,
+        Section::Components,
+        component,
+        image::FEATURE_COUNT,
+    ) as usize;
     let count = image::record_count(image, Section::Features);
     if first + features < count as usize {
         return (first + features) as u32;

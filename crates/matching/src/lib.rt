@@ -4,7 +4,6 @@ pub mod search;
 use syntax::text;
 ghost use mathlib.Core.Path.{_≡_};
 ghost use mathlib.Core.List.{[], _∷_};
-ghost use Rattle.syntax.specs.Text.{same};
 ghost use Rattle.matching.specs.Words.{fold, folded, oneOf, categoryMatches, featureKindMatches, directionMatches, severityMatches};
 
 // Whether a category, by its number on the board, is the one that a word typed in a rule means.

@@ -2,7 +2,7 @@
 ghost use mathlib.Core.Path.{_≡_};
 ghost use Prim.Native.Nat.{_≤_};
 ghost use lib.ListN.{length, drop};
-ghost use Rattle.matching.specs.Search.{startsWith, find, contains, propertySetOf, propertyNameOf};
+ghost use Rattle.matching.specs.Search.{startsWith, find, contains};
 
 // Where a part stands in a text: its first place, or nowhere.
 pub enum Found {

@@ -1,0 +1,142 @@
+-- What the numbers and texts read from an image say of its parts, and how far a loop has come in search of a record that passes a
+-- test: what is left decides as the whole does. Assumes nothing.
+use mathlib.Core.Path.{_≡_, sym, ap, _∙_}
+use mathlib.Core.Bool.{Bool, true, false, _||_, or-true}
+use mathlib.Core.List.{List}
+use Prim.Native.Nat.{ℕ, suc, _+_, _-_, _≤_, _<_}
+use native.Mathlib.Nat.{sub-zero}
+use native.Mathlib.Numerals.{add-one}
+use native.Mathlib.Omega.{arith}
+use borrow.Author.Tests.{eq-eqb, ne-eqb}
+use lib.Dec.{eqb}
+use Rattle.syntax.specs.Text.{same}
+use Rattle.board.specs.Image.{text, parent, firstFeature, featuresOf, wired, featureCount, featureName, connectionCount, owner, source, target, propertyCount, propertyComponent, propertySet, propertyName}
+use Rattle.instance.specs.Instance.{some, componentConnected, endIs, joins, featureConnected, isProperty, hasProperty, featuresEnd, featureIs, hasFeature}
+
+-- records are passed over up to n and none passes: whether some does is for those from n to `end` to say
+pub record Searching (passes : ℕ → Bool) (end n : ℕ) (whole : Bool) : Type 0 where
+  pub rest : some passes n (end - n) ≡ whole
+
+module _ {passes : ℕ → Bool} {end n : ℕ} {whole : Bool} (s : Searching passes end n whole) where
+  -- one more is left than after the next
+  one-more : n < end → end - n ≡ suc (end - (n + 1))
+  one-more h = omega arith
+
+  pub searching-hit : n < end → passes n ≡ true → true ≡ whole
+  unfolding some
+  searching-hit h e = sym (rw (one-more h, e)) ∙ s .rest
+
+  pub searching-miss : n < end → passes n ≡ false → Searching passes end (n + 1) whole
+  unfolding some
+  searching-miss h e = record { rest = sym miss ∙ s .rest }
+    where
+      miss : some passes n (end - n) ≡ some passes (n + 1) (end - (n + 1))
+      miss = rw (one-more h, e, add-one n)
+
+  pub searching-done : end ≤ n → false ≡ whole
+  unfolding some
+  searching-done h = let none : end - n ≡ 0 = omega arith in sym (rw none) ∙ s .rest
+
+-- the text of a string whose number was read, compared with a name
+pub text-same : {r : Bool} {t : List ℕ} {n m : ℕ} (image name : List ℕ) → n ≡ m → t ≡ text image n → r ≡ same t name → r ≡ same (text image m) name
+text-same image name d e f = f ∙ ap (λ (t : List ℕ). same t name) (e ∙ ap (text image) d)
+
+-- a component that is wired, one that is not and has no parent, and one that has
+module _ (image : List ℕ) (component : ℕ) {w : ℕ} (e : w ≡ wired image component) where
+  pub connected-self : w ≡ 1 → true ≡ componentConnected image component
+  unfolding componentConnected
+  connected-self h = rw (← e, eq-eqb w 1 h)
+
+  pub connected-orphan : {p : ℕ} → (w ≡ 1 → ⊥) → p ≡ parent image component → p ≡ 0 → false ≡ componentConnected image component
+  unfolding componentConnected
+  connected-orphan {p} h f z = rw (← e, ne-eqb w 1 h, ← f, eq-eqb p 0 z)
+
+  pub connected-parent : {p v : ℕ} → (w ≡ 1 → ⊥) → p ≡ parent image component → (p ≡ 0 → ⊥) → v ≡ wired image (p - 1)
+      → eqb v 1 ≡ componentConnected image component
+  unfolding componentConnected
+  connected-parent {p} {v} h f z g = rw (← e, ne-eqb w 1 h, ← f, ne-eqb p 0 z, ← g)
+
+-- no end, and one of which the text was read
+module _ (image : List ℕ) (end : ℕ) (name : List ℕ) where
+  pub end-none : end ≡ 0 → false ≡ endIs image end name
+  unfolding endIs
+  end-none h = rw (eq-eqb end 0 h)
+
+  pub end-named : {r : Bool} → (end ≡ 0 → ⊥) → r ≡ same (text image (end - 1)) name → r ≡ endIs image end name
+  unfolding endIs
+  end-named h e = rw (ne-eqb end 0 h) e
+
+-- a connection that is the component's or its parent's, and one that is another's
+pub record Owned (image : List ℕ) (component connection : ℕ) : Type 0 where
+  pub so : (eqb (owner image connection) component || eqb (owner image connection + 1) (parent image component)) ≡ true
+
+module _ {image : List ℕ} {component connection : ℕ} {o : ℕ} (e : o ≡ owner image connection) where
+  pub owned-self : o ≡ component → Owned image component connection
+  owned-self h = record { so = rw (← e, eq-eqb o component h) }
+
+  pub owned-parent : {p : ℕ} → p ≡ parent image component → o + 1 ≡ p → Owned image component connection
+  owned-parent {p} f h = record { so = rw (← e, ← f, eq-eqb (o + 1) p h) (or-true (eqb o component)) }
+
+module _ (image : List ℕ) (component : ℕ) (name : List ℕ) (connection : ℕ) where
+  pub joins-foreign : {o p : ℕ} → o ≡ owner image connection → (o ≡ component → ⊥) → p ≡ parent image component → (o + 1 ≡ p → ⊥)
+      → false ≡ joins image component name connection
+  unfolding joins
+  joins-foreign {o} {p} e h f k = rw (← e, ne-eqb o component h, ← f, ne-eqb (o + 1) p k)
+
+  pub joins-source : {s : ℕ} {r : Bool} → Owned image component connection → s ≡ source image connection → r ≡ endIs image s name → r ≡ true
+      → true ≡ joins image component name connection
+  unfolding joins
+  joins-source {s} o e f h = rw (o .so, ← e, sym f ∙ h)
+
+  pub joins-target : {s t : ℕ} {r q : Bool} → Owned image component connection → s ≡ source image connection → r ≡ endIs image s name → r ≡ false → t ≡ target image connection
+      → q ≡ endIs image t name → q ≡ joins image component name connection
+  unfolding joins
+  joins-target {s} {t} o e f h g k = rw (o .so, ← e, sym f ∙ h, ← g) k
+
+-- the connections are searched where the component is not connected
+module _ (image : List ℕ) (component feature : ℕ) where
+  pub feature-whole : {r : Bool} → r ≡ componentConnected image component → r ≡ true → true ≡ featureConnected image component feature
+  unfolding featureConnected
+  feature-whole e h = rw (sym e ∙ h)
+
+  pub connections-start : {r : Bool} {f count : ℕ} {t : List ℕ} → r ≡ componentConnected image component → r ≡ false
+      → f ≡ featureName image feature → t ≡ text image f → count ≡ connectionCount image
+      → Searching (joins image component t) count 0 (featureConnected image component feature)
+  unfolding featureConnected
+  connections-start {r} {f} {count} {t} e h d g k = record { rest = rw (sym e ∙ h, ← d, ← g, ← k, sub-zero count) }
+
+-- a property of another component, one of another set, and one of both
+module _ (image : List ℕ) (component : ℕ) (set name : List ℕ) (property : ℕ) {x : ℕ} (e : x ≡ propertyComponent image property) where
+  pub property-elsewhere : (x ≡ component → ⊥) → false ≡ isProperty image component set name property
+  unfolding isProperty
+  property-elsewhere h = rw (← e, ne-eqb x component h)
+
+  pub property-unlike : x ≡ component → false ≡ same (text image (propertySet image property)) set → false ≡ isProperty image component set name property
+  unfolding isProperty
+  property-unlike h f = rw (← e, eq-eqb x component h, ← f)
+
+  pub property-like : {r : Bool} → x ≡ component → true ≡ same (text image (propertySet image property)) set
+      → r ≡ same (text image (propertyName image property)) name → r ≡ isProperty image component set name property
+  unfolding isProperty
+  property-like h f g = rw (← e, eq-eqb x component h, ← f) g
+
+pub properties-start : (image : List ℕ) (component : ℕ) (set name : List ℕ) {count : ℕ} → count ≡ propertyCount image
+    → Searching (isProperty image component set name) count 0 (hasProperty image component set name)
+unfolding hasProperty
+properties-start image component set name {count} e = record { rest = rw (← e, sub-zero count) }
+
+-- the features of a component end with them, or with all features
+module _ (image : List ℕ) (component : ℕ) {first features count : ℕ} (e : first ≡ firstFeature image component) (f : features ≡ featuresOf image component)
+    (g : count ≡ featureCount image) where
+  pub features-inside : first + features < count → first + features ≡ featuresEnd image component
+  unfolding featuresEnd
+  features-inside h = omega arith
+
+  pub features-outside : count ≤ first + features → count ≡ featuresEnd image component
+  unfolding featuresEnd
+  features-outside h = omega arith
+
+pub features-start : (image : List ℕ) (component : ℕ) (name : List ℕ) {end n : ℕ} → end ≡ featuresEnd image component → n ≡ firstFeature image component
+    → Searching (featureIs image name) end n (hasFeature image component name)
+unfolding hasFeature
+features-start image component name e f = record { rest = λ j. some (featureIs image name) (f j) (e j - f j) }

@@ -1,0 +1,96 @@
+-- Laws of a text searched for in another: whether the text from a place on begins with it, and the first place where it does. Assumes
+-- nothing.
+use mathlib.Core.Path.{_≡_, refl, sym, _∙_}
+use mathlib.Core.Bool.{true, false, and-false}
+use mathlib.Core.List.{List, [], _∷_}
+use Prim.Native.Nat.{ℕ, suc, _+_, _≤_, _<_}
+use native.Mathlib.Numerals.{add-one}
+use native.Mathlib.Omega.{arith}
+use native.Mathlib.Nat.{le-of-suc-le-suc}
+use borrow.Author.Tests.{eq-eqb, ne-eqb}
+use lib.Dec.{eqb}
+use lib.ListN.{length, drop, getD, drop-of-length-le}
+use Rattle.syntax.proofs.TextLaws.{from}
+use Rattle.matching.specs.declared.search.Found.{Found}
+use Rattle.matching.specs.Search.{startsWith, findFrom, find, contains}
+
+-- a text at least as long as a part begins with i bytes of it: what is left of both decides
+pub record Starting (part text : List ℕ) (i : ℕ) : Type 0 where
+  pub long : length part ≤ length text
+  pub rests : startsWith (drop i part) (drop i text) ≡ startsWith part text
+
+pub starting-start : {part text : List ℕ} → length part ≤ length text → Starting part text 0
+starting-start h = record { long = h; rests = refl }
+
+module _ {part text : List ℕ} {i : ℕ} (c : Starting part text i) where
+  pub starting-goes : i < length part → getD text i 0 ≡ getD part i 0 → Starting part text (i + 1)
+  unfolding startsWith
+  starting-goes h e =
+      let k : i < length text = omega (arith, c .long) in
+      record { long = c .long; rests = sym (rw (from part i h, from text i k, eq-eqb _ _ (sym e))) ∙ c .rests }
+
+  pub starting-stops : i < length part → (getD text i 0 ≡ getD part i 0 → ⊥) → false ≡ startsWith part text
+  unfolding startsWith
+  starting-stops h e =
+      let k : i < length text = omega (arith, c .long) in
+      sym (rw (from part i h, from text i k, ne-eqb _ _ (λ d. e (sym d)))) ∙ c .rests
+
+  pub starting-ends : length part ≤ i → true ≡ startsWith part text
+  unfolding startsWith
+  starting-ends h = sym (rw (drop-of-length-le part h)) ∙ c .rests
+
+pub starting-short : (part text : List ℕ) → length text < length part → startsWith part text ≡ false
+unfolding startsWith
+starting-short [] text h = absurd (omega arith)
+starting-short (x ∷ part) [] h = refl
+starting-short (x ∷ part) (y ∷ text) h = rw (starting-short part text (le-of-suc-le-suc h)) (and-false (eqb x y))
+
+pub starting-empty : (part text : List ℕ) → length part ≡ 0 → startsWith part text ≡ true
+unfolding startsWith
+starting-empty [] text e = refl
+starting-empty (x ∷ part) text e = absurd (omega arith)
+
+-- a part that a text begins with is found at its first place, and one that it does not begin with is searched for from the next
+found-here : (part : List ℕ) (n : ℕ) (text : List ℕ) → startsWith part text ≡ true → findFrom part n text ≡ Found.At n
+unfolding findFrom
+found-here part n [] e = rw (e, findFrom)
+found-here part n (y ∷ text) e = rw (e, findFrom)
+
+found-later : (part : List ℕ) (n y : ℕ) (text : List ℕ) → startsWith part (y ∷ text) ≡ false → findFrom part n (y ∷ text) ≡ findFrom part (suc n) text
+unfolding findFrom
+found-later part n y text e = rw (e, findFrom)
+
+found-never : (part : List ℕ) (n : ℕ) → startsWith part [] ≡ false → findFrom part n [] ≡ Found.Absent
+unfolding findFrom
+found-never part n e = rw (e, findFrom)
+
+-- a part stands at no place before `at`: it is where it is in the text from there on
+pub record Seeking (part text : List ℕ) (at : ℕ) : Type 0 where
+  pub rest : findFrom part at (drop at text) ≡ find part text
+
+pub seeking-start : {part text : List ℕ} → Seeking part text 0
+unfolding find
+seeking-start = record { rest = refl }
+
+module _ {part text : List ℕ} {at : ℕ} (c : Seeking part text at) where
+  pub seeking-found : startsWith part (drop at text) ≡ true → Found.At at ≡ find part text
+  seeking-found e = sym (found-here part at (drop at text) e) ∙ c .rest
+
+  pub seeking-on : at < length text → startsWith part (drop at text) ≡ false → Seeking part text (at + 1)
+  seeking-on h e = record { rest = sym on ∙ c .rest }
+    where
+      on : findFrom part at (drop at text) ≡ findFrom part (at + 1) (drop (at + 1) text)
+      on = rw (from text at h, add-one at) (found-later part at (getD text at 0) (drop (suc at) text) (rw (from text at h, add-one at) at e))
+
+  pub seeking-absent : length text ≤ at → 0 < length part → Found.Absent ≡ find part text
+  seeking-absent h k = sym (rw (drop-of-length-le text h) (found-never part at (starting-short part [] k))) ∙ c .rest
+
+-- a part that has a place, and one that has none
+module _ {found : Found} (part text : List ℕ) (e : found ≡ find part text) where
+  pub contains-at : {n : ℕ} → found ≡ Found.At n → true ≡ contains part text
+  unfolding contains
+  contains-at d = rw (← e, d)
+
+  pub contains-not : found ≡ Found.Absent → false ≡ contains part text
+  unfolding contains
+  contains-not d = rw (← e, d)
