@@ -10,6 +10,7 @@ use lib.ListN.{length, take, drop, length-drop}
 use lib.Seq.{take-take, drop-drop, take-add, drop-at, length-take-le}
 use borrow.Author.Tests.{eq-eqb, eqb-true, leb-true, ltb-true, ltb-false, le-leb}
 use Rattle.syntax.specs.Utf8.{utf8}
+use Rattle.syntax.proofs.BoolLaws.{both}
 use Rattle.syntax.specs.declared.refusal.Check.{Check}
 use Rattle.syntax.specs.declared.refusal.Refusal.{Refusal}
 use Rattle.syntax.specs.declared.refusal.Refusal.the-variants.{ImageBadSections, ImageBadStrings, ImageBadRecords, CollectionTooShort}
@@ -19,11 +20,7 @@ use Rattle.board.specs.Image.{NUMBER-SIZE, littleEndian, word, SECTIONS,
 use Rattle.board.specs.Check.{laid, each, PAIRS-SIZE, MAX-IMAGE, CATEGORIES, WIRED-MARKS, FEATURE-KINDS, DIRECTIONS, SEVERITIES, COLLECTION-ROW, wholeRecords, allWholeRecords, sectionsLaid, sectionsFit, stringsLaid, stringsUtf8, stringsFit, componentFits, featuresLaid, componentsFit, featureFits, featuresFit, connectionFits, connectionsFit, propertyFits, propertiesFit, diagnosticFits, diagnosticsFit, recordsFit, collectionShort, checkImage}
 use Rattle.board.specs.WellFormed.{total, EndToEnd, WellFormed, Room}
 
--- both of two tests, and all of three
-both : (p q : Bool) → (p && q) ≡ true → (p ≡ true) × (q ≡ true)
-both true q h = (refl, h)
-both false q h = absurd (false≢true h)
-
+-- all of three tests
 three : (p q r : Bool) → (p && (q && r)) ≡ true → (p ≡ true) × (q ≡ true) × (r ≡ true)
 three p q r h =
     let a = both p (q && r) h in

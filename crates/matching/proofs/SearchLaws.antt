@@ -1,7 +1,7 @@
 -- Laws of a text searched for in another: whether the text from a place on begins with it, and the first place where it does. Assumes
 -- nothing.
 use mathlib.Core.Path.{_≡_, refl, sym, _∙_}
-use mathlib.Core.Bool.{true, false, and-false}
+use mathlib.Core.Bool.{Bool, true, false, and-false, false≢true}
 use mathlib.Core.List.{List, [], _∷_}
 use Prim.Native.Nat.{ℕ, suc, _+_, _≤_, _<_}
 use native.Mathlib.Numerals.{add-one}
@@ -10,6 +10,7 @@ use native.Mathlib.Nat.{le-of-suc-le-suc}
 use borrow.Author.Tests.{eq-eqb, ne-eqb}
 use lib.Dec.{eqb}
 use lib.ListN.{length, drop, getD, drop-of-length-le}
+use Rattle.syntax.proofs.BoolLaws.{both}
 use Rattle.syntax.proofs.TextLaws.{from}
 use Rattle.matching.specs.declared.search.Found.{Found}
 use Rattle.matching.specs.Search.{startsWith, findFrom, find, contains}
@@ -94,3 +95,38 @@ module _ {found : Found} (part text : List ℕ) (e : found ≡ find part text) w
   pub contains-not : found ≡ Found.Absent → false ≡ contains part text
   unfolding contains
   contains-not d = rw (← e, d)
+
+-- a part that was found lies within the text
+starting-long : (part text : List ℕ) → startsWith part text ≡ true → length part ≤ length text
+unfolding startsWith
+starting-long [] text e = omega arith
+starting-long (x ∷ part) [] e = absurd (false≢true e)
+starting-long (x ∷ part) (y ∷ text) e = omega (arith, starting-long part text (both (eqb x y) (startsWith part text) e .1))
+
+found-from : (part : List ℕ) (n : ℕ) (text : List ℕ) (at : ℕ) → findFrom part n text ≡ Found.At at → at + length part ≤ n + length text
+unfolding findFrom
+found-from part n [] at h = go (startsWith part []) refl
+  where
+    go : (t : Bool) → startsWith part [] ≡ t → at + length part ≤ n + 0
+    go true e =
+        let g : findFrom part n [] ≡ Found.At n = rw (e, findFrom) in
+        let k : n ≡ at = cc in
+        omega (arith, starting-long part [] e)
+    go false e =
+        let g : findFrom part n [] ≡ Found.Absent = rw (e, findFrom) in
+        let z : _≡_ {A = ℕ} 0 1 = cc in
+        absurd (omega arith)
+found-from part n (y ∷ text) at h = go (startsWith part (y ∷ text)) refl (found-from part (suc n) text at)
+  where
+    go : (t : Bool) → startsWith part (y ∷ text) ≡ t → (findFrom part (suc n) text ≡ Found.At at → at + length part ≤ suc n + length text) → at + length part ≤ n + suc (length text)
+    go true e ih =
+        let g : findFrom part n (y ∷ text) ≡ Found.At n = rw (e, findFrom) in
+        let k : n ≡ at = cc in
+        omega (arith, starting-long part (y ∷ text) e)
+    go false e ih =
+        let g : findFrom part n (y ∷ text) ≡ findFrom part (suc n) text = rw (e, findFrom) in
+        omega (arith, ih (sym g ∙ h))
+
+pub found-within : (part text : List ℕ) {at : ℕ} → find part text ≡ Found.At at → at + length part ≤ length text
+unfolding find
+found-within part text {at} h = omega (arith, found-from part 0 text at h)

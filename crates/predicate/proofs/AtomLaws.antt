@@ -1,11 +1,10 @@
 -- The texts that atoms read: of a token, of a string, of a node's first token of a kind and of its literal; a text found in another; and
 -- the truth of a node by its kind. Assumes nothing.
 use mathlib.Core.Path.{_≡_, refl, sym, ap, _∙_, subst}
-use mathlib.Core.Bool.{Bool, true, false, cond, false≢true}
-use mathlib.Core.List.{List, [], _∷_}
-use Prim.Native.Nat.{ℕ, suc, _+_, _-_, _≤_, _<_}
+use mathlib.Core.Bool.{Bool, false, cond}
+use mathlib.Core.List.{List, []}
+use Prim.Native.Nat.{ℕ, _+_, _-_, _≤_, _<_}
 use native.Mathlib.Omega.{arith}
-use lib.Dec.{eqb}
 use lib.ListN.{length, take, drop, length-drop, drop-of-length-le}
 use lib.Seq.{take-all, take-nil}
 use borrow.Author.Tests.{le-leb, ne-eqb, eqb-true}
@@ -13,13 +12,12 @@ use Rattle.syntax.specs.Kind.{STRING-LIT, ROOT, BINARY-EXPR, UNARY-EXPR, COMPAR
 use Rattle.syntax.specs.Text.{ascii}
 use Rattle.parser.specs.Green.{nil, node}
 use Rattle.matching.specs.declared.search.Found.{Found}
-use Rattle.matching.specs.Search.{startsWith, findFrom, find, setBefore, nameAfter, propertySetOf, propertyNameOf}
+use Rattle.matching.specs.Search.{find, setBefore, nameAfter, propertySetOf, propertyNameOf}
 use Rattle.instance.specs.Instance.{hasProperty}
 use Rattle.predicate.specs.declared.atom.Member.{Member}
 use Rattle.predicate.specs.Truth.{content, firstText, literalOf, fieldOf, connected, hasPropertyOf, has, compares, messageContains, sortOf, settle, truths, truth}
 use Rattle.predicate.specs.Rows.{ROW, bytesBetween, kindAt, levelAt, textAt, forestFrom, nodeAt, ofKind}
 use Rattle.predicate.specs.Eval.{FoundAt, FoundNowhere, Finds}
-use Rattle.predicate.proofs.RowLaws.{both}
 use Rattle.predicate.proofs.ForestLaws.{forest-token, forest-node, found-level, found-kind, Ignores, ignored-none, ignored-found}
 
 -- the bytes between two places, as far as there are any
@@ -96,41 +94,6 @@ module _ (rule : List ℕ) {tree : List ℕ} {level from at : ℕ} (f : FoundAt 
 
   pub literal-text : {row : ℕ} → FoundAt (ofKind STRING-LIT) tree (level + 1) (at + ROW) row → content (textAt rule tree row) ≡ literalOf (forestFrom rule tree level from)
   literal-text s = ap content (text-found rule STRING-LIT (omega arith) s) ∙ sym literal-found
-
--- a part that was found lies within the text
-starting-long : (part text : List ℕ) → startsWith part text ≡ true → length part ≤ length text
-unfolding startsWith
-starting-long [] text e = omega arith
-starting-long (x ∷ part) [] e = absurd (false≢true e)
-starting-long (x ∷ part) (y ∷ text) e = omega (arith, starting-long part text (both (eqb x y) (startsWith part text) e .1))
-
-found-from : (part : List ℕ) (n : ℕ) (text : List ℕ) (at : ℕ) → findFrom part n text ≡ Found.At at → at + length part ≤ n + length text
-unfolding findFrom
-found-from part n [] at h = go (startsWith part []) refl
-  where
-    go : (t : Bool) → startsWith part [] ≡ t → at + length part ≤ n + 0
-    go true e =
-        let g : findFrom part n [] ≡ Found.At n = rw (e, findFrom) in
-        let k : n ≡ at = cc in
-        omega (arith, starting-long part [] e)
-    go false e =
-        let g : findFrom part n [] ≡ Found.Absent = rw (e, findFrom) in
-        let z : _≡_ {A = ℕ} 0 1 = cc in
-        absurd (omega arith)
-found-from part n (y ∷ text) at h = go (startsWith part (y ∷ text)) refl (found-from part (suc n) text at)
-  where
-    go : (t : Bool) → startsWith part (y ∷ text) ≡ t → (findFrom part (suc n) text ≡ Found.At at → at + length part ≤ suc n + length text) → at + length part ≤ n + suc (length text)
-    go true e ih =
-        let g : findFrom part n (y ∷ text) ≡ Found.At n = rw (e, findFrom) in
-        let k : n ≡ at = cc in
-        omega (arith, starting-long part (y ∷ text) e)
-    go false e ih =
-        let g : findFrom part n (y ∷ text) ≡ findFrom part (suc n) text = rw (e, findFrom) in
-        omega (arith, ih (sym g ∙ h))
-
-pub found-within : (part text : List ℕ) {at : ℕ} → find part text ≡ Found.At at → at + length part ≤ length text
-unfolding find
-found-within part text {at} h = omega (arith, found-from part 0 text at h)
 
 -- a component's property by a text: parted where `::` was found, whole where it was not
 module _ (image : List ℕ) (component : ℕ) (value : List ℕ) where

@@ -9,10 +9,11 @@ use lib.Dec.{eqb, ltb}
 use lib.ListN.{length, getD, drop}
 use borrow.Author.Tests.{lt-ltb, le-ltb, eqb-true, eqb-false, ltb-true, ltb-false}
 use Rattle.syntax.specs.Kind.{ROOT}
+use Rattle.syntax.proofs.BoolLaws.{both}
 use Rattle.parser.specs.Green.{Forest, nil, leaf, node}
 use Rattle.predicate.specs.Rows.{ROW, Place, below, past, token, child, placeOf, grown, bytesBetween, forest, kindAt, levelAt, textAt, forestFrom, isRow, isBelow, rowsFrom, pastBelow}
 use Rattle.predicate.specs.Eval.{FoundAt, FoundNowhere, Skips}
-use Rattle.predicate.proofs.RowLaws.{both, row-there, row-missing, drop-row, few, short-forest}
+use Rattle.predicate.proofs.RowLaws.{row-there, row-missing, drop-row, few, short-forest}
 
 -- where a row stands to a forest
 pub place-below : (level k m : ℕ) → level < m → placeOf level k m ≡ below

@@ -1,6 +1,6 @@
 -- The rows of a tree table from a place on: found, passed over, and read back as a forest. Assumes nothing.
 use mathlib.Core.Path.{_≡_, refl, sym, ap, _∙_}
-use mathlib.Core.Bool.{Bool, true, false, _&&_, false≢true}
+use mathlib.Core.Bool.{Bool, true, false, _&&_}
 use mathlib.Core.List.{List, [], _∷_}
 use Prim.Native.Nat.{ℕ, suc, _+_, _-_, _≤_, _<_}
 use native.Mathlib.Omega.{arith}
@@ -9,13 +9,9 @@ use lib.ListN.{length, getD, drop, length-drop}
 use lib.Seq.{drop-cons}
 use borrow.Author.Tests.{lt-ltb, le-ltb, le-leb, lt-leb, eq-eqb, ne-eqb, leb-true, leb-false, ltb-true}
 use Rattle.parser.specs.Green.{nil}
+use Rattle.syntax.proofs.BoolLaws.{both}
 use Rattle.predicate.specs.Rows.{ROW, forest, kindAt, levelAt, isRow, isBelow, rowPasses, rowsFrom, pastBelow}
 use Rattle.predicate.specs.Eval.{FoundAt, FoundNowhere, Skips}
-
--- both of two tests
-pub both : (p q : Bool) → (p && q) ≡ true → (p ≡ true) × (q ≡ true)
-both true q h = (refl, h)
-both false q h = absurd (false≢true h)
 
 -- a whole row is there, or not
 pub row-there : (tree : List ℕ) (at : ℕ) → isRow tree at ≡ true → at + ROW ≤ length tree

@@ -1,6 +1,6 @@
 -- Laws of tests. Assumes nothing.
 use mathlib.Core.Path.{_≡_, refl, sym, subst}
-use mathlib.Core.Bool.{Bool, true, false, _&&_}
+use mathlib.Core.Bool.{Bool, true, false, _&&_, false≢true}
 use lib.Dec.{T}
 
 -- by cases on a test
@@ -22,3 +22,7 @@ and-left false q h = h
 pub and-right : (p q : Bool) → T (p && q) → T q
 and-right true q h = h
 and-right false q h = absurd h
+
+pub both : (p q : Bool) → (p && q) ≡ true → (p ≡ true) × (q ≡ true)
+both true q h = (refl, h)
+both false q h = absurd (false≢true h)

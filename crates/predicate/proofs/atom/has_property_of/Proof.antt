@@ -2,7 +2,8 @@
 use mathlib.Core.Path.{sym, _∙_}
 use native.Mathlib.Omega.{arith}
 use lib.Seq.{length-take-le}
-use Rattle.predicate.proofs.AtomLaws.{found-within, property-whole, property-parted}
+use Rattle.matching.proofs.SearchLaws.{found-within}
+use Rattle.predicate.proofs.AtomLaws.{property-whole, property-parted}
 use borrow.Author.Needs.{needs}
 use Rattle.predicate.proofs.atom.has_property_of.Statement.{statement}
 use Rattle.predicate.proofs.atom.has_property_of.Tie as tie
