@@ -1,4 +1,4 @@
-//! Fixed cases, with the Rust's answers, for the programs that replay them without Rust.
+//! Fixed cases, with the Rust's answers, for the program that replays them without Rust.
 
 use std::fs;
 use std::io::{self, Write};
@@ -82,13 +82,20 @@ fn write_rows(reading: &Reading, out: &mut Vec<u8>) -> io::Result<()> {
     writeln!(out, "errors {}", reading.errors.len())
 }
 
-/// What a replaying program takes: the longest rule in bytes, and the longest tables in numbers.
+/// The longest rule in bytes, and the longest tables in numbers.
 pub struct Bounds {
     pub rule: usize,
     pub tokens: usize,
     /// Of the tree table, and of the error table.
     pub tree: usize,
 }
+
+/// What the program that replays the cases takes.
+pub const BOUNDS: Bounds = Bounds {
+    rule: 520,
+    tokens: 1520,
+    tree: 16_672,
+};
 
 impl Bounds {
     /// A rule with tables of just enough rows, or as long as they may be.

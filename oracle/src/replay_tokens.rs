@@ -4,14 +4,7 @@ use std::collections::HashSet;
 
 use crate::case::Case;
 use crate::generate::Kind;
-use crate::replay::{Bounds, around_enough, drawn, without_tables};
-
-/// What the program that replays tokens takes.
-const BOUNDS: Bounds = Bounds {
-    rule: 520,
-    tokens: 1520,
-    tree: 16_800,
-};
+use crate::replay::{BOUNDS, around_enough, drawn, without_tables};
 
 /// How many cases are drawn of each kind, and how long their rules may be.
 const DRAWN: [(Kind, usize, usize); 6] = [

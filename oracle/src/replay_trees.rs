@@ -5,13 +5,12 @@ use std::collections::HashSet;
 use crate::assertion::lexer::lex;
 use crate::case::Case;
 use crate::generate::Kind;
-use crate::replay::{Bounds, around_enough, drawn, without_tables};
+use crate::replay::{self, Bounds, around_enough, drawn, without_tables};
 
-/// What the program that replays readings takes.
+/// Here the tree and error tables of the longest rules are too short as well.
 const BOUNDS: Bounds = Bounds {
-    rule: 520,
-    tokens: 1520,
     tree: 16_100,
+    ..replay::BOUNDS
 };
 
 /// How many cases are drawn of each kind, and how long their rules may be.
@@ -586,7 +585,6 @@ fn table_limits(cases: &mut Vec<Case>) {
 mod tests {
     use super::*;
     use crate::reading::{Reading, read};
-    use crate::replay;
 
     fn readings() -> Vec<Reading> {
         let cases = cases();

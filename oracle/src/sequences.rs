@@ -11,7 +11,6 @@ const LONGEST_OVER_TOKENS: u32 = 5;
 /// The words that the parser knows, one of those that it treats alike, and every other kind of
 /// token.
 const TOKENS: [&str; 26] = [
-    "components",
     "analysis",
     "where",
     "count",
@@ -21,6 +20,7 @@ const TOKENS: [&str; 26] = [
     "message",
     "contains",
     "category",
+    "components",
     "'x'",
     ".",
     "(",
@@ -38,6 +38,9 @@ const TOKENS: [&str; 26] = [
     "not",
     "%",
 ];
+
+/// Where the last of the words stands in `TOKENS`: from there on they are one token of each kind.
+const LAST_WORD: usize = 9;
 
 /// What may stand in a predicate, kinds that the parser treats alike once.
 const IN_PREDICATE: [&str; 14] = [
@@ -75,27 +78,6 @@ const IN_RULE: [&str; 14] = [
     "not",
 ];
 
-/// One token of each kind.
-const KINDS: [&str; 17] = [
-    "components",
-    "'x'",
-    ".",
-    "(",
-    ")",
-    "==",
-    "!=",
-    ">=",
-    ">",
-    "<=",
-    "<",
-    "3",
-    ",",
-    "and",
-    "or",
-    "not",
-    "%",
-];
-
 /// All sequences of some lengths over a list of tokens.
 pub struct Family {
     pub name: &'static str,
@@ -112,6 +94,7 @@ pub fn families(longest: u32) -> impl Iterator<Item = Family> {
     let all = 0..=longest;
     let short = 0..=longest.min(LONGEST_OVER_TOKENS);
     let long = LONGEST_OVER_TOKENS + 1..=longest;
+    let kinds = &TOKENS[LAST_WORD..];
     let families = [
         Family::apart("tokens apart", "", &TOKENS, &short),
         Family::joined("tokens joined", "", &TOKENS, &short),
@@ -129,8 +112,8 @@ pub fn families(longest: u32) -> impl Iterator<Item = Family> {
         ),
         Family::apart("rules apart", "", &IN_RULE, &long),
         Family::joined("rules joined", "", &IN_RULE, &long),
-        Family::apart("kinds apart", "", &KINDS, &long),
-        Family::joined("kinds joined", "", &KINDS, &long),
+        Family::apart("kinds apart", "", kinds, &long),
+        Family::joined("kinds joined", "", kinds, &long),
     ];
     families
         .into_iter()
@@ -201,7 +184,8 @@ mod tests {
     use crate::assertion::lexer::lex;
     use std::collections::HashSet;
 
-    /// Each entry of a list is one token, none stands twice, and every kind but blanks is there.
+    /// Each entry of a list is one token, none stands twice, and every kind but blanks is there;
+    /// from the last word on, each kind once.
     #[test]
     fn every_kind_of_token_is_listed() {
         let kind = |token: &&str| match &lex(token)[..] {
@@ -212,7 +196,8 @@ mod tests {
             assert!(list.iter().all(|token| kind(token) > 0));
             assert_eq!(list.iter().collect::<HashSet<_>>().len(), list.len());
         }
-        let kinds: HashSet<u32> = TOKENS.iter().map(kind).collect();
-        assert_eq!(kinds, (1..=17).collect());
+        let mut kinds: Vec<u32> = TOKENS[LAST_WORD..].iter().map(kind).collect();
+        kinds.sort();
+        assert_eq!(kinds, (1..=17).collect::<Vec<_>>());
     }
 }

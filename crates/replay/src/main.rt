@@ -2,7 +2,6 @@
 // `stdout` the answers of the Rust, both written by the oracle. A case is `TOKENS TREE ERRORS LENGTH:` and the rule's bytes and
 // a line feed: the lengths of the three tables in numbers, and of the rule in bytes.
 use libc::STDOUT_FILENO;
-use message::Message;
 use parser::Reading;
 use syntax::refusal;
 ghost use mathlib.Core.Path.{_≡_};
@@ -61,7 +60,7 @@ fn replay_case(input: &[u8], at: usize, case: usize) -> usize
     if ROWS < found {
         return 0;
     }
-    print_number(b"case ", case as u64);
+    print::number(b"case ", case as u64);
     let end = first + bytes;
     run_case(&input[first..end], n, rows, found);
     end + 1
@@ -141,15 +140,15 @@ fn print_reading(rule: &[u8], tokens: &mut [u32], tree: &mut [u32], errors: &mut
             errors: c,
         } => {
             print_tokens(tokens, a);
-            print_number(b"tokens ", a as u64);
-            print_tree(tree, b);
-            print_number(b"tree ", b as u64);
+            print::number(b"tokens ", a as u64);
+            print::rows(tree, b);
+            print::number(b"tree ", b as u64);
             print_errors(rule, errors, c);
-            print_number(b"errors ", c as u64);
+            print::number(b"errors ", c as u64);
             print_kept(tokens, a, tree, b, errors, c);
         }
         Reading::Refused(r) => {
-            print_number(b"refused ", refusal::number(r) as u64);
+            print::number(b"refused ", refusal::number(r) as u64);
             print_kept(tokens, 0, tree, 0, errors, 0);
         }
     }
@@ -190,22 +189,7 @@ fn print_tokens(table: &[u32], n: usize) {
             return;
         }
         let at = i * 3;
-        print_three(table[at], table[at + 1], table[at + 2]);
-        io::write_all(STDOUT_FILENO, b"\n");
-        i += 1;
-    }
-}
-
-// The same of a tree table.
-fn print_tree(table: &[u32], n: usize) {
-    let whole = table.len() / 4;
-    let mut i = 0;
-    while i < whole {
-        if i == n {
-            return;
-        }
-        let at = i * 4;
-        print_four(table[at], table[at + 1], table[at + 2], table[at + 3]);
+        print::row_of_three(table[at], table[at + 1], table[at + 2]);
         i += 1;
     }
 }
@@ -225,44 +209,8 @@ fn print_errors(rule: &[u8], table: &[u32], n: usize) {
 }
 
 fn print_error(rule: &[u8], form: u32, expected: u32, first: u32, end: u32) {
-    print_four(form, expected, first, end);
-    let mut out = io::buffer();
-    let written = message::write_message(rule, form, expected, first, end, &mut out);
-    match written {
-        Message::Written(n) => print_front(&out, n),
-        Message::NoRoom => print_front(b"no room", 7),
-    }
-    io::write_all(STDOUT_FILENO, b"\n");
-}
-
-// Prints the first n bytes, or as many as there are.
-fn print_front(bytes: &[u8], n: usize) {
-    if n <= bytes.len() {
-        io::write_all(STDOUT_FILENO, &bytes[..n]);
-        return;
-    }
-    io::write_all(STDOUT_FILENO, bytes);
-}
-
-fn print_four(a: u32, b: u32, c: u32, d: u32) {
-    print_three(a, b, c);
-    io::write_all(STDOUT_FILENO, b" ");
-    io::print_decimal(STDOUT_FILENO, d as u64);
-    io::write_all(STDOUT_FILENO, b"\n");
-}
-
-fn print_three(a: u32, b: u32, c: u32) {
-    io::print_decimal(STDOUT_FILENO, a as u64);
-    io::write_all(STDOUT_FILENO, b" ");
-    io::print_decimal(STDOUT_FILENO, b as u64);
-    io::write_all(STDOUT_FILENO, b" ");
-    io::print_decimal(STDOUT_FILENO, c as u64);
-}
-
-fn print_number(label: &[u8], n: u64) {
-    io::write_all(STDOUT_FILENO, label);
-    io::print_decimal(STDOUT_FILENO, n);
-    io::write_all(STDOUT_FILENO, b"\n");
+    print::row(form, expected, first, end);
+    print::error(rule, form, expected, first, end);
 }
 
 // Whether every number past the first n rows is as it was: of a token table, and of a tree or error table.

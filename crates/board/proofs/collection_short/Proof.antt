@@ -1,6 +1,8 @@
 -- `collection_short` gives `collectionShort`. Assumes nothing.
+use Prim.Native.Nat.{_+_, _/_}
 use borrow.Author.Tests.{lt-ltb, le-ltb}
-use Rattle.board.specs.Check.{collectionShort}
+use native.Mathlib.Omega.{arith}
+use Rattle.board.specs.Check.{COLLECTION-ROW, collectionShort}
 use borrow.Author.Needs.{needs}
 use Rattle.board.proofs.collection_short.Statement.{statement}
 use Rattle.board.proofs.collection_short.Tie as tie
@@ -22,7 +24,7 @@ add-if1 c = search needs
 
 returns : tie.Need-returns
 unfolding collectionShort
-returns c = rw (← c .before .before .record-count .ensures, ← c .before .record-count2 .ensures, lt-ltb _ _ (c .if1 .taken))
+returns c = rw (← c .before .before .record-count .ensures, ← c .before .record-count2 .ensures, lt-ltb (c .before .before .before .before .args .collection / COLLECTION-ROW) (c .before .before .record-count .result + c .before .record-count2 .result) (omega arith))
 
 record-count-requires-3 : tie.Need-record-count-requires-3
 record-count-requires-3 c κs = search needs
@@ -32,7 +34,7 @@ cast-result c = search needs
 
 returns-2 : tie.Need-returns-2
 unfolding collectionShort
-returns-2 c = rw (← c .before .before .before .record-count .ensures, ← c .before .before .record-count2 .ensures, le-ltb _ _ (c .before .if1 .left), ← c .record-count3 .ensures)
+returns-2 c = rw (← c .before .before .before .record-count .ensures, ← c .before .before .record-count2 .ensures, le-ltb (c .before .before .before .before .before .args .collection / COLLECTION-ROW) (c .before .before .before .record-count .result + c .before .before .record-count2 .result) (omega arith), ← c .record-count3 .ensures)
 
 pub collection-short-spec : {M : Type 1} → statement M
 collection-short-spec =
