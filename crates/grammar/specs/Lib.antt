@@ -1,1 +1,2 @@
 pub mod Grammar
+pub mod Blanks
