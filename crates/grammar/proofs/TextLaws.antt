@@ -12,7 +12,7 @@ use Rattle.lexer.specs.Lex.{Token, lex, hasQuote, isClosed, closed}
 use Rattle.lexer.proofs.LexLaws.{Joint, joint-kind, lex-joint, lex-nil, lex-joint-first, closed-append}
 use Rattle.parser.specs.Look.{isBlank}
 use Rattle.grammar.specs.Grammar.{solid, word, quoted, dot, opening, closing, andWord, orWord, notWord, Field, category, kind, direction, severity, message, Part, OrGroup, AndGroup, Atom, Predicate, lastGroup, orThen, lastAtom, andThen, negated, bracketed, hasText, isConnected, messageHas, fieldIs, tokensOf, ReadWhole, Source, components, analysis, Call, where-call, all-call, any-call, none-call, count-call, features-call, diagnostics-call, sourceTokens, withPredicate, callTokens, callsTokens, ReadPipeline}
-use Rattle.grammar.specs.Texts.{Method, where-method, all-method, any-method, none-method, methodName, methodCall, methodText, callText, bracketText, andText, orText, notText}
+use Rattle.grammar.specs.Texts.{Method, where-method, all-method, any-method, none-method, methodName, methodCall, methodText, callText, bracketText, andText, orText, notText, andPredicate, orPredicate, notPredicate}
 use Rattle.grammar.proofs.BlankLaws.{solid-append}
 
 -- ---- every quote of the grammar's tokens is closed
@@ -161,21 +161,23 @@ call-tokens {c} {p} r m q z =
     ∙ rw (r .whole, q .whole, ← (more-tokens (r .source) (r .calls) (methodCall m (q .predicate)) (solid (lex z))), method-tokens m (q .predicate))
     (simp append-assoc)
 
-pub call-pipeline : {c p : List ℕ} → ReadPipeline c → (m : Method) → ReadWhole p → ReadPipeline (c ++ callText m p [])
-call-pipeline r m q =
-    record {
-      source = r .source;
-      calls = r .calls ++ (methodCall m (q .predicate) ∷ []);
-      whole = call-tokens r m q [] ∙ rw (lex-nil, solid-nil, append-nil);
-    }
+pub call-last : {c p : List ℕ} (r : ReadPipeline c) (m : Method) (q : ReadWhole p)
+    → solid (lex (c ++ callText m p [])) ≡ sourceTokens (r .source) ++ callsTokens (r .calls ++ (methodCall m (q .predicate) ∷ []))
+call-last r m q = call-tokens r m q [] ∙ rw (lex-nil, solid-nil, append-nil)
+
+abbrev pub call-pipeline : {c p : List ℕ} → ReadPipeline c → (m : Method) → ReadWhole p → ReadPipeline (c ++ callText m p [])
+call-pipeline r m q = record { source = r .source; calls = r .calls ++ (methodCall m (q .predicate) ∷ []); whole = call-last r m q }
 
 pub count-tokens : {c : List ℕ} (r : ReadPipeline c) (z : List ℕ)
     → solid (lex (c ++ (ascii ".count()" ++ z))) ≡ sourceTokens (r .source) ++ (callsTokens (r .calls ++ (count-call ∷ [])) ++ solid (lex z))
 count-tokens r z = count-then r z ∙ rw (r .whole) (more-tokens (r .source) (r .calls) count-call (solid (lex z)))
 
-pub count-pipeline : {c : List ℕ} → ReadPipeline c → ReadPipeline (c ++ ascii ".count()")
-count-pipeline r =
-    record { source = r .source; calls = r .calls ++ (count-call ∷ []); whole = count-tokens r [] ∙ rw (lex-nil, solid-nil, append-nil) }
+pub count-last : {c : List ℕ} (r : ReadPipeline c)
+    → solid (lex (c ++ ascii ".count()")) ≡ sourceTokens (r .source) ++ callsTokens (r .calls ++ (count-call ∷ []))
+count-last r = count-tokens r [] ∙ rw (lex-nil, solid-nil, append-nil)
+
+abbrev pub count-pipeline : {c : List ℕ} → ReadPipeline c → ReadPipeline (c ++ ascii ".count()")
+count-pipeline r = record { source = r .source; calls = r .calls ++ (count-call ∷ []); whole = count-last r }
 
 -- ---- predicates
 
@@ -196,23 +198,24 @@ unfolding lex solid
 shut-last r = rw (← (r .whole)) (shut-text r [])
 
 module _ {p q : List ℕ} (r : ReadWhole p) (s : ReadWhole q) where
-  pub and-whole : ReadWhole (andText p q)
+  pub and-tokens : solid (lex (andText p q)) ≡ tokensOf (andPredicate (r .predicate) (s .predicate))
   unfolding tokensOf
-  and-whole =
-      record {
-        predicate = lastGroup (andThen (bracketed (r .predicate)) (lastAtom (bracketed (s .predicate))));
-        whole = rw (bracket-text r (ascii " and (" ++ (q ++ ascii ")")), and-first (q ++ ascii ")"), shut-last s, r .whole) (simp append-assoc);
-      }
+  and-tokens = rw (bracket-text r (ascii " and (" ++ (q ++ ascii ")")), and-first (q ++ ascii ")"), shut-last s, r .whole) (simp append-assoc)
 
-  pub or-whole : ReadWhole (orText p q)
+  pub or-tokens : solid (lex (orText p q)) ≡ tokensOf (orPredicate (r .predicate) (s .predicate))
   unfolding tokensOf
-  or-whole =
-      record {
-        predicate = orThen (lastAtom (bracketed (r .predicate))) (lastGroup (lastAtom (bracketed (s .predicate))));
-        whole = rw (bracket-text r (ascii " or (" ++ (q ++ ascii ")")), or-first (q ++ ascii ")"), shut-last s, r .whole) (simp append-assoc);
-      }
+  or-tokens = rw (bracket-text r (ascii " or (" ++ (q ++ ascii ")")), or-first (q ++ ascii ")"), shut-last s, r .whole) (simp append-assoc)
 
-pub not-whole : {p : List ℕ} → ReadWhole p → ReadWhole (notText p)
-unfolding tokensOf
-not-whole {p} r =
-    record { predicate = lastGroup (lastAtom (negated (bracketed (r .predicate)))); whole = rw (not-first (p ++ ascii ")"), shut-last r) }
+  abbrev pub and-whole : ReadWhole (andText p q)
+  and-whole = record { predicate = andPredicate (r .predicate) (s .predicate); whole = and-tokens }
+
+  abbrev pub or-whole : ReadWhole (orText p q)
+  or-whole = record { predicate = orPredicate (r .predicate) (s .predicate); whole = or-tokens }
+
+module _ {p : List ℕ} (r : ReadWhole p) where
+  pub not-tokens : solid (lex (notText p)) ≡ tokensOf (notPredicate (r .predicate))
+  unfolding tokensOf
+  not-tokens = rw (not-first (p ++ ascii ")"), shut-last r)
+
+  abbrev pub not-whole : ReadWhole (notText p)
+  not-whole = record { predicate = notPredicate (r .predicate); whole = not-tokens }

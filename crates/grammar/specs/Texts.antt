@@ -3,7 +3,7 @@ use Prim.Native.Nat.{ℕ}
 use Prim.Native.String.{String}
 use mathlib.Core.List.{List, [], _∷_, _++_}
 use Rattle.syntax.specs.Text.{ascii}
-use Rattle.grammar.specs.Grammar.{Predicate, OrGroup, Call, where-call, all-call, any-call, none-call}
+use Rattle.grammar.specs.Grammar.{OrGroup, Predicate, lastGroup, orThen, lastAtom, andThen, negated, bracketed, Call, where-call, all-call, any-call, none-call}
 
 -- the methods that take a predicate
 pub data Method : Type 0 where
@@ -33,7 +33,7 @@ callText m p z = methodText m (p ++ (ascii ")" ++ z))
 abbrev pub bracketText : List ℕ → List ℕ → List ℕ
 bracketText p z = ascii "(" ++ (p ++ (ascii ")" ++ z))
 
--- `(P) and (Q)`, `(P) or (Q)`, `not (P)`
+-- `(P) and (Q)`, `(P) or (Q)`, `not (P)`, and what each is as a predicate
 abbrev pub andText : List ℕ → List ℕ → List ℕ
 andText p q = ascii "(" ++ (p ++ (ascii ") and (" ++ (q ++ ascii ")")))
 
@@ -42,3 +42,12 @@ orText p q = ascii "(" ++ (p ++ (ascii ") or (" ++ (q ++ ascii ")")))
 
 abbrev pub notText : List ℕ → List ℕ
 notText p = ascii "not (" ++ (p ++ ascii ")")
+
+abbrev pub andPredicate : Predicate OrGroup → Predicate OrGroup → Predicate OrGroup
+andPredicate p q = lastGroup (andThen (bracketed p) (lastAtom (bracketed q)))
+
+abbrev pub orPredicate : Predicate OrGroup → Predicate OrGroup → Predicate OrGroup
+orPredicate p q = orThen (lastAtom (bracketed p)) (lastGroup (lastAtom (bracketed q)))
+
+abbrev pub notPredicate : Predicate OrGroup → Predicate OrGroup
+notPredicate p = lastGroup (lastAtom (negated (bracketed p)))
