@@ -13,9 +13,9 @@ use Rattle.syntax.proofs.BoolLaws.{whether}
 use Rattle.lexer.specs.Lex.{Token}
 use Rattle.parser.specs.Green.{Forest, nil, leaf, node, _⊹_}
 use Rattle.parser.specs.Look.{isBlank, skipWs, headKind, headText, tailOf, atKind, atText, atIdent, peekKind, atMessageDot, atField, atPredicateMethod, atPlainMethod, endsInComparison, hasCountCompareAhead, opAhead, hasBinaryOpAtLevel}
-use Rattle.parser.specs.Parse.{Error, Parsed, Parser, done, next, fails, failsAhead, join, _▹_, inNode, choose, eatWs, bump, nextIs, expect, nextIsIdent, expectIdent, Mode, OrExpr, OrRest, AndExpr, AndRest, Atom, Calls, step, steps, parse, parsePipeline, parsePipelineOrCountCompare, remaining, leftOver, parseRoot}
+use Rattle.parser.specs.Parse.{Error, Parsed, Parser, done, next, fails, failsAhead, join, _▹_, inNode, choose, eatWs, bump, nextIs, expect, nextIsIdent, expectIdent, Mode, OrExpr, OrRest, AndExpr, AndRest, Atom, Calls, step, parse, parsePipeline, parsePipelineOrCountCompare, remaining, leftOver, parseRoot}
 use Rattle.parser.proofs.TreeLaws.{eat-rest}
-use Rattle.parser.proofs.StepLaws.{parse-steps}
+use Rattle.parser.proofs.StepLaws.{stepsFrom, parse-steps}
 use Rattle.grammar.specs.Grammar.{solid}
 use Rattle.grammar.specs.Blanks.{noBlanks, solidErrors, strip}
 
@@ -295,15 +295,15 @@ blind-step a AndRest = search blindly
 blind-step a Atom = search blindly depth 20
 blind-step a Calls = search blindly depth 20
 
-blind-steps : (n : ℕ) (m : Mode) → Blind (steps n m)
-unfolding steps
+blind-steps : (n : ℕ) (m : Mode) → Blind (stepsFrom (λ o. done) n m)
+unfolding stepsFrom
 blind-steps zero m = blind-done
 blind-steps (suc n) m = blind-step (blind-steps n) m
 
 pub parse-solid : (m : Mode) (ts : List Token) → parse m (solid ts) ≡ strip (parse m ts)
 parse-solid m ts =
     let n = suc (3 * length ts + 2) in
-    rw (parse-steps n m (solid ts) (omega (arith, solid-length ts)), parse-steps n m ts (omega arith)) (blind-steps n m .blind ts)
+    rw (parse-steps (λ o. done) n m (solid ts) (omega (arith, solid-length ts)), parse-steps (λ o. done) n m ts (omega arith)) (blind-steps n m .blind ts)
 
 blind-parse : (m : Mode) → Blind (parse m)
 blind-parse m = record { blind = parse-solid m }

@@ -64,7 +64,7 @@ closed-source components = refl
 closed-source (analysis name) = rw (quote-last name)
 
 -- blanks are closed
-closed-solid : (ts : List Token) → closed (solid ts) ≡ closed ts
+pub closed-solid : (ts : List Token) → closed (solid ts) ≡ closed ts
 unfolding closed solid
 closed-solid [] = refl
 closed-solid (t ∷ ts) =
@@ -142,7 +142,7 @@ unfolding callsTokens
 callsTokens-append [] ds = refl
 callsTokens-append (c ∷ cs) ds = rw (callsTokens-append cs ds) (sym (append-assoc (callTokens c) (callsTokens cs) (callsTokens ds)))
 
-method-tokens : (m : Method) (p : Predicate OrGroup) → callTokens (methodCall m p) ≡ withPredicate (methodName m) p
+pub method-tokens : (m : Method) (p : Predicate OrGroup) → callTokens (methodCall m p) ≡ withPredicate (methodName m) p
 method-tokens where-method p = refl
 method-tokens all-method p = refl
 method-tokens any-method p = refl
