@@ -1,21 +1,20 @@
 -- What the lexer's tokens are: the text of a symbol or a keyword by its kind, the kind by the text, and a string's content. Assumes nothing.
-use mathlib.Core.Path.{_≡_, refl, sym, ap, _∙_, subst}
+use mathlib.Core.Path.{_≡_, refl, sym, ap, subst}
 use mathlib.Core.List.{List, [], _∷_, _++_, cons≢nil}
-use mathlib.Core.Bool.{Bool, true, false, cond, not, _&&_, _||_, true≢false}
+use mathlib.Core.Bool.{Bool, true, false, cond, not, true≢false}
 use Prim.Native.Nat.{ℕ, zero, suc}
 use Prim.Native.Char.{Char}
-use native.Mathlib.Omega.{arith}
-use borrow.Author.Tests.{eqb-true, eq-eqb}
+use borrow.Author.Tests.{eqb-true}
 use lib.Dec.{T, eqb}
-use lib.ListN.{length, take, drop}
-use Rattle.syntax.specs.Kind.{WHITESPACE, IDENT, STRING-LIT, INT-LIT, DOT, L-PAREN, R-PAREN, EQ-EQ, NEQ, GE, GT, LE, LT, COMMA, AND-KW, OR-KW, NOT-KW, ERROR}
+use lib.ListN.{length, take}
+use Rattle.syntax.specs.Kind.{WHITESPACE, STRING-LIT, INT-LIT, DOT, L-PAREN, R-PAREN, EQ-EQ, NEQ, GE, GT, LE, LT, AND-KW, OR-KW, NOT-KW, ERROR}
 use Rattle.syntax.specs.Text.{ascii, is, same}
 use Rattle.syntax.proofs.BoolLaws.{whether, true→T, T→true, and-left, and-right}
 use Rattle.lexer.specs.Bytes.{isBlank as blankByte, isAsciiDigit, isIdentStart, isIdentContinue, shapeOf}
 use Rattle.lexer.specs.Lex.{Token, run, quoted as quotedLength, equals as equalsLength, more, wordKind, kindOf, past, token, lexFrom, lex, hasQuote, isClosed, closed}
 use Rattle.lexer.proofs.LexLaws.{quoted-true, quoted-false}
 use Rattle.parser.specs.Look.{isBlank}
-use Rattle.grammar.specs.Grammar.{solid, word, quoted}
+use Rattle.grammar.specs.Grammar.{solid, quoted}
 
 -- two texts with the same bytes
 pub same-eq : (x y : List ℕ) → same x y ≡ true → x ≡ y
@@ -26,10 +25,6 @@ same-eq (a ∷ x) (b ∷ y) e =
     let t = true→T e in
     let p : a ≡ b = eqb-true a b (T→true _ (and-left (eqb a b) (same x y) t)) in
     rw (p, same-eq x y (T→true _ (and-right (eqb a b) (same x y) t)))
-
-same-refl : (x : List ℕ) → same x x ≡ true
-same-refl [] = refl
-same-refl (a ∷ x) = rw (eq-eqb a a refl) (same-refl x)
 
 -- the kind of a token by its text
 unfoldable pub kindFrom : List ℕ → ℕ
@@ -65,7 +60,7 @@ pub record Real (t : Token) : Type 0 where
   pub right : rightText (t .kind) (t .text) ≡ true
   pub string : t .kind ≡ STRING-LIT → T (isClosed t) → Content t
 
--- ---- a token has the right text: by the shape that its first byte has
+-- ---- the first token of a text has the right text, by its first byte
 
 -- an operator alone, and with a `=` behind it
 operator-right : (k m b : ℕ) (s : List ℕ) → rightText k (b ∷ []) ≡ true → rightText m (b ∷ 0x3D ∷ []) ≡ true
@@ -81,50 +76,12 @@ word-right w =
     (λ x. whether (same w (ascii "or")) (λ y. rw (x, y))
     (λ y. whether (same w (ascii "not")) (λ z. rw (x, y, z)) (λ z. rw (x, y, z))))
 
--- the first token has it, by its first byte
+-- at each first byte
 abbrev RightToken : ℕ → List ℕ → Type 0
 RightToken b s = rightText (token b s .kind) (token b s .text) ≡ true
 
 at-byte : (s : List ℕ) (c b : ℕ) → RightToken c s → eqb b c ≡ true → RightToken b s
 at-byte s c b p e = subst (λ (x : ℕ). RightToken x s) (sym (eqb-true b c e)) p
-
--- at the bytes of the symbols
-module _ (s : List ℕ) where
-  quote-right : RightToken 0x27 s
-  unfolding token rightText
-  quote-right = refl
-
-  dot-right : RightToken 0x2E s
-  unfolding token rightText
-  dot-right = refl
-
-  open-right : RightToken 0x28 s
-  unfolding token rightText
-  open-right = refl
-
-  shut-right : RightToken 0x29 s
-  unfolding token rightText
-  shut-right = refl
-
-  comma-right : RightToken 0x2C s
-  unfolding token rightText
-  comma-right = refl
-
-  equal-right : RightToken 0x3D s
-  unfolding token rightText
-  equal-right = operator-right ERROR EQ-EQ 0x3D s refl refl
-
-  bang-right : RightToken 0x21 s
-  unfolding token rightText
-  bang-right = operator-right ERROR NEQ 0x21 s refl refl
-
-  greater-right : RightToken 0x3E s
-  unfolding token rightText
-  greater-right = operator-right GT GE 0x3E s refl refl
-
-  less-right : RightToken 0x3C s
-  unfolding token rightText
-  less-right = operator-right LT LE 0x3C s refl refl
 
 -- the kinds of which nothing is asked
 kinds-right : (w : List ℕ) → (rightText WHITESPACE w ≡ true) × (rightText INT-LIT w ≡ true) × (rightText ERROR w ≡ true)
@@ -134,18 +91,19 @@ kinds-right w = (refl, refl, refl)
 token-right : (b : ℕ) (s : List ℕ) → RightToken b s
 unfolding token
 token-right b s =
-    whether (blankByte b) (λ t0. rw t0 (kinds-right _ .0))
-    (λ t0. whether (is "'" b) (at-byte s 0x27 b (quote-right s))
-    (λ t1. whether (is "." b) (at-byte s 0x2E b (dot-right s))
-    (λ t2. whether (is "(" b) (at-byte s 0x28 b (open-right s))
-    (λ t3. whether (is ")" b) (at-byte s 0x29 b (shut-right s))
-    (λ t4. whether (is "," b) (at-byte s 0x2C b (comma-right s))
-    (λ t5. whether (is "=" b) (at-byte s 0x3D b (equal-right s))
-    (λ t6. whether (is "!" b) (at-byte s 0x21 b (bang-right s))
-    (λ t7. whether (is ">" b) (at-byte s 0x3E b (greater-right s))
-    (λ t8. whether (is "<" b) (at-byte s 0x3C b (less-right s))
-    (λ t9. whether (isAsciiDigit b) (λ t. rw (t0, t1, t2, t3, t4, t5, t6, t7, t8, t9, t) (kinds-right _ .1))
-    (λ t10. whether (isIdentStart b) (λ t. rw (t0, t1, t2, t3, t4, t5, t6, t7, t8, t9, t10, t) (word-right (b ∷ take (run isIdentContinue s) s))) (λ t. rw (t0, t1, t2, t3, t4, t5, t6, t7, t8, t9, t10, t) (kinds-right _ .2)))))))))))))
+    whether (blankByte b) (λ t₀. rw t₀ (kinds-right _ .0))
+    (λ t₀. whether (is "'" b) (at-byte s 0x27 b (unfold rightText in refl))
+    (λ t₁. whether (is "." b) (at-byte s 0x2E b (unfold rightText in refl))
+    (λ t₂. whether (is "(" b) (at-byte s 0x28 b (unfold rightText in refl))
+    (λ t₃. whether (is ")" b) (at-byte s 0x29 b (unfold rightText in refl))
+    (λ t₄. whether (is "," b) (at-byte s 0x2C b (unfold rightText in refl))
+    (λ t₅. whether (is "=" b) (at-byte s 0x3D b (unfold rightText in operator-right ERROR EQ-EQ 0x3D s refl refl))
+    (λ t₆. whether (is "!" b) (at-byte s 0x21 b (unfold rightText in operator-right ERROR NEQ 0x21 s refl refl))
+    (λ t₇. whether (is ">" b) (at-byte s 0x3E b (unfold rightText in operator-right GT GE 0x3E s refl refl))
+    (λ t₈. whether (is "<" b) (at-byte s 0x3C b (unfold rightText in operator-right LT LE 0x3C s refl refl))
+    (λ t₉. rw (t₀, t₁, t₂, t₃, t₄, t₅, t₆, t₇, t₈, t₉)
+    (whether (isAsciiDigit b) (λ t. rw t (kinds-right _ .1))
+    (λ t. rw t (whether (isIdentStart b) (λ u. rw u (word-right (b ∷ take (run isIdentContinue s) s))) (λ u. rw u (kinds-right _ .2)))))))))))))))
 
 -- ---- strings
 
@@ -155,7 +113,7 @@ Ended us = (w : List ℕ) × (us ≡ w ++ ascii "'")
 
 quote-content : (s : List ℕ) → T (hasQuote (take (quotedLength s) s)) → Ended (take (quotedLength s) s)
 unfolding hasQuote quotedLength
-quote-content [] h = absurd (h)
+quote-content [] h = absurd h
 quote-content (b ∷ s) h =
     let ih = quote-content s in
     whether (is "'" b)

@@ -2,15 +2,15 @@
 -- combinators. Assumes nothing.
 use mathlib.Core.Path.{_≡_, refl, sym, ap, _∙_, subst}
 use mathlib.Core.List.{List, [], _∷_, _++_, append-assoc, append-nil, cons≢nil}
-use mathlib.Core.Bool.{Bool, true, false, _&&_, _||_, true≢false, false≢true}
+use mathlib.Core.Bool.{Bool, true, false, _&&_, false≢true}
 use Prim.Native.Nat.{ℕ, zero, suc, _+_, _*_}
 use Prim.Native.String.{String}
 use native.Mathlib.Omega.{arith}
-use borrow.Author.Tests.{eqb-true, ne-eqb}
+use borrow.Author.Tests.{eqb-true}
 use lib.Dec.{T, eqb}
 use lib.ListN.{length}
 use Rattle.syntax.specs.Kind.{IDENT, STRING-LIT, DOT, L-PAREN, R-PAREN, EQ-EQ, AND-KW, OR-KW, NOT-KW, NONE, LITERAL, PIPELINE-EXPR, DOT-CALL, CALL-ARGS, BINARY-EXPR, UNARY-EXPR, COMPARE-EXPR, CALL-EXPR, PAREN-EXPR, IDENT-EXPR, CONTAINS-EXPR}
-use Rattle.syntax.specs.Form.{EXPECT, EXPECT-IDENT, SOURCE, METHOD, ATOM}
+use Rattle.syntax.specs.Form.{EXPECT, EXPECT-IDENT, SOURCE, ATOM}
 use Rattle.syntax.specs.Text.{ascii, same}
 use Rattle.syntax.proofs.BoolLaws.{whether, true→T, T→true, and-left, and-right}
 use Rattle.lexer.specs.Lex.{Token, lex, isClosed, closed}
@@ -20,7 +20,7 @@ use Rattle.parser.specs.Look.{isBlank, skipWs, peekKind, atKind, atText, atIden
 use Rattle.parser.specs.Parse.{Error, Parsed, Parser, done, next, nextIs, nextIsIdent, fails, failsAhead, join, _▹_, inNode, choose, eatWs, bump, expect, expectIdent, literal, callExpr, identExpr, containsExpr, compareExpr, simpleAtom, noMethod, parseMethod, parseDotCall, Mode, OrExpr, OrRest, AndExpr, AndRest, Atom as AtomMode, Calls, step, parse, parseSource, parsePipeline}
 use Rattle.parser.proofs.ParseLaws.{parse-pipeline-is}
 use Rattle.parser.proofs.StepLaws.{always, parse-step, stepsFrom, parse-steps}
-use Rattle.grammar.specs.Grammar.{solid, word, quoted, dot, opening, closing, equals, andWord, orWord, notWord, Field, category, kind, direction, severity, message, fieldWord, Part, OrGroup, AndGroup, Atom, Predicate, lastGroup, orThen, lastAtom, andThen, negated, bracketed, hasText, isConnected, messageHas, fieldIs, tokensOf, ReadWhole, Source, components, analysis, Call, count-call, features-call, diagnostics-call, sourceTokens, callTokens, callsTokens, ReadPipeline}
+use Rattle.grammar.specs.Grammar.{solid, word, dot, opening, closing, equals, andWord, orWord, notWord, Field, category, kind, direction, severity, message, fieldWord, Part, OrGroup, AndGroup, Atom, Predicate, lastGroup, orThen, lastAtom, andThen, negated, bracketed, hasText, isConnected, messageHas, fieldIs, tokensOf, ReadWhole, Source, components, analysis, Call, count-call, features-call, diagnostics-call, sourceTokens, callTokens, callsTokens, ReadPipeline}
 use Rattle.grammar.specs.Blanks.{strip}
 use Rattle.grammar.specs.Trees.{predicateTree, read, pipelineThen}
 use Rattle.grammar.specs.Texts.{Method, where-method, all-method, any-method, none-method, methodName, methodCall}
@@ -81,7 +81,8 @@ _then_ {p = p} {q} a b =
           };
     }
 
-choice : {L : List Token → Type 0} {ts : List Token} (t : Bool) (x y : Parsed) → (t ≡ true → x .errors ≡ [] → Ate L ts x) → (y .errors ≡ [] → Ate L ts y)
+choice : {L : List Token → Type 0} {ts : List Token} (t : Bool) (x y : Parsed)
+    → (t ≡ true → x .errors ≡ [] → Ate L ts x) → (y .errors ≡ [] → Ate L ts y)
     → (let z : Parsed = elim t [ true ↦ x | false ↦ y ] in z .errors ≡ [] → Ate L ts z)
 choice true x y a b e = a refl e
 choice false x y a b e = b e
@@ -98,7 +99,8 @@ eats-node k a = record { eats = λ ts l t e. let x = a .eats ts l t e in record 
 eats-as : {test : List Token → Bool} {p : Parser} {L M : List Token → Type 0} → ((xs : List Token) → L xs → M xs) → Eats test p L → Eats test p M
 eats-as f a = record { eats = λ ts l t e. let x = a .eats ts l t e in record { taken = x .taken; good = f (x .taken) (x .good); split = x .split } }
 
-eats-if : {test other : List Token → Bool} {p : Parser} {L : List Token → Type 0} → ((ts : List Token) → test ts ≡ true → other ts ≡ true) → Eats other p L → Eats test p L
+eats-if : {test other : List Token → Bool} {p : Parser} {L : List Token → Type 0}
+    → ((ts : List Token) → test ts ≡ true → other ts ≡ true) → Eats other p L → Eats test p L
 eats-if f a = record { eats = λ ts l t e. a .eats ts l (f ts t) e }
 
 any : {p : Parser} {L : List Token → Type 0} (test : List Token → Bool) → Eats always p L → Eats test p L
@@ -141,8 +143,9 @@ word-eq w k {u} r e = let q = same-eq (u .text) (ascii w) e in token-eq (r .kind
 
 ident-eq : (w : String) {u : Token} → eqb (u .kind) IDENT && same (u .text) (ascii w) ≡ true → u ≡ word w
 ident-eq w {u} e =
-    let t = true→T e in
-    token-eq (eqb-true _ _ (T→true _ (and-left (eqb (u .kind) IDENT) (same (u .text) (ascii w)) t))) (same-eq _ _ (T→true _ (and-right (eqb (u .kind) IDENT) (same (u .text) (ascii w)) t)))
+    let k = eqb (u .kind) IDENT in
+    let s = same (u .text) (ascii w) in
+    token-eq (eqb-true _ _ (T→true k (and-left k s (true→T e)))) (same-eq _ _ (T→true s (and-right k s (true→T e))))
 
 -- the next token, where the test tells which it is
 eats-bump : {test : List Token → Bool} {L : List Token → Type 0} → (test [] ≡ true → ⊥)
@@ -204,7 +207,9 @@ eats-literal = eats-node LITERAL (eats-expect STRING-LIT (omega arith) (λ u r e
 
 eats-contains : Eats always (expectIdent (ascii "contains")) (One (word "contains"))
 unfolding expectIdent nextIsIdent
-eats-contains = past-blanks (eats-choose {test = nextIsIdent (ascii "contains")} (eats-next (λ e. false≢true e) (λ u us r e. one-of (ident-eq "contains" e))) (eats-fails EXPECT-IDENT 0))
+eats-contains =
+    past-blanks (eats-choose {test = nextIsIdent (ascii "contains")} (eats-next (λ e. false≢true e) (λ u us r e. one-of (ident-eq "contains" e)))
+    (eats-fails EXPECT-IDENT 0))
 
 -- the next token, where a look told which it is
 kind-bump : (t : Token) → (t .kind ≡ NONE → ⊥) → ((w : List ℕ) → rightText (t .kind) w ≡ same w (t .text)) → Eats (atKind (t .kind)) bump (One t)
@@ -287,7 +292,8 @@ eats-connected = eats-as go (eats-node IDENT-EXPR (ident-bump "connected"))
 
 eats-message : Eats atMessageDot containsExpr (Raw Atom)
 unfolding containsExpr atMessageDot
-eats-message = eats-if first (eats-as go (eats-node CONTAINS-EXPR (ident-bump "message" then eats-dot then eats-contains then eats-open then eats-literal then eats-shut)))
+eats-message =
+    eats-if first (eats-as go (eats-node CONTAINS-EXPR (ident-bump "message" then eats-dot then eats-contains then eats-open then eats-literal then eats-shut)))
   where
     first : (ts : List Token) → atMessageDot ts ≡ true → atIdent (ascii "message") ts ≡ true
     first ts e = T→true _ (and-left (atIdent (ascii "message") ts) (eqb (peekKind ts) DOT) (true→T e))
@@ -411,9 +417,13 @@ eats-nothing {L} x = eats-as go eats-done
 
 eats-step : {g : Mode → Parser} → ((m : Mode) → Eats always (g m) (Language m)) → (m : Mode) → Eats always (step g m) (Language m)
 unfolding step Language rightText
-eats-step a OrExpr = eats-choose (any (hasBinaryOpAtLevel OR-KW) (eats-node BINARY-EXPR (eats-as or-group (a AndExpr then a OrRest)))) (eats-as (λ xs g. last-group g) (a AndExpr))
+eats-step a OrExpr =
+    eats-choose (any (hasBinaryOpAtLevel OR-KW) (eats-node BINARY-EXPR (eats-as or-group (a AndExpr then a OrRest))))
+    (eats-as (λ xs g. last-group g) (a AndExpr))
 eats-step a OrRest = eats-choose (eats-as or-more (kind-bump orWord (omega arith) (λ w. refl) then a AndExpr then a OrRest)) (eats-nothing no-more)
-eats-step a AndExpr = eats-choose (any (hasBinaryOpAtLevel AND-KW) (eats-node BINARY-EXPR (eats-as and-group (a AtomMode then a AndRest)))) (eats-as (λ xs g. last-atom g) (a AtomMode))
+eats-step a AndExpr =
+    eats-choose (any (hasBinaryOpAtLevel AND-KW) (eats-node BINARY-EXPR (eats-as and-group (a AtomMode then a AndRest))))
+    (eats-as (λ xs g. last-atom g) (a AtomMode))
 eats-step a AndRest = eats-choose (eats-as and-more (kind-bump andWord (omega arith) (λ w. refl) then a AtomMode then a AndRest)) (eats-nothing no-more)
 eats-step a AtomMode = past-blanks (eats-choose (eats-not (a AtomMode)) (eats-choose (eats-brackets (a OrExpr)) eats-simple))
 eats-step a Calls = past-blanks (eats-choose (any (atKind DOT) (eats-calls (a OrExpr) (a Calls))) (eats-nothing no-calls))
