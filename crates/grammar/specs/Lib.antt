@@ -1,1 +1,4 @@
 pub mod Grammar
+pub mod Blanks
+pub mod Trees
+pub mod Texts
