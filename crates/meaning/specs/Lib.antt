@@ -1,0 +1,6 @@
+pub mod Value
+pub mod Calls
+pub mod Pipeline
+pub mod Compare
+pub mod Outcome
+pub mod Cases
