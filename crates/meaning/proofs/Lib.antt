@@ -1,2 +1,5 @@
 pub mod CaseLaws
 pub mod VerdictLaws
+pub mod MemberLaws
+pub mod BlankLaws
+pub mod HoldLaws

@@ -4,3 +4,4 @@ pub mod Pipeline
 pub mod Compare
 pub mod Outcome
 pub mod Cases
+pub mod Holds
