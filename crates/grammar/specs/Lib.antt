@@ -1,1 +1,3 @@
 pub mod Grammar
+pub mod Blanks
+pub mod Trees

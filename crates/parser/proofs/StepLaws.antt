@@ -184,6 +184,11 @@ parse-step m ts =
       agree = λ o us l. steps-same (3 * length ts + 2) (suc (3 * length us + 2)) o us (omega (arith, order-le m)) (omega (arith, order-le o));
     }) .same ts refl (omega arith)
 
+-- as many steps as suffice, and more, do what `parse` does
+pub parse-steps : (f : ℕ) (m : Mode) (ts : List Token) → 3 * length ts + 2 < f → parse m ts ≡ steps f m ts
+unfolding parse
+parse-steps f m ts h = steps-same (suc (3 * length ts + 2)) f m ts (omega (arith, order-le m)) (omega (arith, order-le m))
+
 pub asks-step : {ts : List Token} {tokens t e : List ℕ} {l : ℕ} {c : Cursor} (m : Mode) → Asks ts tokens t e l c (parse m)
     → Asks ts tokens t e l c (step parse m)
 asks-step {ts} {c = c} m f = asks-as (parse-step m (drop (c .token) ts)) f
