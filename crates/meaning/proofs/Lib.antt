@@ -3,3 +3,4 @@ pub mod VerdictLaws
 pub mod MemberLaws
 pub mod BlankLaws
 pub mod HoldLaws
+pub mod PipelineLaws
