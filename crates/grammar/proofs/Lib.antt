@@ -1,2 +1,3 @@
 pub mod BlankLaws
 pub mod ReadLaws
+pub mod TextLaws

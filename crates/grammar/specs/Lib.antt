@@ -1,3 +1,4 @@
 pub mod Grammar
 pub mod Blanks
 pub mod Trees
+pub mod Texts
