@@ -1,25 +1,31 @@
 -- What a pipeline of the grammar comes to, and how a rule goes on after it. Assumes nothing.
-use mathlib.Core.Path.{_≡_, refl, sym, ap, _∙_}
+use mathlib.Core.Path.{_≡_, refl, sym, ap, _∙_, subst}
 use mathlib.Core.Bool.{Bool, true, false, cond, _&&_, and-false, false≢true}
-use mathlib.Core.List.{List, [], _∷_, _++_, map, append-assoc}
+use mathlib.Core.List.{List, [], _∷_, _++_, map, append-assoc, append-nil}
 use Prim.Native.Nat.{ℕ}
+use lib.Dec.{ltb}
+use lib.ListN.{length}
 use Rattle.syntax.specs.Kind.{R-PAREN, NONE, ROOT, PIPELINE-EXPR, COUNT-COMPARE-EXPR}
-use Rattle.syntax.specs.declared.refusal.Refusal.the-variants.{ParseErrors}
+use Rattle.syntax.specs.Text.{ascii}
+use Rattle.syntax.specs.declared.refusal.Refusal.the-variants.{ParseErrors, IntegerTooLarge}
 use Rattle.syntax.proofs.BoolLaws.{whether}
 use Rattle.lexer.specs.Lex.{Token, lex}
 use Rattle.parser.specs.Green.{Forest, nil, leaf, node, _⊹_}
 use Rattle.parser.specs.Look.{isBlank, isComparison, endsInComparison, hasCountCompareAhead}
 use Rattle.parser.specs.Parse.{Error, Parsed, Parser, join, _▹_, inNode, choose, bump, eatWs, leftOver, Calls, parse, parsePipeline, parsePipelineOrCountCompare, parseRoot, parseExpr}
-use Rattle.grammar.specs.Grammar.{solid, opening, closing, OrGroup, Predicate, Source, components, analysis, Call as Written, where-call, all-call, any-call, none-call, count-call, features-call, diagnostics-call, tokensOf, sourceTokens, callTokens, callsTokens}
+use Rattle.grammar.specs.Grammar.{solid, dot, word, opening, closing, OrGroup, Predicate, Source, components, analysis, Call as Written, where-call, all-call, any-call, none-call, count-call, features-call, diagnostics-call, tokensOf, sourceTokens, callTokens, callsTokens, ReadWhole, ReadPipeline}
 use Rattle.grammar.specs.Blanks.{strip}
 use Rattle.grammar.specs.Trees.{predicateTree, withPredicateTree, callTree, callsTree, sourceTree, first, pipelineThen}
+use Rattle.grammar.specs.Texts.{Method as Taking, methodName, methodCall, callText}
 use Rattle.grammar.proofs.BlankLaws.{root-solid}
 use Rattle.grammar.proofs.ReadLaws.{calls-read, pipeline-read}
+use Rattle.grammar.proofs.TextLaws.{call-text, call-tokens, call-pipeline, count-then, count-tokens}
+use Rattle.predicate.specs.declared.atom.Member.{Member}
 use Rattle.predicate.specs.Truth.{firstText, literalOf, content}
-use Rattle.meaning.specs.Value.{Outcome, collection, boolean, refused}
+use Rattle.meaning.specs.Value.{Sort, Outcome, collection, boolean, refused}
 use Rattle.meaning.specs.Calls.{Method, Where, All, Any, None, Count, Features, Diagnostics, Call, isEmpty, callGives, callsGive}
 use Rattle.meaning.specs.Pipeline.{allComponents, diagnosticsOf, sourceOf, methodOf, argsOf, callsOf, evalPipeline}
-use Rattle.meaning.specs.Compare.{compared, against, operatorOf, integerOf}
+use Rattle.meaning.specs.Compare.{MAX-INTEGER, compares, against, compared, operatorOf, integerOf}
 use Rattle.meaning.specs.Outcome.{firstKind, firstInner, evalCountCompare, evalNode, outcomeOf, outcome}
 use Rattle.meaning.proofs.BlankLaws.{outcome-strip}
 use Rattle.meaning.proofs.HoldLaws.{content-quoted}
@@ -120,3 +126,132 @@ outcome-ending image ts = go (hasCountCompareAhead ts)
         ≡ ending b (parsePipeline ts .errors) (parsePipeline ts .rest) (evalPipeline image (firstInner (parsePipeline ts .made)))
     go true = refl
     go false = refl
+
+-- the tokens of a pipeline, and tokens v after it: what v adds to what the pipeline comes to
+abbrev goesOn : List ℕ → Bool → List Token → Outcome → Outcome
+goesOn image b v o = ending b (parse Calls v .errors) (parse Calls v .rest) (callsGive image (callsOf (parse Calls v .made)) o)
+
+tokens-outcome : (image : List ℕ) (s : Source) (cs : List Written) (v : List Token)
+    → let ts = sourceTokens s ++ (callsTokens cs ++ v) in
+    outcomeOf image (parseRoot ts) ≡ goesOn image (hasCountCompareAhead ts) v (callsMean image cs (sourceMeans image s))
+unfolding pipelineThen firstInner
+tokens-outcome image s cs v =
+    outcome-ending image (sourceTokens s ++ (callsTokens cs ++ v))
+    ∙ rw (pipeline-read s cs v, pipeline-tree image s cs (parse Calls v .made))
+
+-- a text has the outcome of its tokens that are no blanks
+text-outcome : (image t : List ℕ) → outcome image t ≡ outcomeOf image (parseRoot (solid (lex t)))
+unfolding outcome parseExpr
+text-outcome image t = sym (outcome-strip image (parseRoot (lex t))) ∙ ap (outcomeOf image) (sym (root-solid (lex t)))
+
+-- ---- "The comparison form is chosen by the last two non-blank tokens": after a closing bracket by what follows it alone
+
+ends-here : (a : ℕ) (v : List Token) → endsInComparison a R-PAREN v ≡ endsInComparison NONE R-PAREN v
+unfolding endsInComparison
+ends-here a [] = and-false (isComparison a) ∙ sym (and-false (isComparison NONE))
+ends-here a (t ∷ v) =
+    let ih = ends-here a v in
+    whether (isBlank t) (λ e. rw (e, endsInComparison) ih) (λ e. rw (e, endsInComparison))
+
+ends-closed : (a b : ℕ) (us v : List Token) → endsInComparison a b (us ++ (closing ∷ v)) ≡ endsInComparison NONE R-PAREN v
+unfolding endsInComparison
+ends-closed a b [] v = ends-here b v
+ends-closed a b (u ∷ us) v =
+    let ih = ends-closed a b us v in
+    let ih′ = ends-closed b (u .kind) us v in
+    whether (isBlank u) (λ e. rw (e, endsInComparison) ih) (λ e. rw (e, endsInComparison) ih′)
+
+-- what tokens v after a closing bracket add
+abbrev pub after : List ℕ → List Token → Outcome → Outcome
+after image v o = goesOn image (endsInComparison NONE R-PAREN v) v o
+
+-- nothing adds nothing
+pub after-nothing : (image : List ℕ) (o : Outcome) → after image (solid (lex [])) o ≡ o
+unfolding lex solid parse endsInComparison eatWs leftOver callsOf callsGive
+after-nothing image o = refl
+
+-- ---- texts: a pipeline of the grammar, and calls after it
+
+-- what it comes to
+abbrev pub means : (image : List ℕ) {c : List ℕ} → ReadPipeline c → Outcome
+means image r = callsMean image (r .calls) (sourceMeans image (r .source))
+
+-- one call more
+mean-more : (image : List ℕ) (cs : List Written) (c : Written) (o : Outcome) → callsMean image (cs ++ (c ∷ [])) o ≡ callGives image (callFor c) (callsMean image cs o)
+unfolding callsGive
+mean-more image [] c o = refl
+mean-more image (d ∷ cs) c o = mean-more image cs c (callGives image (callFor d) o)
+
+-- a method with a predicate after a pipeline, and a text z after that
+pub call-outcome : (image : List ℕ) {c p : List ℕ} (r : ReadPipeline c) (m : Taking) (q : ReadWhole p) (z : List ℕ)
+    → outcome image (c ++ callText m p z) ≡ after image (solid (lex z)) (callGives image (callFor (methodCall m (q .predicate))) (means image r))
+unfolding hasCountCompareAhead
+call-outcome image {c} {p} r m q z =
+    let cs = r .calls ++ (methodCall m (q .predicate) ∷ []) in
+    let us = dot ∷ word (methodName m) ∷ opening ∷ solid (lex p) in
+    let v = solid (lex z) in
+    let flag : hasCountCompareAhead (sourceTokens (r .source) ++ (callsTokens cs ++ v)) ≡ endsInComparison NONE R-PAREN v =
+        ap hasCountCompareAhead (sym (call-tokens r m q z) ∙ call-text r m q z ∙ sym (append-assoc (solid (lex c)) us (closing ∷ v)))
+        ∙ ends-closed NONE NONE (solid (lex c) ++ us) v
+      in
+    text-outcome image (c ++ callText m p z)
+    ∙ ap (λ (ts : List Token). outcomeOf image (parseRoot ts)) (call-tokens r m q z)
+    ∙ tokens-outcome image (r .source) cs v
+    ∙ rw (flag, mean-more image (r .calls) (methodCall m (q .predicate)) (sourceMeans image (r .source)))
+
+-- `.count()` after a pipeline
+pub count-outcome : (image : List ℕ) {c : List ℕ} (r : ReadPipeline c) (z : List ℕ)
+    → outcome image (c ++ (ascii ".count()" ++ z)) ≡ after image (solid (lex z)) (callGives image (callFor count-call) (means image r))
+unfolding hasCountCompareAhead
+count-outcome image {c} r z =
+    let cs = r .calls ++ (count-call ∷ []) in
+    let us = dot ∷ word "count" ∷ opening ∷ [] in
+    let v = solid (lex z) in
+    let flag : hasCountCompareAhead (sourceTokens (r .source) ++ (callsTokens cs ++ v)) ≡ endsInComparison NONE R-PAREN v =
+        ap hasCountCompareAhead (sym (count-tokens r z) ∙ count-then r z ∙ sym (append-assoc (solid (lex c)) us (closing ∷ v)))
+        ∙ ends-closed NONE NONE (solid (lex c) ++ us) v
+      in
+    text-outcome image (c ++ (ascii ".count()" ++ z))
+    ∙ ap (λ (ts : List Token). outcomeOf image (parseRoot ts)) (count-tokens r z)
+    ∙ tokens-outcome image (r .source) cs v
+    ∙ rw (flag, mean-more image (r .calls) count-call (sourceMeans image (r .source)))
+
+-- a pipeline with one call more comes to what the call gives
+pub call-means : (image : List ℕ) {c p : List ℕ} (r : ReadPipeline c) (m : Taking) (q : ReadWhole p)
+    → means image (call-pipeline r m q) ≡ callGives image (callFor (methodCall m (q .predicate))) (means image r)
+call-means image r m q = mean-more image (r .calls) (methodCall m (q .predicate)) (sourceMeans image (r .source))
+
+-- only a pipeline comes to a collection, and then its calls do
+abbrev IsCollection : Outcome → Type 0
+IsCollection (collection sort members) = Unit
+IsCollection (boolean value warned) = ⊥
+IsCollection (Outcome.count n) = ⊥
+IsCollection (refused r) = ⊥
+
+compared-collection : (operator integer : ℕ) (o : Outcome) → IsCollection (compared operator integer o) → ⊥
+unfolding compared against
+compared-collection operator integer (collection sort members) h = go (ltb MAX-INTEGER integer) h
+  where
+    go : (b : Bool) → IsCollection (cond b (refused IntegerTooLarge) (boolean (compares operator (length members) integer) false)) → ⊥
+    go true k = k
+    go false k = k
+compared-collection operator integer (boolean value warned) h = h
+compared-collection operator integer (Outcome.count n) h = go (ltb MAX-INTEGER integer) h
+  where
+    go : (b : Bool) → IsCollection (cond b (refused IntegerTooLarge) (boolean (compares operator n integer) false)) → ⊥
+    go true k = k
+    go false k = k
+compared-collection operator integer (refused r) h = h
+
+collected : (image : List ℕ) (b : Bool) (o : Outcome) (sort : Sort) (members : List Member) → goesOn image b [] o ≡ collection sort members → o ≡ collection sort members
+unfolding parse eatWs bump leftOver callsOf callsGive
+collected image true o sort members h = absurd (compared-collection _ _ o (subst IsCollection (sym h) tt))
+collected image false o sort members h = h
+
+pub collection-means : (image : List ℕ) {c : List ℕ} (r : ReadPipeline c) (sort : Sort) (members : List Member)
+    → outcome image c ≡ collection sort members → means image r ≡ collection sort members
+collection-means image {c} r sort members h =
+    let ts = sourceTokens (r .source) ++ (callsTokens (r .calls) ++ []) in
+    let e : solid (lex c) ≡ ts = r .whole ∙ ap (λ (us : List Token). sourceTokens (r .source) ++ us) (sym (append-nil (callsTokens (r .calls)))) in
+    collected image (hasCountCompareAhead ts) (means image r) sort members
+    (sym (tokens-outcome image (r .source) (r .calls) []) ∙ ap (λ (us : List Token). outcomeOf image (parseRoot us)) (sym e) ∙ sym (text-outcome image c) ∙ h)

@@ -5,3 +5,4 @@ pub mod Compare
 pub mod Outcome
 pub mod Cases
 pub mod Holds
+pub mod Demand3
