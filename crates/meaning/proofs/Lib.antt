@@ -4,3 +4,4 @@ pub mod MemberLaws
 pub mod BlankLaws
 pub mod HoldLaws
 pub mod PipelineLaws
+pub mod Demand3Laws
