@@ -1,6 +1,6 @@
 -- Blanks never matter to what a rule comes to: a green tree without them has the same meaning. Assumes nothing.
 use mathlib.Core.Path.{_≡_, refl, sym, ap, _∙_}
-use mathlib.Core.Bool.{Bool, true, false, not}
+use mathlib.Core.Bool.{Bool, true, false}
 use mathlib.Core.List.{List, [], _∷_}
 use Prim.Native.Nat.{ℕ}
 use native.Mathlib.Omega.{arith}
@@ -15,8 +15,8 @@ use Rattle.parser.specs.Parse.{Error, Parsed}
 use Rattle.grammar.specs.Blanks.{noBlanks, solidErrors, strip}
 use Rattle.predicate.specs.declared.atom.Member.{Member}
 use Rattle.predicate.specs.Truth.{content, firstText, literalOf, has, messageContains, compares, orAfter, joinedBy, joined, Sort, binary, unary, paren, ident, call, containing, compare, other, sortOf, settle, truths, firstOf, truth}
-use Rattle.meaning.specs.Value.{Sort as Collected, Outcome, collection, boolean, refused, sortKind}
-use Rattle.meaning.specs.Calls.{Method, Where, All, Any, None, Count, Features, Diagnostics, Call, gives, kept, every, some, isEmpty, onMembers, byEntry, callGives, callsGive}
+use Rattle.meaning.specs.Value.{Outcome, collection, boolean, refused, sortKind}
+use Rattle.meaning.specs.Calls.{Method, Call, gives, isEmpty, onMembers, byEntry, callGives, callsGive}
 use Rattle.meaning.specs.Pipeline.{sourceOf, methodOf, argsOf, callOf, callsOf, evalPipeline, diagnosticsOf, allComponents}
 use Rattle.meaning.specs.Compare.{compared, operatorOf, integerOf, decimal}
 use Rattle.meaning.specs.Outcome.{firstKind, firstInner, evalCountCompare, evalNode, outcomeOf}
@@ -120,21 +120,10 @@ integer-solid f = ap decimal (text-solid INT-LIT (λ q. omega arith) f)
 
 module _ (image : List ℕ) where
   -- predicates that are true alike give alike
-  members-alike : (method : Method) (a b : Forest) (sort : Collected) (members : List Member) → ((m : Member) → truth image m a ≡ truth image m b)
-      → onMembers image method a sort members ≡ onMembers image method b sort members
-  unfolding onMembers
-  members-alike Where a b sort members e = λ i. collection sort (kept (λ m. e m i) members)
-  members-alike All a b sort members e = λ i. boolean (every (λ m. e m i) members) (isEmpty members)
-  members-alike Any a b sort members e = λ i. boolean (some (λ m. e m i) members) false
-  members-alike None a b sort members e = λ i. boolean (not (some (λ m. e m i) members)) (isEmpty members)
-  members-alike Count a b sort members e = refl
-  members-alike Features a b sort members e = refl
-  members-alike Diagnostics a b sort members e = refl
-
   pub call-alike : (method : Method) (a b : Forest) (o : Outcome) → ((m : Member) → truth image m a ≡ truth image m b)
       → callGives image (record { method = method; args = a }) o ≡ callGives image (record { method = method; args = b }) o
   unfolding callGives
-  call-alike method a b (collection sort members) e = ap (byEntry (gives method (sortKind sort))) (members-alike method a b sort members e)
+  call-alike method a b (collection sort members) e = ap (byEntry (gives method (sortKind sort))) (λ i. onMembers image method (λ m. e m i) sort members)
   call-alike method a b (boolean value warned) e = refl
   call-alike method a b (Outcome.count n) e = refl
   call-alike method a b (refused r) e = refl

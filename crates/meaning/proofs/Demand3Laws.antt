@@ -47,9 +47,9 @@ module _ (image : List ℕ) where
   unfolding strip
   true-holds {p} r m =
       let made : noBlanks (parse OrExpr (lex p) .made) ≡ predicateTree (r .predicate) =
-          ap (λ (x : Parsed). x .made)
-          (sym (parse-solid OrExpr (lex p)) ∙ ap (parse OrExpr) (r .whole ∙ sym (append-nil (tokensOf (r .predicate)))) ∙ predicate-read (r .predicate) [] ended)
-        in
+      ap (λ (x : Parsed). x .made)
+      (sym (parse-solid OrExpr (lex p)) ∙ ap (parse OrExpr) (r .whole ∙ sym (append-nil (tokensOf (r .predicate)))) ∙ predicate-read (r .predicate) [] ended)
+      in
       sym (truth-solid image m (parse OrExpr (lex p) .made)) ∙ ap (truth image m) made ∙ predicate-holds image m (r .predicate)
 
   -- `(P) and (Q)`, `(P) or (Q)`, `not (P)`
@@ -208,13 +208,13 @@ demand-3 image c r sort members e p q s t =
       where-exchanged = comes image _ (two-wheres h t s [] ∙ after-nothing image _ ∙ ap (collection sort) (members-exchanged image members s t));
       where-and = comes image _ (one-where h (and-whole s t) [] ∙ after-nothing image _ ∙ ap (collection sort) (members-and image members s t));
       after-exchanged =
-        λ z.
-        agree image _ _
-        (two-wheres h s t z ∙ ap (λ (l : List Member). after image (solid (lex z)) (collection sort l)) (sym (members-exchanged image members s t)) ∙ sym (two-wheres h t s z));
+          λ z.
+          agree image _ _
+          (two-wheres h s t z ∙ ap (λ (l : List Member). after image (solid (lex z)) (collection sort l)) (sym (members-exchanged image members s t)) ∙ sym (two-wheres h t s z));
       after-and =
-        λ z.
-        agree image _ _
-        (two-wheres h s t z ∙ ap (λ (l : List Member). after image (solid (lex z)) (collection sort l)) (sym (members-and image members s t)) ∙ sym (one-where h (and-whole s t) z));
+          λ z.
+          agree image _ _
+          (two-wheres h s t z ∙ ap (λ (l : List Member). after image (solid (lex z)) (collection sort l)) (sym (members-and image members s t)) ∙ sym (one-where h (and-whole s t) z));
       not-members = comes image _ (one-where h (not-whole s) [] ∙ after-nothing image _);
       each-as-often = parts image members s;
       count-all = comes image _ (all-counted h);

@@ -100,10 +100,10 @@ module _ (image : List ℕ) (m : Member) where
       record {
         first = joined-one false true f (leaf orWord (operands p)) (holds image m g) o ∙ q .joins (holds image m g);
         joins =
-          λ before.
-          joined-one true before f (leaf orWord (operands p)) (holds image m g) o
-          ∙ q .joins (before || holds image m g)
-          ∙ or-assoc before (holds image m g) (holds image m p);
+            λ before.
+            joined-one true before f (leaf orWord (operands p)) (holds image m g) o
+            ∙ q .joins (before || holds image m g)
+            ∙ or-assoc before (holds image m g) (holds image m p);
         lone = λ e. absurd (true≢false (sym (or-true (among OR-KW g)) ∙ e));
       }
     where
@@ -116,10 +116,10 @@ module _ (image : List ℕ) (m : Member) where
   and-group a g o q =
       record {
         joins =
-          λ before.
-          joined-one false before (operands a) (leaf andWord (operands g)) (holds image m a) o
-          ∙ q .joins (before && holds image m a)
-          ∙ and-assoc before (holds image m a) (holds image m g);
+            λ before.
+            joined-one false before (operands a) (leaf andWord (operands g)) (holds image m a) o
+            ∙ q .joins (before && holds image m a)
+            ∙ and-assoc before (holds image m a) (holds image m g);
         lone = λ e. absurd (true≢false e);
       }
 

@@ -122,6 +122,7 @@ outcome-ending image ts = go (hasCountCompareAhead ts)
   where
     top : Bool → Parser
     top b us = elim b [ true ↦ inNode COUNT-COMPARE-EXPR (parsePipeline ▹ bump ▹ bump) us | false ↦ parsePipeline us ]
+
     go : (b : Bool) → outcomeOf image (inNode ROOT (top b ▹ eatWs ▹ leftOver) ts)
         ≡ ending b (parsePipeline ts .errors) (parsePipeline ts .rest) (evalPipeline image (firstInner (parsePipeline ts .made)))
     go true = refl
@@ -191,9 +192,9 @@ call-outcome image {c} {p} r m q z =
     let us = dot ∷ word (methodName m) ∷ opening ∷ solid (lex p) in
     let v = solid (lex z) in
     let flag : hasCountCompareAhead (sourceTokens (r .source) ++ (callsTokens cs ++ v)) ≡ endsInComparison NONE R-PAREN v =
-        ap hasCountCompareAhead (sym (call-tokens r m q z) ∙ call-text r m q z ∙ sym (append-assoc (solid (lex c)) us (closing ∷ v)))
-        ∙ ends-closed NONE NONE (solid (lex c) ++ us) v
-      in
+    ap hasCountCompareAhead (sym (call-tokens r m q z) ∙ call-text r m q z ∙ sym (append-assoc (solid (lex c)) us (closing ∷ v)))
+    ∙ ends-closed NONE NONE (solid (lex c) ++ us) v
+    in
     text-outcome image (c ++ callText m p z)
     ∙ ap (λ (ts : List Token). outcomeOf image (parseRoot ts)) (call-tokens r m q z)
     ∙ tokens-outcome image (r .source) cs v
@@ -208,9 +209,9 @@ count-outcome image {c} r z =
     let us = dot ∷ word "count" ∷ opening ∷ [] in
     let v = solid (lex z) in
     let flag : hasCountCompareAhead (sourceTokens (r .source) ++ (callsTokens cs ++ v)) ≡ endsInComparison NONE R-PAREN v =
-        ap hasCountCompareAhead (sym (count-tokens r z) ∙ count-then r z ∙ sym (append-assoc (solid (lex c)) us (closing ∷ v)))
-        ∙ ends-closed NONE NONE (solid (lex c) ++ us) v
-      in
+    ap hasCountCompareAhead (sym (count-tokens r z) ∙ count-then r z ∙ sym (append-assoc (solid (lex c)) us (closing ∷ v)))
+    ∙ ends-closed NONE NONE (solid (lex c) ++ us) v
+    in
     text-outcome image (c ++ (ascii ".count()" ++ z))
     ∙ ap (λ (ts : List Token). outcomeOf image (parseRoot ts)) (count-tokens r z)
     ∙ tokens-outcome image (r .source) cs v

@@ -117,16 +117,17 @@ pub record Call : Type 0 where
 abbrev pub trueFor : List ℕ → Forest → Member → Bool
 trueFor image args m = truth image m args
 
--- a call on the members of a collection that the table lets it follow: "`all` and `none` on an empty collection give a warned true"
-unfoldable pub onMembers : List ℕ → Method → Forest → Sort → List Member → Outcome
+-- a call on the members of a collection that the table lets it follow, by the truth of its predicate: "`all` and `none` on an empty
+-- collection give a warned true"
+unfoldable pub onMembers : List ℕ → Method → (Member → Bool) → Sort → List Member → Outcome
 unfolding kept every some fanOut
-onMembers image Where args sort members = collection sort (kept (trueFor image args) members)
-onMembers image All args sort members = boolean (every (trueFor image args) members) (isEmpty members)
-onMembers image Any args sort members = boolean (some (trueFor image args) members) false
-onMembers image None args sort members = boolean (not (some (trueFor image args) members)) (isEmpty members)
-onMembers image Count args sort members = Outcome.count (length members)
-onMembers image Features args sort members = collection Sort.features (fanOut image members)
-onMembers image Diagnostics args sort members = collection sort members
+onMembers image Where isTrue sort members = collection sort (kept isTrue members)
+onMembers image All isTrue sort members = boolean (every isTrue members) (isEmpty members)
+onMembers image Any isTrue sort members = boolean (some isTrue members) false
+onMembers image None isTrue sort members = boolean (not (some isTrue members)) (isEmpty members)
+onMembers image Count isTrue sort members = Outcome.count (length members)
+onMembers image Features isTrue sort members = collection Sort.features (fanOut image members)
+onMembers image Diagnostics isTrue sort members = collection sort members
 
 -- what a call gives by the table's entry: the value that it comes to there, or the refusal
 abbrev pub byEntry : Entry → Outcome → Outcome
@@ -138,7 +139,7 @@ byEntry (refuse r) value = refused r
 unfoldable pub callGives : List ℕ → Call → Outcome → Outcome
 unfolding gives onMembers
 callGives image call (collection sort members) =
-    byEntry (gives (call .method) (sortKind sort)) (onMembers image (call .method) (call .args) sort members)
+    byEntry (gives (call .method) (sortKind sort)) (onMembers image (call .method) (trueFor image (call .args)) sort members)
 callGives image call (boolean value warned) = byEntry (gives (call .method) Kind.Boolean) (boolean value warned)
 callGives image call (Outcome.count n) = byEntry (gives (call .method) Kind.Count) (Outcome.count n)
 callGives image call (refused r) = refused r

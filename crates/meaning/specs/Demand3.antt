@@ -75,7 +75,7 @@ pub record Claim (image c : List ℕ) (sort : Sort) (members : List Member) (p q
   -- "the members for P and for `not (P)` together are C's, each as often": by any test on members, so by which member it is too
   pub not-members : ComesTo image (c ++ whereText (notText p) []) (collection sort (membersFor image (notText p) members))
   pub each-as-often :
-    (test : Member → Bool) → howMany test (membersFor image p members) + howMany test (membersFor image (notText p) members) ≡ howMany test members
+      (test : Member → Bool) → howMany test (membersFor image p members) + howMany test (membersFor image (notText p) members) ≡ howMany test members
   -- "`C.where(P).count()` and `C.count()` give them"
   pub count-all : ComesTo image (c ++ countText) (count (length members))
   pub count-p : ComesTo image (c ++ whereText p countText) (count (countFor image p members))
@@ -84,7 +84,7 @@ pub record Claim (image c : List ℕ) (sort : Sort) (members : List Member) (p q
   pub count-or : ComesTo image (c ++ whereText (orText p q) countText) (count (countFor image (orText p q) members))
   -- "the counts for P and Q sum to those for `(P) and (Q)` and `(P) or (Q)`"
   pub counts-sum :
-    countFor image p members + countFor image q members ≡ countFor image (andText p q) members + countFor image (orText p q) members
+      countFor image p members + countFor image q members ≡ countFor image (andText p q) members + countFor image (orText p q) members
   -- "`any(P)`, `none(P)`, `all(P)` after C are true exactly when P's count is above 0, is 0, is C's; `all` and `none` warn exactly when C
   -- is empty"
   pub any-by-count : ComesTo image (c ++ anyText p []) (boolean (ltb 0 (countFor image p members)) false)
