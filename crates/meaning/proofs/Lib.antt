@@ -4,4 +4,5 @@ pub mod MemberLaws
 pub mod BlankLaws
 pub mod HoldLaws
 pub mod PipelineLaws
+pub mod CollectionLaws
 pub mod Demand3Laws

@@ -114,7 +114,7 @@ ending false es r o =
     let f : Parsed = eatWs r in
     cond (isEmpty ((es ++ f .errors) ++ leftOver (f .rest) .errors)) o (refused ParseErrors)
 
-outcome-ending : (image : List ℕ) (ts : List Token)
+pub outcome-ending : (image : List ℕ) (ts : List Token)
     → outcomeOf image (parseRoot ts)
     ≡ ending (hasCountCompareAhead ts) (parsePipeline ts .errors) (parsePipeline ts .rest) (evalPipeline image (firstInner (parsePipeline ts .made)))
 unfolding outcomeOf parseRoot parsePipelineOrCountCompare parsePipeline evalNode evalCountCompare firstKind firstInner operatorOf integerOf firstText choose inNode _▹_ join _⊹_
@@ -223,13 +223,13 @@ pub call-means : (image : List ℕ) {c p : List ℕ} (r : ReadPipeline c) (m : T
 call-means image r m q = mean-more image (r .calls) (methodCall m (q .predicate)) (sourceMeans image (r .source))
 
 -- only a pipeline comes to a collection, and then its calls do
-abbrev IsCollection : Outcome → Type 0
+abbrev pub IsCollection : Outcome → Type 0
 IsCollection (collection sort members) = Unit
 IsCollection (boolean value warned) = ⊥
 IsCollection (Outcome.count n) = ⊥
 IsCollection (refused r) = ⊥
 
-compared-collection : (operator integer : ℕ) (o : Outcome) → IsCollection (compared operator integer o) → ⊥
+pub compared-collection : (operator integer : ℕ) (o : Outcome) → IsCollection (compared operator integer o) → ⊥
 unfolding compared against
 compared-collection operator integer (collection sort members) h = go (ltb MAX-INTEGER integer) h
   where
