@@ -1,21 +1,21 @@
 -- Blanks never matter to the parser: without them it does the same, without them. By its combinators. Assumes nothing.
-use mathlib.Core.Path.{_≡_, refl, sym, ap, _∙_}
+use mathlib.Core.Path.{_≡_, refl, sym}
 use mathlib.Core.Logic.{_↔_}
 use mathlib.Core.List.{List, [], _∷_, _++_}
 use mathlib.Core.Bool.{Bool, true, false, _&&_, _||_}
-use Prim.Native.Nat.{ℕ, zero, suc, _+_, _*_, _-_, _≤_, _<_}
+use Prim.Native.Nat.{ℕ, zero, suc, _+_, _*_, _-_, _≤_}
 use native.Mathlib.Omega.{arith}
 use lib.Dec.{eqb}
 use lib.ListN.{length}
-use Rattle.syntax.specs.Kind.{WHITESPACE, L-PAREN, R-PAREN, NONE}
+use Rattle.syntax.specs.Kind.{L-PAREN, R-PAREN, NONE}
 use Rattle.syntax.specs.Text.{ascii, same}
 use Rattle.syntax.proofs.BoolLaws.{whether}
 use Rattle.lexer.specs.Lex.{Token}
 use Rattle.parser.specs.Green.{Forest, nil, leaf, node, _⊹_}
 use Rattle.parser.specs.Look.{isBlank, skipWs, headKind, headText, tailOf, atKind, atText, atIdent, peekKind, atMessageDot, atField, atPredicateMethod, atPlainMethod, endsInComparison, hasCountCompareAhead, opAhead, hasBinaryOpAtLevel}
-use Rattle.parser.specs.Parse.{Error, Parsed, Parser, done, next, fails, failsAhead, join, _▹_, inNode, choose, eatWs, bump, nextIs, expect, nextIsIdent, expectIdent, Mode, OrExpr, OrRest, AndExpr, AndRest, Atom, Calls, step, steps, parse, parsePipeline, parsePipelineOrCountCompare, remaining, leftOver, parseRoot}
+use Rattle.parser.specs.Parse.{Error, Parsed, Parser, done, next, fails, failsAhead, join, _▹_, inNode, choose, eatWs, bump, nextIs, expect, nextIsIdent, expectIdent, Mode, OrExpr, OrRest, AndExpr, AndRest, Atom, Calls, step, parse, parsePipeline, remaining, parseRoot}
 use Rattle.parser.proofs.TreeLaws.{eat-rest}
-use Rattle.parser.proofs.StepLaws.{parse-steps}
+use Rattle.parser.proofs.StepLaws.{stepsFrom, parse-steps}
 use Rattle.grammar.specs.Grammar.{solid}
 use Rattle.grammar.specs.Blanks.{noBlanks, solidErrors, strip}
 
@@ -112,21 +112,25 @@ even-message : Even atMessageDot
 unfolding atMessageDot
 even-message = record { even = λ ts. rw (even-ident (ascii "message") .even ts, peek-solid ts) }
 
+-- one look or the other
+even-either : {test other : List Token → Bool} → Even test → Even other → Even (λ ts. test ts || other ts)
+even-either a b = record { even = λ ts. rw (a .even ts, b .even ts) }
+
 even-field : Even atField
 unfolding atField
 even-field =
-    record {
-      even = λ ts. rw (even-ident (ascii "category") .even ts, even-ident (ascii "kind") .even ts, even-ident (ascii "direction") .even ts, even-ident (ascii "severity") .even ts, even-ident (ascii "message") .even ts);
-    }
+    even-either (even-ident (ascii "category"))
+    (even-either (even-ident (ascii "kind"))
+    (even-either (even-ident (ascii "direction")) (even-either (even-ident (ascii "severity")) (even-ident (ascii "message")))))
 
 even-predicate : Even atPredicateMethod
 unfolding atPredicateMethod
 even-predicate =
-    record { even = λ ts. rw (even-text (ascii "where") .even ts, even-text (ascii "all") .even ts, even-text (ascii "any") .even ts, even-text (ascii "none") .even ts) }
+    even-either (even-text (ascii "where")) (even-either (even-text (ascii "all")) (even-either (even-text (ascii "any")) (even-text (ascii "none"))))
 
 even-plain : Even atPlainMethod
 unfolding atPlainMethod
-even-plain = record { even = λ ts. rw (even-text (ascii "features") .even ts, even-text (ascii "diagnostics") .even ts) }
+even-plain = even-either (even-text (ascii "features")) (even-text (ascii "diagnostics"))
 
 ends-solid : (second last : ℕ) (ts : List Token) → endsInComparison second last (solid ts) ≡ endsInComparison second last ts
 unfolding endsInComparison solid
@@ -242,7 +246,8 @@ blind-past {p} a =
       blind = λ ts. rw (eat-solid ts, eat-rest ts, strip-join (eatWs ts) (p (skipWs ts)), eat-strip ts) (a .ahead ts);
     }
 
-ahead-choose : {p q : Parser} (test : List Token → Bool) → ((ts : List Token) → test (solid ts) ≡ test (skipWs ts)) → Ahead p → Ahead q → Ahead (choose test p q)
+ahead-choose : {p q : Parser} (test : List Token → Bool) → ((ts : List Token) → test (solid ts) ≡ test (skipWs ts)) → Ahead p → Ahead q
+    → Ahead (choose test p q)
 unfolding choose
 ahead-choose {p} {q} test e a b = record { ahead = λ ts. choice (p (skipWs ts)) (q (skipWs ts)) (e ts) (a .ahead ts) (b .ahead ts) }
 
@@ -284,7 +289,9 @@ blind-remaining = record { blind = go }
         whether (isBlank t) (λ e. rw (e, solid, noBlanks) ih) (λ e. rw (e, solid, noBlanks, ih))
 
 -- the laws by which this is found along a parser's definition
-ruleset blindly = (blind-then, blind-choose, blind-node, blind-done, blind-fails, blind-fails-ahead, blind-eat, blind-bump, blind-expect, blind-expect-ident, blind-remaining, even-kind, even-text, even-ident, even-message, even-field, even-predicate, even-plain, even-compare, even-op)
+ruleset evenly = (even-kind, even-text, even-ident, even-message, even-field, even-predicate, even-plain, even-compare, even-op)
+
+ruleset blindly = (blind-then, blind-choose, blind-node, blind-done, blind-fails, blind-fails-ahead, blind-eat, blind-bump, blind-expect, blind-expect-ident, evenly)
 
 blind-step : {g : Mode → Parser} → ((m : Mode) → Blind (g m)) → (m : Mode) → Blind (step g m)
 unfolding step
@@ -295,15 +302,15 @@ blind-step a AndRest = search blindly
 blind-step a Atom = search blindly depth 20
 blind-step a Calls = search blindly depth 20
 
-blind-steps : (n : ℕ) (m : Mode) → Blind (steps n m)
-unfolding steps
+blind-steps : (n : ℕ) (m : Mode) → Blind (stepsFrom (λ o. done) n m)
+unfolding stepsFrom
 blind-steps zero m = blind-done
 blind-steps (suc n) m = blind-step (blind-steps n) m
 
 pub parse-solid : (m : Mode) (ts : List Token) → parse m (solid ts) ≡ strip (parse m ts)
 parse-solid m ts =
     let n = suc (3 * length ts + 2) in
-    rw (parse-steps n m (solid ts) (omega (arith, solid-length ts)), parse-steps n m ts (omega arith)) (blind-steps n m .blind ts)
+    rw (parse-steps (λ o. done) n m (solid ts) (omega (arith, solid-length ts)), parse-steps (λ o. done) n m ts (omega arith)) (blind-steps n m .blind ts)
 
 blind-parse : (m : Mode) → Blind (parse m)
 blind-parse m = record { blind = parse-solid m }
@@ -317,7 +324,7 @@ pipeline-solid = blind-pipeline .blind
 
 blind-root : Blind parseRoot
 unfolding parseRoot
-blind-root = search (blindly, blind-pipeline) depth 20
+blind-root = search (blindly, blind-remaining, blind-pipeline) depth 20
 
 pub root-solid : (ts : List Token) → parseRoot (solid ts) ≡ strip (parseRoot ts)
 root-solid = blind-root .blind

@@ -1,3 +1,5 @@
 pub mod BlankLaws
 pub mod ReadLaws
 pub mod TextLaws
+pub mod TokenLaws
+pub mod WholeLaws

@@ -1,18 +1,18 @@
 -- The parser reads the grammar: of the tokens of a predicate, of calls and of a pipeline it makes their trees, with no error. Assumes nothing.
-use mathlib.Core.Path.{_≡_, refl, sym, ap, _∙_}
+use mathlib.Core.Path.{_≡_, refl, sym, _∙_}
 use mathlib.Core.List.{List, [], _∷_, _++_, append-assoc}
 use mathlib.Core.Bool.{Bool, true, false, _&&_, _||_, and-true, and-false, or-true, or-false, true≢false}
-use Prim.Native.Nat.{ℕ, zero, suc, _+_, _-_, _≤_}
+use Prim.Native.Nat.{ℕ, _+_, _-_, _≤_}
 use Prim.Native.String.{String}
 use native.Mathlib.Omega.{arith}
 use borrow.Author.Tests.{ne-eqb}
 use lib.Dec.{eqb}
-use Rattle.syntax.specs.Kind.{WHITESPACE, IDENT, DOT, L-PAREN, R-PAREN, AND-KW, OR-KW, NONE, PIPELINE-EXPR, DOT-CALL, CALL-ARGS, BINARY-EXPR, UNARY-EXPR, PAREN-EXPR}
+use Rattle.syntax.specs.Kind.{WHITESPACE, IDENT, DOT, L-PAREN, R-PAREN, AND-KW, OR-KW, NONE, DOT-CALL, CALL-ARGS, BINARY-EXPR, UNARY-EXPR, PAREN-EXPR}
 use Rattle.syntax.proofs.BoolLaws.{whether}
 use Rattle.lexer.specs.Lex.{Token}
 use Rattle.parser.specs.Green.{Forest, nil, leaf, node, _⊹_}
 use Rattle.parser.specs.Look.{isBlank, atKind, opAhead, hasBinaryOpAtLevel, atPredicateMethod}
-use Rattle.parser.specs.Parse.{Parsed, Parser, done, join, _▹_, inNode, choose, eatWs, bump, expect, predicateArgs, parseMethod, parseDotCall, parseSource, Mode, OrExpr, OrRest, AndExpr, AndRest, Atom as AtomMode, Calls, step, parse, parsePipeline}
+use Rattle.parser.specs.Parse.{Parsed, Parser, join, _▹_, inNode, choose, eatWs, bump, expect, predicateArgs, parseMethod, parseDotCall, parseSource, Mode, OrExpr, OrRest, AndExpr, AndRest, Atom as AtomMode, Calls, step, parse, parsePipeline}
 use Rattle.parser.proofs.ParseLaws.{parse-pipeline-is}
 use Rattle.parser.proofs.StepLaws.{parse-step}
 use Rattle.grammar.specs.Grammar.{word, quoted, dot, opening, closing, equals, andWord, orWord, notWord, Field, category, kind, direction, severity, message, fieldWord, Part, OrGroup, AndGroup, Atom, Predicate, lastGroup, orThen, lastAtom, andThen, negated, bracketed, hasText, isConnected, messageHas, fieldIs, tokensOf, Source, components, analysis, Call, where-call, all-call, any-call, none-call, count-call, features-call, diagnostics-call, sourceTokens, withPredicate, callTokens, callsTokens}
@@ -90,7 +90,8 @@ module _ {op : ℕ} (low : AND-KW ≤ op) (high : op ≤ OR-KW) where
   scan d found (orThen g p) w =
       let r = opAhead op d true w in
       let e = scan-op d orWord (tokensOf p ++ w) (among op p) r (omega arith) (omega arith) (scan d true p w) in
-      rw (append-assoc (tokensOf g) (orWord ∷ tokensOf p) w, scan d found g (orWord ∷ (tokensOf p ++ w)), e) (before (among op g) (eqb d 0) (eqb OR-KW op || among op p) r)
+      rw (append-assoc (tokensOf g) (orWord ∷ tokensOf p) w, scan d found g (orWord ∷ (tokensOf p ++ w)), e)
+      (before (among op g) (eqb d 0) (eqb OR-KW op || among op p) r)
   scan d found (lastAtom a) w = rw (scan d found a w, among-atom op a)
   scan d found (andThen a g) w =
       let e = scan-op d andWord (tokensOf g ++ w) (among op g) (opAhead op d true w) (omega arith) (omega arith) (scan d true g w) in

@@ -1,17 +1,17 @@
 -- The tokens of texts made of texts: no token runs on from one into the next. Assumes nothing.
 use mathlib.Core.Path.{_≡_, refl, sym, ap, _∙_}
 use mathlib.Core.List.{List, [], _∷_, _++_, append-assoc, append-nil}
-use mathlib.Core.Bool.{Bool, true, false, _&&_, _||_, or-true}
+use mathlib.Core.Bool.{true, or-true}
 use Prim.Native.Nat.{ℕ}
 use borrow.Author.Tests.{eqb-true}
-use lib.Dec.{T, eqb}
+use lib.Dec.{T}
 use Rattle.syntax.specs.Kind.{WHITESPACE}
 use Rattle.syntax.specs.Text.{ascii, is}
 use Rattle.syntax.proofs.BoolLaws.{whether, true→T}
-use Rattle.lexer.specs.Lex.{Token, lex, hasQuote, isClosed, closed}
+use Rattle.lexer.specs.Lex.{Token, lex, hasQuote, closed}
 use Rattle.lexer.proofs.LexLaws.{Joint, joint-kind, lex-joint, lex-nil, lex-joint-first, closed-append}
 use Rattle.parser.specs.Look.{isBlank}
-use Rattle.grammar.specs.Grammar.{solid, word, quoted, dot, opening, closing, andWord, orWord, notWord, Field, category, kind, direction, severity, message, Part, OrGroup, AndGroup, Atom, Predicate, lastGroup, orThen, lastAtom, andThen, negated, bracketed, hasText, isConnected, messageHas, fieldIs, tokensOf, ReadWhole, Source, components, analysis, Call, where-call, all-call, any-call, none-call, count-call, features-call, diagnostics-call, sourceTokens, withPredicate, callTokens, callsTokens, ReadPipeline}
+use Rattle.grammar.specs.Grammar.{solid, word, dot, opening, closing, andWord, orWord, notWord, category, kind, direction, severity, message, Part, OrGroup, Predicate, lastGroup, orThen, lastAtom, andThen, negated, bracketed, hasText, isConnected, messageHas, fieldIs, tokensOf, ReadWhole, Source, components, analysis, Call, where-call, all-call, any-call, none-call, count-call, features-call, diagnostics-call, sourceTokens, withPredicate, callTokens, callsTokens, ReadPipeline}
 use Rattle.grammar.specs.Texts.{Method, where-method, all-method, any-method, none-method, methodName, methodCall, methodText, callText, bracketText, andText, orText, notText, andPredicate, orPredicate, notPredicate}
 use Rattle.grammar.proofs.BlankLaws.{solid-append}
 
@@ -64,7 +64,7 @@ closed-source components = refl
 closed-source (analysis name) = rw (quote-last name)
 
 -- blanks are closed
-closed-solid : (ts : List Token) → closed (solid ts) ≡ closed ts
+pub closed-solid : (ts : List Token) → closed (solid ts) ≡ closed ts
 unfolding closed solid
 closed-solid [] = refl
 closed-solid (t ∷ ts) =
@@ -73,11 +73,10 @@ closed-solid (t ∷ ts) =
 
 -- so are those of a text that is read whole
 whole-closed : {p : List ℕ} → ReadWhole p → T (closed (lex p))
-whole-closed {p} r = true→T (sym (closed-solid (lex p)) ∙ ap closed (r .whole) ∙ closed-predicate (r .predicate))
+whole-closed {p} r = rw (← (closed-solid (lex p)), r .whole) (true→T (closed-predicate (r .predicate)))
 
 pipeline-closed : {c : List ℕ} → ReadPipeline c → T (closed (lex c))
-pipeline-closed {c} r =
-    true→T (sym (closed-solid (lex c)) ∙ ap closed (r .whole) ∙ rw (closed-append (sourceTokens (r .source)) (callsTokens (r .calls)), closed-source (r .source), closed-calls (r .calls)))
+pipeline-closed {c} r = rw (← (closed-solid (lex c)), r .whole, closed-append, closed-source (r .source)) (true→T (closed-calls (r .calls)))
 
 -- ---- joints
 
@@ -142,7 +141,7 @@ unfolding callsTokens
 callsTokens-append [] ds = refl
 callsTokens-append (c ∷ cs) ds = rw (callsTokens-append cs ds) (sym (append-assoc (callTokens c) (callsTokens cs) (callsTokens ds)))
 
-method-tokens : (m : Method) (p : Predicate OrGroup) → callTokens (methodCall m p) ≡ withPredicate (methodName m) p
+pub method-tokens : (m : Method) (p : Predicate OrGroup) → callTokens (methodCall m p) ≡ withPredicate (methodName m) p
 method-tokens where-method p = refl
 method-tokens all-method p = refl
 method-tokens any-method p = refl

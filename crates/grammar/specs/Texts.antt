@@ -1,7 +1,7 @@
 -- Texts made of texts: a call behind a pipeline, and `and`, `or` and `not` of predicates in brackets. Assumes nothing: these are definitions.
 use Prim.Native.Nat.{ℕ}
 use Prim.Native.String.{String}
-use mathlib.Core.List.{List, [], _∷_, _++_}
+use mathlib.Core.List.{List, _++_}
 use Rattle.syntax.specs.Text.{ascii}
 use Rattle.grammar.specs.Grammar.{OrGroup, Predicate, lastGroup, orThen, lastAtom, andThen, negated, bracketed, Call, where-call, all-call, any-call, none-call}
 

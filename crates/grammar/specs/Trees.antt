@@ -1,4 +1,4 @@
--- The trees that the parser makes of the grammar, in its own words: no blanks stand in them. Assumes nothing: these are definitions.
+-- The trees that the parser makes of the grammar's tokens, and so without blanks. Assumes nothing: these are definitions.
 use Prim.Native.Nat.{ℕ}
 use Prim.Native.String.{String}
 use mathlib.Core.Bool.{Bool, true, false, _||_}
@@ -8,7 +8,7 @@ use Rattle.syntax.specs.Kind.{AND-KW, OR-KW, PIPELINE-EXPR, DOT-CALL, CALL-ARGS
 use Rattle.lexer.specs.Lex.{Token}
 use Rattle.parser.specs.Green.{Forest, nil, leaf, node, _⊹_}
 use Rattle.parser.specs.Parse.{Parsed}
-use Rattle.grammar.specs.Grammar.{word, quoted, dot, opening, closing, equals, andWord, orWord, notWord, fieldWord, Part, OrGroup, AndGroup, Atom, Predicate, lastGroup, orThen, lastAtom, andThen, negated, bracketed, hasText, isConnected, messageHas, fieldIs, Source, components, analysis, Call, where-call, all-call, any-call, none-call, count-call, features-call, diagnostics-call}
+use Rattle.grammar.specs.Grammar.{word, quoted, dot, opening, closing, equals, andWord, orWord, notWord, fieldWord, Part, OrGroup, Predicate, lastGroup, orThen, lastAtom, andThen, negated, bracketed, hasText, isConnected, messageHas, fieldIs, Source, components, analysis, Call, where-call, all-call, any-call, none-call, count-call, features-call, diagnostics-call}
 
 -- whether an operator, `and` or `or`, stands in a predicate outside its brackets
 unfoldable pub among : ℕ → {part : Part} → Predicate part → Bool
@@ -27,12 +27,12 @@ among op (fieldIs f w) = false
 unfoldable pub binary : Bool → Forest → Forest
 binary b f = elim b [ true ↦ node BINARY-EXPR f nil | false ↦ f ]
 
--- a string in its node, and a closing bracket after it
+-- a string in its node, and what follows it
 abbrev pub stringTree : List ℕ → Forest → Forest
 stringTree w f = node LITERAL (leaf (quoted w) nil) f
 
--- the operands and operators of a predicate. "The scan for `and` runs past an `or`": a group is a BINARY_EXPR also where an `and` stands
--- in a later group
+-- the operands and operators of a predicate. The scan for `and` runs past an `or`, so that an and group is a BINARY_EXPR also where an
+-- `and` stands in a later group alone
 unfoldable pub operands : {part : Part} → Predicate part → Forest
 unfolding among binary _⊹_
 operands (lastGroup g) = binary (among AND-KW g) (operands g)

@@ -1,5 +1,5 @@
 -- The steps of `parse` always suffice: one step more changes nothing. And taking a token that is seen brings the cursor ahead. Assumes nothing.
-use mathlib.Core.Path.{_≡_, refl, sym, ap}
+use mathlib.Core.Path.{_≡_, refl, sym, ap, _∙_}
 use mathlib.Core.List.{List, [], _∷_}
 use mathlib.Core.Bool.{Bool, true}
 use Prim.Native.Nat.{ℕ, zero, suc, _+_, _*_, _≤_, _<_}
@@ -12,7 +12,7 @@ use Rattle.syntax.specs.Text.{ascii}
 use Rattle.syntax.proofs.BoolLaws.{whether}
 use Rattle.lexer.specs.Lex.{Token}
 use Rattle.parser.specs.Look.{skipWs, headKind, currentKind, atKind, atText, atPredicateMethod, atPlainMethod, hasBinaryOpAtLevel}
-use Rattle.parser.specs.Parse.{Parser, next, join, _▹_, inNode, choose, eatWs, bump, expect, Mode, OrExpr, OrRest, AndExpr, AndRest, Atom, Calls, noArgs, noMethod, parseMethod, step, steps, parse}
+use Rattle.parser.specs.Parse.{Parser, done, next, join, _▹_, inNode, choose, eatWs, bump, expect, Mode, OrExpr, OrRest, AndExpr, AndRest, Atom, Calls, noArgs, noMethod, parseMethod, step, steps, parse}
 use Rattle.parser.specs.Writing.{Asks, Did}
 use Rattle.parser.specs.declared.Cursor.{Cursor}
 use Rattle.parser.proofs.WritingLaws.{asks-as, did-as}
@@ -169,12 +169,22 @@ step-alike Calls a =
 
 -- ---- so more steps than enough change nothing
 
+-- so many steps, one inside the other, and inside them anything
+unfoldable pub stepsFrom : (Mode → Parser) → ℕ → Mode → Parser
+unfolding step
+stepsFrom b zero m = b m
+stepsFrom b (suc n) m = step (stepsFrom b n) m
+
+steps-from : (b : Mode → Parser) (f g : ℕ) (m : Mode) (ts : List Token) → 3 * length ts + order m < f → 3 * length ts + order m < g
+    → stepsFrom b f m ts ≡ steps g m ts
+unfolding steps stepsFrom
+steps-from b zero g m ts x y = absurd (omega arith)
+steps-from b (suc f) zero m ts x y = absurd (omega arith)
+steps-from b (suc f) (suc g) m ts x y =
+    step-alike {n = length ts} m (record { keep = keeps-steps g; agree = λ o us l. steps-from b f g o us (omega arith) (omega arith) }) .same ts refl (omega arith)
+
 steps-same : (f g : ℕ) (m : Mode) (ts : List Token) → 3 * length ts + order m < f → 3 * length ts + order m < g → steps f m ts ≡ steps g m ts
-unfolding steps
-steps-same zero g m ts a b = absurd (omega arith)
-steps-same (suc f) zero m ts a b = absurd (omega arith)
-steps-same (suc f) (suc g) m ts a b =
-    step-alike {n = length ts} m (record { keep = keeps-steps g; agree = λ o us l. steps-same f g o us (omega arith) (omega arith) }) .same ts refl (omega arith)
+steps-same f g m ts x y = sym (steps-from (λ o. done) f f m ts x x) ∙ steps-from (λ o. done) f g m ts x y
 
 pub parse-step : (m : Mode) (ts : List Token) → parse m ts ≡ step parse m ts
 unfolding parse steps
@@ -184,10 +194,10 @@ parse-step m ts =
       agree = λ o us l. steps-same (3 * length ts + 2) (suc (3 * length us + 2)) o us (omega (arith, order-le m)) (omega (arith, order-le o));
     }) .same ts refl (omega arith)
 
--- as many steps as suffice, and more, do what `parse` does
-pub parse-steps : (f : ℕ) (m : Mode) (ts : List Token) → 3 * length ts + 2 < f → parse m ts ≡ steps f m ts
+-- as many steps as suffice, and more, do what `parse` does, whatever is inside them
+pub parse-steps : (b : Mode → Parser) (f : ℕ) (m : Mode) (ts : List Token) → 3 * length ts + 2 < f → parse m ts ≡ stepsFrom b f m ts
 unfolding parse
-parse-steps f m ts h = steps-same (suc (3 * length ts + 2)) f m ts (omega (arith, order-le m)) (omega (arith, order-le m))
+parse-steps b f m ts h = sym (steps-from b f (suc (3 * length ts + 2)) m ts (omega (arith, order-le m)) (omega (arith, order-le m)))
 
 pub asks-step : {ts : List Token} {tokens t e : List ℕ} {l : ℕ} {c : Cursor} (m : Mode) → Asks ts tokens t e l c (parse m)
     → Asks ts tokens t e l c (step parse m)
