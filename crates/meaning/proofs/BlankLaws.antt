@@ -8,17 +8,16 @@ use borrow.Author.Tests.{eqb-true, ne-eqb}
 use lib.Dec.{eqb}
 use Rattle.syntax.specs.Kind.{WHITESPACE, IDENT, STRING-LIT, INT-LIT, DOT-CALL, CALL-ARGS, LITERAL}
 use Rattle.syntax.proofs.BoolLaws.{whether}
-use Rattle.lexer.specs.Lex.{Token}
 use Rattle.parser.specs.Green.{Forest, nil, leaf, node}
 use Rattle.parser.specs.Look.{isBlank, isComparison}
 use Rattle.parser.specs.Parse.{Error, Parsed}
 use Rattle.grammar.specs.Blanks.{noBlanks, solidErrors, strip}
 use Rattle.predicate.specs.declared.atom.Member.{Member}
-use Rattle.predicate.specs.Truth.{content, firstText, literalOf, has, messageContains, compares, orAfter, joinedBy, joined, Sort, binary, unary, paren, ident, call, containing, compare, other, sortOf, settle, truths, firstOf, truth}
+use Rattle.predicate.specs.Truth.{firstText, literalOf, has, messageContains, orAfter, joinedBy, joined, Sort, binary, unary, paren, ident, call, containing, compare, other, sortOf, settle, truths, firstOf, truth}
 use Rattle.meaning.specs.Value.{Outcome, collection, boolean, refused, sortKind}
-use Rattle.meaning.specs.Calls.{Method, Call, gives, isEmpty, onMembers, byEntry, callGives, callsGive}
-use Rattle.meaning.specs.Pipeline.{sourceOf, methodOf, argsOf, callOf, callsOf, evalPipeline, diagnosticsOf, allComponents}
-use Rattle.meaning.specs.Compare.{compared, operatorOf, integerOf, decimal}
+use Rattle.meaning.specs.Calls.{Method, gives, isEmpty, onMembers, byEntry, callGives, callsGive}
+use Rattle.meaning.specs.Pipeline.{sourceOf, methodOf, argsOf, callOf, callsOf, evalPipeline}
+use Rattle.meaning.specs.Compare.{operatorOf, integerOf, decimal}
 use Rattle.meaning.specs.Outcome.{firstKind, firstInner, evalCountCompare, evalNode, outcomeOf}
 
 -- a token's text is looked for by a kind that is no blank's

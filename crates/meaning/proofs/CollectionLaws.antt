@@ -1,20 +1,20 @@
 -- A text that comes to a collection was read without errors, as a pipeline and nothing more. Assumes nothing.
-use mathlib.Core.Path.{_≡_, refl, sym, ap, _∙_, subst}
-use mathlib.Core.Bool.{Bool, true, false, cond, false≢true}
+use mathlib.Core.Path.{_≡_, refl, sym, _∙_, subst}
+use mathlib.Core.Bool.{Bool, true, false, cond}
 use mathlib.Core.List.{List, [], _∷_, _++_, cons≢nil}
 use Prim.Native.Nat.{ℕ, _<_}
 use native.Mathlib.Omega.{arith}
 use borrow.Author.Tests.{eqb-true}
-use lib.Dec.{eqb}
 use Rattle.syntax.specs.Kind.{ROOT, NONE}
 use Rattle.syntax.specs.declared.refusal.Refusal.the-variants.{ParseErrors}
 use Rattle.syntax.proofs.BoolLaws.{whether}
 use Rattle.lexer.specs.Lex.{Token, lex}
 use Rattle.parser.specs.Green.{_⊹_, tokensOf}
 use Rattle.parser.specs.Look.{isBlank, skipWs, atKind, hasCountCompareAhead}
-use Rattle.parser.specs.Parse.{Error, Parsed, choose, bump, eatWs, leftOver, parseSource, parsePipeline, parseExpr, parseRoot}
+use Rattle.parser.specs.Parse.{Error, Parsed, choose, bump, eatWs, leftOver, parsePipeline, parseExpr}
 use Rattle.parser.proofs.TreeLaws.{Keeps, keeping, keeps-parse, Kinds, kinds-lex, eat-rest}
-use Rattle.grammar.specs.Grammar.{solid}
+use Rattle.grammar.specs.Grammar.{solid, ReadPipeline}
+use Rattle.grammar.proofs.WholeLaws.{pipeline-whole}
 use Rattle.predicate.specs.declared.atom.Member.{Member}
 use Rattle.meaning.specs.Value.{Sort, Outcome, collection, refused}
 use Rattle.meaning.specs.Calls.{isEmpty}
@@ -88,11 +88,11 @@ ended true es r o h =
 ended false es r o h = let e = ended-without es (eatWs r .errors) (leftOver (eatWs r .rest) .errors) o h in record { clean = e .0; spent = e .1 }
 
 -- what comes to a collection was read without errors, up to blanks
-pub record ReadClean (c : List ℕ) : Type 0 where
-  pub clean : parsePipeline (lex c) .errors ≡ []
-  pub spent : solid (parsePipeline (lex c) .rest) ≡ []
+record ReadClean (c : List ℕ) : Type 0 where
+  clean : parsePipeline (lex c) .errors ≡ []
+  spent : solid (parsePipeline (lex c) .rest) ≡ []
 
-pub collection-clean : (image c : List ℕ) (sort : Sort) (members : List Member) → outcome image c ≡ collection sort members → ReadClean c
+collection-clean : (image c : List ℕ) (sort : Sort) (members : List Member) → outcome image c ≡ collection sort members → ReadClean c
 unfolding outcome parseExpr
 collection-clean image c sort members h =
     let x : Parsed = parsePipeline (lex c) in
@@ -104,3 +104,9 @@ collection-clean image c sort members h =
       clean = e .clean;
       spent = blanks-left (x .rest) (kinds-rest c) (rw (eat-rest (x .rest)) at (nothing-left (eatWs (x .rest) .rest) (e .spent)));
     }
+
+-- so it is a source with a list of calls
+pub collection-read : (image c : List ℕ) (sort : Sort) (members : List Member) → outcome image c ≡ collection sort members → ReadPipeline c
+collection-read image c sort members h =
+    let e : ReadClean c = collection-clean image c sort members h in
+    pipeline-whole c (e .clean) (e .spent)

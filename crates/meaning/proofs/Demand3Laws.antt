@@ -1,32 +1,31 @@
 -- Demand 3 holds. By the laws of texts (`call-outcome`), of truth (`predicate-holds`) and of members kept. Assumes nothing.
 use mathlib.Core.Path.{_≡_, refl, sym, ap, ap₂, _∙_}
-use mathlib.Core.Bool.{Bool, true, false, not, _&&_, _||_}
-use mathlib.Core.List.{List, [], _∷_, _++_, append-assoc, append-nil}
+use mathlib.Core.Bool.{Bool, false, not, _&&_, _||_}
+use mathlib.Core.List.{List, [], _++_, append-assoc}
 use Prim.Native.Nat.{ℕ, _+_}
 use lib.Dec.{eqb, ltb}
 use lib.ListN.{length}
 use Rattle.syntax.specs.Text.{ascii}
 use Rattle.syntax.specs.declared.refusal.Check.{Check}
-use Rattle.lexer.specs.Lex.{Token, lex}
+use Rattle.lexer.specs.Lex.{lex}
 use Rattle.parser.specs.Green.{leaf, nil}
 use Rattle.parser.specs.Parse.{Parsed, parse, OrExpr}
-use Rattle.grammar.specs.Grammar.{solid, closing, OrGroup, Predicate, tokensOf, where-call, all-call, any-call, none-call, count-call, ReadWhole, ReadPipeline}
-use Rattle.grammar.specs.Blanks.{noBlanks, strip}
-use Rattle.grammar.specs.Trees.{predicateTree}
-use Rattle.grammar.specs.Texts.{Method, where-method, all-method, any-method, none-method, methodCall, callText, andText, orText, notText}
-use Rattle.grammar.proofs.BlankLaws.{parse-solid}
-use Rattle.grammar.proofs.ReadLaws.{predicate-read, ended}
+use Rattle.grammar.specs.Grammar.{solid, closing, where-call, all-call, any-call, none-call, count-call, ReadWhole, ReadPipeline}
+use Rattle.grammar.specs.Blanks.{strip}
+use Rattle.grammar.specs.Texts.{where-method, all-method, any-method, none-method, andText, orText, notText}
+use Rattle.grammar.proofs.WholeLaws.{whole-tree}
 use Rattle.grammar.proofs.TextLaws.{call-pipeline, and-whole, or-whole, not-whole}
 use Rattle.predicate.specs.declared.atom.Member.{Member}
 use Rattle.predicate.specs.Truth.{truth, truths}
 use Rattle.meaning.specs.Value.{Sort, components, features, diagnostics, Outcome, collection, boolean, sortKind}
-use Rattle.meaning.specs.Calls.{Where, Count, quantifier, gives, byEntry, kept, every, some, isEmpty, trueFor, onMembers, callGives}
+use Rattle.meaning.specs.Calls.{Where, Count, quantifier, gives, byEntry, kept, isEmpty, trueFor, onMembers, callGives}
 use Rattle.meaning.specs.Outcome.{Lent, checkRun, outcome, run}
 use Rattle.meaning.specs.Holds.{holds}
-use Rattle.meaning.specs.Demand3.{trueOf, membersFor, countFor, howMany, whereText, anyText, noneText, allText, countText, ComesTo, Agree, Claim, Demand3}
+use Rattle.meaning.specs.Demand3.{trueOf, membersFor, countFor, howMany, whereText, anyText, noneText, allText, countText, ComesTo, Agree, Demand3}
 use Rattle.meaning.proofs.MemberLaws.{kept-kept, kept-same, kept-exchanged, kept-parts, kept-sums, some-count, none-count, every-count}
 use Rattle.meaning.proofs.BlankLaws.{truth-solid}
 use Rattle.meaning.proofs.HoldLaws.{predicate-holds, predicate-holds-before}
+use Rattle.meaning.proofs.CollectionLaws.{collection-read}
 use Rattle.meaning.proofs.PipelineLaws.{argsFor, callFor, after, after-nothing, means, call-outcome, count-outcome, call-means, collection-means}
 
 -- a rule that passes 1 to 8 comes to its outcome
@@ -46,11 +45,9 @@ module _ (image : List ℕ) where
   true-holds : {p : List ℕ} (r : ReadWhole p) (m : Member) → trueOf image p m ≡ holds image m (r .predicate)
   unfolding strip
   true-holds {p} r m =
-      let made : noBlanks (parse OrExpr (lex p) .made) ≡ predicateTree (r .predicate) =
-      ap (λ (x : Parsed). x .made)
-      (sym (parse-solid OrExpr (lex p)) ∙ ap (parse OrExpr) (r .whole ∙ sym (append-nil (tokensOf (r .predicate)))) ∙ predicate-read (r .predicate) [] ended)
-      in
-      sym (truth-solid image m (parse OrExpr (lex p) .made)) ∙ ap (truth image m) made ∙ predicate-holds image m (r .predicate)
+      sym (truth-solid image m (parse OrExpr (lex p) .made))
+      ∙ ap (λ (x : Parsed). truth image m (x .made)) (whole-tree r)
+      ∙ predicate-holds image m (r .predicate)
 
   -- `(P) and (Q)`, `(P) or (Q)`, `not (P)`
   module _ {p q : List ℕ} (r : ReadWhole p) (s : ReadWhole q) (m : Member) where
@@ -200,7 +197,8 @@ parts image members {p} r test =
 
 -- DEMAND 3
 pub demand-3 : Demand3
-demand-3 image c r sort members e p q s t =
+demand-3 image c sort members e p q s t =
+    let r : ReadPipeline c = collection-read image c sort members e in
     let h : Collects image r sort members = record { given = collection-means image r sort members e } in
     record {
       where-members = comes image _ (one-where h s [] ∙ after-nothing image _);

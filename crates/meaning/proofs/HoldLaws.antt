@@ -1,20 +1,18 @@
 -- The truth of a predicate's green tree is what the grammar says of its parts. Assumes nothing.
 use mathlib.Core.Path.{_≡_, refl, sym, ap, _∙_}
 use mathlib.Core.Bool.{Bool, true, false, not, _&&_, _||_, and-assoc, or-assoc, or-true, true≢false}
-use mathlib.Core.List.{List, [], _∷_, _++_}
-use Prim.Native.Nat.{ℕ, suc, _+_, _-_}
+use mathlib.Core.List.{List, _++_}
+use Prim.Native.Nat.{ℕ, suc, _-_}
 use native.Mathlib.Omega.{arith}
-use lib.Dec.{eqb}
 use lib.ListN.{length, take, length-append}
 use lib.Seq.{take-append-seam}
 use Rattle.syntax.specs.Kind.{IDENT, AND-KW, OR-KW, BINARY-EXPR, UNARY-EXPR, COMPARE-EXPR, CALL-EXPR, PAREN-EXPR, IDENT-EXPR, CONTAINS-EXPR}
 use Rattle.syntax.specs.Text.{ascii}
-use Rattle.syntax.proofs.BoolLaws.{whether}
 use Rattle.parser.specs.Green.{Forest, nil, leaf, node, _⊹_}
 use Rattle.grammar.specs.Grammar.{quoted, fieldWord, opening, closing, orWord, andWord, notWord, Part, OrGroup, AndGroup, Atom, Predicate, lastGroup, orThen, lastAtom, andThen, negated, bracketed, hasText, isConnected, messageHas, fieldIs, Field, category, kind, direction, severity, message}
 use Rattle.grammar.specs.Trees.{among, binary, operands, predicateTree}
 use Rattle.predicate.specs.declared.atom.Member.{Member}
-use Rattle.predicate.specs.Truth.{content, firstText, literalOf, has, messageContains, compares, joinedBy, joined, sortOf, settle, truths, firstOf, truth}
+use Rattle.predicate.specs.Truth.{content, firstText, literalOf, has, messageContains, compares, joinedBy, joined, sortOf, settle, truths, truth}
 use Rattle.meaning.specs.Holds.{holds}
 
 -- the content of a string is what stands between its quotes

@@ -1,11 +1,11 @@
 -- What a pipeline of the grammar comes to, and how a rule goes on after it. Assumes nothing.
 use mathlib.Core.Path.{_≡_, refl, sym, ap, _∙_, subst}
-use mathlib.Core.Bool.{Bool, true, false, cond, _&&_, and-false, false≢true}
+use mathlib.Core.Bool.{Bool, true, false, cond, and-false}
 use mathlib.Core.List.{List, [], _∷_, _++_, map, append-assoc, append-nil}
 use Prim.Native.Nat.{ℕ}
 use lib.Dec.{ltb}
 use lib.ListN.{length}
-use Rattle.syntax.specs.Kind.{R-PAREN, NONE, ROOT, PIPELINE-EXPR, COUNT-COMPARE-EXPR}
+use Rattle.syntax.specs.Kind.{R-PAREN, NONE, ROOT, COUNT-COMPARE-EXPR}
 use Rattle.syntax.specs.Text.{ascii}
 use Rattle.syntax.specs.declared.refusal.Refusal.the-variants.{ParseErrors, IntegerTooLarge}
 use Rattle.syntax.proofs.BoolLaws.{whether}
@@ -13,18 +13,17 @@ use Rattle.lexer.specs.Lex.{Token, lex}
 use Rattle.parser.specs.Green.{Forest, nil, leaf, node, _⊹_}
 use Rattle.parser.specs.Look.{isBlank, isComparison, endsInComparison, hasCountCompareAhead}
 use Rattle.parser.specs.Parse.{Error, Parsed, Parser, join, _▹_, inNode, choose, bump, eatWs, leftOver, Calls, parse, parsePipeline, parsePipelineOrCountCompare, parseRoot, parseExpr}
-use Rattle.grammar.specs.Grammar.{solid, dot, word, opening, closing, OrGroup, Predicate, Source, components, analysis, Call as Written, where-call, all-call, any-call, none-call, count-call, features-call, diagnostics-call, tokensOf, sourceTokens, callTokens, callsTokens, ReadWhole, ReadPipeline}
-use Rattle.grammar.specs.Blanks.{strip}
-use Rattle.grammar.specs.Trees.{predicateTree, withPredicateTree, callTree, callsTree, sourceTree, first, pipelineThen}
+use Rattle.grammar.specs.Grammar.{solid, dot, word, opening, closing, OrGroup, Predicate, Source, components, analysis, Call as Written, where-call, all-call, any-call, none-call, count-call, features-call, diagnostics-call, sourceTokens, callsTokens, ReadWhole, ReadPipeline}
+use Rattle.grammar.specs.Trees.{predicateTree, callTree, callsTree, sourceTree, pipelineThen}
 use Rattle.grammar.specs.Texts.{Method as Taking, methodName, methodCall, callText}
 use Rattle.grammar.proofs.BlankLaws.{root-solid}
-use Rattle.grammar.proofs.ReadLaws.{calls-read, pipeline-read}
+use Rattle.grammar.proofs.ReadLaws.{pipeline-read}
 use Rattle.grammar.proofs.TextLaws.{call-text, call-tokens, call-pipeline, count-then, count-tokens}
 use Rattle.predicate.specs.declared.atom.Member.{Member}
-use Rattle.predicate.specs.Truth.{firstText, literalOf, content}
+use Rattle.predicate.specs.Truth.{firstText, literalOf}
 use Rattle.meaning.specs.Value.{Sort, Outcome, collection, boolean, refused}
-use Rattle.meaning.specs.Calls.{Method, Where, All, Any, None, Count, Features, Diagnostics, Call, isEmpty, callGives, callsGive}
-use Rattle.meaning.specs.Pipeline.{allComponents, diagnosticsOf, sourceOf, methodOf, argsOf, callsOf, evalPipeline}
+use Rattle.meaning.specs.Calls.{Where, All, Any, None, Count, Features, Diagnostics, Call, isEmpty, callGives, callsGive}
+use Rattle.meaning.specs.Pipeline.{allComponents, diagnosticsOf, sourceOf, callsOf, evalPipeline}
 use Rattle.meaning.specs.Compare.{MAX-INTEGER, compares, against, compared, operatorOf, integerOf}
 use Rattle.meaning.specs.Outcome.{firstKind, firstInner, evalCountCompare, evalNode, outcomeOf, outcome}
 use Rattle.meaning.proofs.BlankLaws.{outcome-strip}

@@ -11,7 +11,7 @@ use Rattle.syntax.specs.Text.{ascii}
 use Rattle.syntax.specs.declared.refusal.Check.{Check}
 use Rattle.lexer.specs.Lex.{lex}
 use Rattle.parser.specs.Parse.{parse, OrExpr}
-use Rattle.grammar.specs.Grammar.{ReadWhole, ReadPipeline}
+use Rattle.grammar.specs.Grammar.{ReadWhole}
 use Rattle.grammar.specs.Texts.{where-method, all-method, any-method, none-method, callText, andText, orText, notText}
 use Rattle.predicate.specs.declared.atom.Member.{Member}
 use Rattle.predicate.specs.Truth.{truth}
@@ -92,8 +92,9 @@ pub record Claim (image c : List ℕ) (sort : Sort) (members : List Member) (p q
   pub all-by-count : ComesTo image (c ++ allText p []) (boolean (eqb (countFor image p members) (length members)) (isEmpty members))
 
 -- "For every well-formed image, either source, every list of calls after it that gives a collection C, the empty list too, and all
--- predicates P and Q that 01's grammar reads whole"
+-- predicates P and Q that 01's grammar reads whole". That the definitions give c a collection says that it was read without parse errors;
+-- law `collection-read` says that it then is a source with a list of calls
 abbrev pub Demand3 : Type 0
 Demand3 =
-    (image c : List ℕ) → ReadPipeline c → (sort : Sort) (members : List Member) → outcome image c ≡ collection sort members
+    (image c : List ℕ) (sort : Sort) (members : List Member) → outcome image c ≡ collection sort members
     → (p q : List ℕ) → ReadWhole p → ReadWhole q → Claim image c sort members p q

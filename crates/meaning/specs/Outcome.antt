@@ -1,7 +1,7 @@
 -- What running a rule on a board image comes to, and the verdict on it. Assumes nothing: these are definitions.
 use Prim.Native.Nat.{ℕ}
-use mathlib.Core.Bool.{Bool, true, false, cond}
-use mathlib.Core.List.{List, [], _∷_}
+use mathlib.Core.Bool.{true, false, cond}
+use mathlib.Core.List.{List}
 use lib.Dec.{eqb}
 use Rattle.syntax.specs.Kind.{COUNT-COMPARE-EXPR, NONE}
 use Rattle.syntax.specs.declared.refusal.Check.{Check}

@@ -4,7 +4,7 @@ use Prim.Native.Nat.{ℕ}
 use mathlib.Core.Bool.{Bool, true, false, cond}
 use mathlib.Core.List.{List, [], _∷_, map}
 use lib.Dec.{eqb}
-use Rattle.syntax.specs.Kind.{IDENT, DOT-CALL, CALL-ARGS, IDENT-EXPR, NONE}
+use Rattle.syntax.specs.Kind.{IDENT, DOT-CALL, CALL-ARGS, IDENT-EXPR}
 use Rattle.syntax.specs.Text.{ascii, same}
 use Rattle.syntax.specs.declared.refusal.Refusal.the-variants.{ParseErrors}
 use Rattle.parser.specs.Green.{Forest, nil, leaf, node}
