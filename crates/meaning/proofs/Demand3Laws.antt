@@ -1,5 +1,5 @@
 -- Demand 3 holds. By the laws of texts (`call-outcome`), of truth (`predicate-holds`) and of members kept. Assumes nothing.
-use mathlib.Core.Path.{_≡_, refl, sym, ap, ap₂, _∙_}
+use mathlib.Core.Path.{_≡_, sym, ap, ap₂, _∙_}
 use mathlib.Core.Bool.{Bool, false, not, _&&_, _||_}
 use mathlib.Core.List.{List, [], _++_, append-assoc}
 use Prim.Native.Nat.{ℕ, _+_}
@@ -17,12 +17,13 @@ use Rattle.grammar.proofs.WholeLaws.{whole-tree}
 use Rattle.grammar.proofs.TextLaws.{call-pipeline, and-whole, or-whole, not-whole}
 use Rattle.predicate.specs.declared.atom.Member.{Member}
 use Rattle.predicate.specs.Truth.{truth, truths}
-use Rattle.meaning.specs.Value.{Sort, components, features, diagnostics, Outcome, collection, boolean, sortKind}
-use Rattle.meaning.specs.Calls.{Where, Count, quantifier, gives, byEntry, kept, isEmpty, trueFor, onMembers, callGives}
+use Rattle.meaning.specs.Value.{Sort, Outcome, collection, boolean}
+use Rattle.meaning.specs.Calls.{kept, isEmpty, trueFor, onMembers, callGives}
 use Rattle.meaning.specs.Outcome.{Lent, checkRun, outcome, run}
 use Rattle.meaning.specs.Holds.{holds}
 use Rattle.meaning.specs.Demand3.{trueOf, membersFor, countFor, howMany, whereText, anyText, noneText, allText, countText, ComesTo, Agree, Demand3}
 use Rattle.meaning.proofs.MemberLaws.{kept-kept, kept-same, kept-exchanged, kept-parts, kept-sums, some-count, none-count, every-count}
+use Rattle.meaning.proofs.KindLaws.{where-taken, quantifier-taken, count-taken}
 use Rattle.meaning.proofs.BlankLaws.{truth-solid}
 use Rattle.meaning.proofs.HoldLaws.{predicate-holds, predicate-holds-before}
 use Rattle.meaning.proofs.CollectionLaws.{collection-read}
@@ -70,23 +71,6 @@ module _ (image : List ℕ) where
 
 -- ---- each call on a collection
 
-taken-where : (sort : Sort) (o : Outcome) → byEntry (gives Where (sortKind sort)) o ≡ o
-unfolding gives
-taken-where components o = refl
-taken-where features o = refl
-taken-where diagnostics o = refl
-
-taken-quantifier : (sort : Sort) (o : Outcome) → byEntry (quantifier (sortKind sort)) o ≡ o
-taken-quantifier components o = refl
-taken-quantifier features o = refl
-taken-quantifier diagnostics o = refl
-
-taken-count : (sort : Sort) (o : Outcome) → byEntry (gives Count (sortKind sort)) o ≡ o
-unfolding gives
-taken-count components o = refl
-taken-count features o = refl
-taken-count diagnostics o = refl
-
 module _ (image : List ℕ) (sort : Sort) (members : List Member) where
   module _ {p : List ℕ} (r : ReadWhole p) where
     kept-for : kept (trueFor image (argsFor (r .predicate))) members ≡ membersFor image p members
@@ -94,29 +78,29 @@ module _ (image : List ℕ) (sort : Sort) (members : List Member) where
 
     where-gives : callGives image (callFor (where-call (r .predicate))) (collection sort members) ≡ collection sort (membersFor image p members)
     unfolding callGives onMembers
-    where-gives = taken-where sort _ ∙ ap (collection sort) kept-for
+    where-gives = where-taken sort _ ∙ ap (collection sort) kept-for
 
     any-gives : callGives image (callFor (any-call (r .predicate))) (collection sort members) ≡ boolean (ltb 0 (countFor image p members)) false
     unfolding callGives onMembers
     any-gives =
-        taken-quantifier sort _
+        quantifier-taken sort _
         ∙ ap (λ (b : Bool). boolean b false) (some-count (trueFor image (argsFor (r .predicate))) members ∙ ap (λ (l : List Member). ltb 0 (length l)) kept-for)
 
     none-gives : callGives image (callFor (none-call (r .predicate))) (collection sort members) ≡ boolean (eqb (countFor image p members) 0) (isEmpty members)
     unfolding callGives onMembers
     none-gives =
-        taken-quantifier sort _
+        quantifier-taken sort _
         ∙ ap (λ (b : Bool). boolean b (isEmpty members)) (none-count (trueFor image (argsFor (r .predicate))) members ∙ ap (λ (l : List Member). eqb (length l) 0) kept-for)
 
     all-gives : callGives image (callFor (all-call (r .predicate))) (collection sort members) ≡ boolean (eqb (countFor image p members) (length members)) (isEmpty members)
     unfolding callGives onMembers
     all-gives =
-        taken-quantifier sort _
+        quantifier-taken sort _
         ∙ ap (λ (b : Bool). boolean b (isEmpty members)) (every-count (trueFor image (argsFor (r .predicate))) members ∙ ap (λ (l : List Member). eqb (length l) (length members)) kept-for)
 
   count-gives : callGives image (callFor count-call) (collection sort members) ≡ Outcome.count (length members)
   unfolding callGives onMembers
-  count-gives = taken-count sort _
+  count-gives = count-taken sort _
 
 -- ---- texts
 

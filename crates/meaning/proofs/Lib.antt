@@ -1,6 +1,7 @@
 pub mod CaseLaws
 pub mod VerdictLaws
 pub mod MemberLaws
+pub mod KindLaws
 pub mod BlankLaws
 pub mod HoldLaws
 pub mod PipelineLaws

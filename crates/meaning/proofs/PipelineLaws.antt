@@ -24,7 +24,7 @@ use Rattle.predicate.specs.Truth.{firstText, literalOf}
 use Rattle.meaning.specs.Value.{Sort, Outcome, collection, boolean, refused}
 use Rattle.meaning.specs.Calls.{Where, All, Any, None, Count, Features, Diagnostics, Call, isEmpty, callGives, callsGive}
 use Rattle.meaning.specs.Pipeline.{allComponents, diagnosticsOf, sourceOf, callsOf, evalPipeline}
-use Rattle.meaning.specs.Compare.{MAX-INTEGER, compares, against, compared, operatorOf, integerOf}
+use Rattle.meaning.specs.Compare.{MAX-INTEGER, operatorHolds, against, compared, operatorOf, integerOf}
 use Rattle.meaning.specs.Outcome.{firstKind, firstInner, evalCountCompare, evalNode, outcomeOf, outcome}
 use Rattle.meaning.proofs.BlankLaws.{outcome-strip}
 use Rattle.meaning.proofs.HoldLaws.{content-quoted}
@@ -140,9 +140,14 @@ tokens-outcome image s cs v =
     ∙ rw (pipeline-read s cs v, pipeline-tree image s cs (parse Calls v .made))
 
 -- a text has the outcome of its tokens that are no blanks
-text-outcome : (image t : List ℕ) → outcome image t ≡ outcomeOf image (parseRoot (solid (lex t)))
+pub text-outcome : (image t : List ℕ) → outcome image t ≡ outcomeOf image (parseRoot (solid (lex t)))
 unfolding outcome parseExpr
 text-outcome image t = sym (outcome-strip image (parseRoot (lex t))) ∙ ap (outcomeOf image) (sym (root-solid (lex t)))
+
+-- so two texts whose tokens that are no blanks agree have one outcome
+pub spacing-never-matters : (image t t′ : List ℕ) → solid (lex t) ≡ solid (lex t′) → outcome image t ≡ outcome image t′
+spacing-never-matters image t t′ e =
+    text-outcome image t ∙ ap (λ (ts : List Token). outcomeOf image (parseRoot ts)) e ∙ sym (text-outcome image t′)
 
 -- ---- "The comparison form is chosen by the last two non-blank tokens": after a closing bracket by what follows it alone
 
@@ -232,13 +237,13 @@ pub compared-collection : (operator integer : ℕ) (o : Outcome) → IsCollectio
 unfolding compared against
 compared-collection operator integer (collection sort members) h = go (ltb MAX-INTEGER integer) h
   where
-    go : (b : Bool) → IsCollection (cond b (refused IntegerTooLarge) (boolean (compares operator (length members) integer) false)) → ⊥
+    go : (b : Bool) → IsCollection (cond b (refused IntegerTooLarge) (boolean (operatorHolds operator (length members) integer) false)) → ⊥
     go true k = k
     go false k = k
 compared-collection operator integer (boolean value warned) h = h
 compared-collection operator integer (Outcome.count n) h = go (ltb MAX-INTEGER integer) h
   where
-    go : (b : Bool) → IsCollection (cond b (refused IntegerTooLarge) (boolean (compares operator n integer) false)) → ⊥
+    go : (b : Bool) → IsCollection (cond b (refused IntegerTooLarge) (boolean (operatorHolds operator n integer) false)) → ⊥
     go true k = k
     go false k = k
 compared-collection operator integer (refused r) h = h

@@ -149,3 +149,18 @@ unfoldable pub callsGive : List ℕ → List Call → Outcome → Outcome
 unfolding callGives
 callsGive image [] value = value
 callsGive image (call ∷ calls) value = callsGive image calls (callGives image call value)
+
+-- the kind of a value, or its refusal, and what the table makes of it: the kinds of a whole list of calls are settled without a member
+abbrev pub entryOf : Outcome → Entry
+entryOf (collection sort members) = next (sortKind sort)
+entryOf (boolean value warned) = next Kind.Boolean
+entryOf (Outcome.count n) = next Kind.Count
+entryOf (refused r) = refuse r
+
+abbrev pub entryAfter : Method → Entry → Entry
+entryAfter method (next kind) = gives method kind
+entryAfter method (refuse r) = refuse r
+
+abbrev pub entriesAfter : List Call → Entry → Entry
+entriesAfter [] entry = entry
+entriesAfter (call ∷ calls) entry = entriesAfter calls (entryAfter (call .method) entry)

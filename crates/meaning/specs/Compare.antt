@@ -29,8 +29,8 @@ unfolding decimalFrom
 decimal digits = decimalFrom 0 digits
 
 -- `>= > <= < == !=`, by the operator's kind
-unfoldable pub compares : ℕ → ℕ → ℕ → Bool
-compares operator left right =
+unfoldable pub operatorHolds : ℕ → ℕ → ℕ → Bool
+operatorHolds operator left right =
     cond (eqb operator GE) (leb right left)
     (cond (eqb operator GT) (ltb right left)
     (cond (eqb operator LE) (leb left right)
@@ -39,8 +39,8 @@ compares operator left right =
 
 -- a number of members or a count against the integer
 unfoldable pub against : ℕ → ℕ → ℕ → Outcome
-unfolding compares
-against operator left right = cond (ltb MAX-INTEGER right) (refused IntegerTooLarge) (boolean (compares operator left right) false)
+unfolding operatorHolds
+against operator left right = cond (ltb MAX-INTEGER right) (refused IntegerTooLarge) (boolean (operatorHolds operator left right) false)
 
 -- "A comparison takes a count or a collection, else 15"; the left side is judged before the integer
 unfoldable pub compared : ℕ → ℕ → Outcome → Outcome
