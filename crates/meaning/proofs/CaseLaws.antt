@@ -1,4 +1,4 @@
--- The starred cases of document 01, computed. Assumes nothing.
+-- The starred cases of document 01 and the corners, computed. Assumes nothing.
 use mathlib.Core.Path.{_≡_, refl}
 use mathlib.Core.List.{map}
 use Rattle.board.specs.Image.{littleEndian, word, pairOffset, pairLength, recordCount, field, text}
@@ -8,9 +8,16 @@ use Rattle.matching.specs.Search.{propertySetOf, propertyNameOf}
 use Rattle.matching.specs.Words.{categoryMatches, featureKindMatches}
 use Rattle.instance.specs.Instance.{componentConnected, featureConnected, hasProperty, featuresEnd, hasFeature}
 use Rattle.predicate.specs.Truth.{truth}
-use Rattle.meaning.specs.Cases.{Case, starred, ran}
+use Rattle.meaning.specs.Cases.{comesTo, starred, corners, ran}
 
 -- each case comes to what document 01 says
-pub starred-hold : map ran starred ≡ map (λ (c : Case). c .comesTo) starred
-unfolding starred ran truth boardA boardB littleEndian word pairOffset pairLength recordCount field text laid each allWholeRecords sectionsLaid sectionsFit stringsLaid stringsUtf8 stringsFit featuresLaid componentsFit featuresFit connectionsFit propertiesFit diagnosticsFit recordsFit collectionShort propertySetOf propertyNameOf categoryMatches featureKindMatches componentConnected featureConnected hasProperty featuresEnd hasFeature
-starred-hold = refl
+cases-hold : (map ran starred ≡ map comesTo starred) × (map ran corners ≡ map comesTo corners)
+unfolding starred corners ran truth boardA boardB littleEndian word pairOffset pairLength recordCount field text laid each allWholeRecords sectionsLaid sectionsFit stringsLaid stringsUtf8 stringsFit featuresLaid componentsFit featuresFit connectionsFit propertiesFit diagnosticsFit recordsFit collectionShort propertySetOf propertyNameOf categoryMatches featureKindMatches componentConnected featureConnected hasProperty featuresEnd hasFeature
+cases-hold = (refl, refl)
+
+-- THE STARRED CASES
+pub starred-hold : map ran starred ≡ map comesTo starred
+starred-hold = cases-hold .0
+
+pub corners-hold : map ran corners ≡ map comesTo corners
+corners-hold = cases-hold .1

@@ -96,7 +96,7 @@ unfoldable pub upFrom : ℕ → ℕ → List ℕ
 upFrom first zero = []
 upFrom first (suc n) = first ∷ upFrom (suc first) n
 
--- "features": those of each component, in order, with the component that owns them
+-- `features`: those of each component, in order, with the component that owns them
 unfoldable pub featuresOf : List ℕ → ℕ → List Member
 unfolding upFrom
 featuresOf image c = map (Feature c) (upFrom (firstFeature image c) (featuresEnd image c - firstFeature image c))

@@ -1,5 +1,5 @@
 -- DEMAND 3, in its own order, about texts. C is the text c, P and Q are the texts p and q, and z is any text set after. Refusals 5 to 8
--- turn away every image that is not well formed, so of those nothing is claimed. Assumes nothing: this is the statement; `demand-3` of
+-- turn away every image that is not well formed, so no run on one is spoken of. Assumes nothing: this is the statement; `demand-3` of
 -- proofs/Demand3Laws proves it.
 use Prim.Native.Nat.{ℕ, _+_}
 use mathlib.Core.Path.{_≡_}
