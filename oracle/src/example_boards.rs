@@ -50,7 +50,7 @@ fn others() -> Vec<(&'static str, Vec<u8>)> {
     ]
 }
 
-fn component<'a>(
+pub fn component<'a>(
     category: ComponentCategory,
     parent: Option<usize>,
     features: Vec<Feature<'a>>,
@@ -64,7 +64,7 @@ fn component<'a>(
     }
 }
 
-fn feature(name: &str, kind: FeatureKind, direction: Option<Direction>) -> Feature<'_> {
+pub fn feature(name: &str, kind: FeatureKind, direction: Option<Direction>) -> Feature<'_> {
     Feature {
         name,
         kind,
@@ -72,7 +72,7 @@ fn feature(name: &str, kind: FeatureKind, direction: Option<Direction>) -> Featu
     }
 }
 
-fn connection<'a>(
+pub fn connection<'a>(
     owner: usize,
     source: Option<&'a str>,
     target: Option<&'a str>,
@@ -84,7 +84,7 @@ fn connection<'a>(
     }
 }
 
-fn property<'a>(component: usize, set: &'a str, name: &'a str) -> Property<'a> {
+pub fn property<'a>(component: usize, set: &'a str, name: &'a str) -> Property<'a> {
     Property {
         component,
         set,
@@ -92,7 +92,7 @@ fn property<'a>(component: usize, set: &'a str, name: &'a str) -> Property<'a> {
     }
 }
 
-fn diagnostic<'a>(analysis: &'a str, severity: Severity, message: &'a str) -> Diagnostic<'a> {
+pub fn diagnostic<'a>(analysis: &'a str, severity: Severity, message: &'a str) -> Diagnostic<'a> {
     Diagnostic {
         analysis,
         severity,
@@ -190,7 +190,7 @@ fn words() -> Board<'static> {
 }
 
 /// A component that is its own parent, and rings of two and of three, where one is wired.
-fn rings() -> Board<'static> {
+pub fn rings() -> Board<'static> {
     let parents = [0, 2, 1, 4, 5, 3];
     let wired = [false, true, false, false, false, true];
     let ring = |(parent, wired)| {
@@ -278,14 +278,14 @@ fn largest() -> Vec<u8> {
 }
 
 /// Board A with a byte after the last section.
-fn refused_5() -> Vec<u8> {
+pub fn refused_5() -> Vec<u8> {
     let mut image = board_a().image();
     image.push(0);
     image
 }
 
 /// A character that begins in one string and ends in the next.
-fn refused_6() -> Vec<u8> {
+pub fn refused_6() -> Vec<u8> {
     let mut sections = names().sections();
     let at = sections.string("Größe") as usize;
     let [offset, length] = sections.strings[at];
@@ -299,7 +299,7 @@ fn refused_6() -> Vec<u8> {
 }
 
 /// Board A with category 14.
-fn refused_7() -> Vec<u8> {
+pub fn refused_7() -> Vec<u8> {
     let mut sections = board_a().sections();
     sections.components[1][0] = 14;
     let mut image = Vec::new();

@@ -18,7 +18,6 @@ mod generate_images;
 mod grammar;
 mod image;
 mod messages;
-#[cfg(test)]
 mod model;
 mod pieces;
 mod places;
@@ -26,12 +25,14 @@ mod proved;
 mod random;
 mod reading;
 mod replay;
+mod replay_predicates;
 mod replay_tokens;
 mod replay_trees;
 mod sections;
 mod sequences;
 mod sides;
 mod tables;
+mod truths;
 
 use std::env;
 use std::fs;
@@ -69,6 +70,9 @@ oracle: the four Rust files beside the proved code
   replay FOLDER
       writes the fixed cases to FOLDER/stdin and their answers, tokens, trees,
       errors and messages, to FOLDER/stdout
+  replay-predicates FOLDER
+      writes the fixed cases about predicates to FOLDER/stdin and their answers,
+      the members for which each is true, to FOLDER/stdout
   help
 
 compare, one and bench need the proved code: build with --features proved for
@@ -100,6 +104,7 @@ fn main() -> ExitCode {
         ("tree", [file]) => fs::File::open(file).and_then(|mut file| tree(&mut file)),
         ("images", [folder]) => example_boards::write(Path::new(folder)),
         ("replay", [folder]) => replay::write(Path::new(folder)),
+        ("replay-predicates", [folder]) => truths::write(Path::new(folder)),
         ("help", []) => io::stdout().write_all(HELP.as_bytes()),
         _ => return usage(),
     };

@@ -16,10 +16,15 @@ const SEED: u64 = 1;
 pub fn write(folder: &Path) -> io::Result<()> {
     let cases = cases();
     let (stdin, stdout) = texts(&cases)?;
+    write_files(folder, cases.len(), &stdin, &stdout)
+}
+
+/// Writes what so many cases ask and answer, and says how long both are.
+pub fn write_files(folder: &Path, count: usize, stdin: &[u8], stdout: &[u8]) -> io::Result<()> {
     fs::create_dir_all(folder)?;
-    fs::write(folder.join("stdin"), &stdin)?;
-    fs::write(folder.join("stdout"), &stdout)?;
-    let (count, asked, answered) = (cases.len(), stdin.len(), stdout.len());
+    fs::write(folder.join("stdin"), stdin)?;
+    fs::write(folder.join("stdout"), stdout)?;
+    let (asked, answered) = (stdin.len(), stdout.len());
     println!("{count} cases, stdin {asked} bytes, stdout {answered} bytes");
     Ok(())
 }
