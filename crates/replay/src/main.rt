@@ -39,10 +39,10 @@ fn replay_case(input: &[u8], at: usize, case: usize) -> usize
     requires { ⌜ at ≤ length (now input) ⌝ }
     ensures { λ r. ⌜ r ≤ length (now (input .entry)) ⌝ }
 {
-    let tokens = read_number(input, at);
-    let tree = read_number(input, tokens.end);
-    let errors = read_number(input, tree.end);
-    let length = read_number(input, errors.end);
+    let tokens = cases::read_number(input, at);
+    let tree = cases::read_number(input, tokens.end);
+    let errors = cases::read_number(input, tree.end);
+    let length = cases::read_number(input, errors.end);
     let first = length.end;
     let bytes = length.value;
     if input.len() - first <= bytes {
@@ -64,36 +64,6 @@ fn replay_case(input: &[u8], at: usize, case: usize) -> usize
     let end = first + bytes;
     run_case(&input[first..end], n, rows, found);
     end + 1
-}
-
-// A number of the input, and the place past the byte that ends it.
-struct Number {
-    value: usize,
-    end: usize,
-}
-
-// The decimal number at a place. One above 9,999,999 is cut short, so that sums of numbers and places stay small.
-fn read_number(input: &[u8], at: usize) -> Number
-    requires { ⌜ at ≤ length (now input) ⌝ }
-    ensures { λ r. ⌜ r .end ≤ length (now (input .entry)) ⌝ }
-{
-    let mut value = 0;
-    let mut end = at;
-    while end < input.len() {
-        let digit = input[end];
-        end += 1;
-        if digit < b'0' {
-            return Number { value, end };
-        }
-        if b'9' < digit {
-            return Number { value, end };
-        }
-        if 999_999 < value {
-            return Number { value, end };
-        }
-        value = value * 10 + ((digit - b'0') as usize);
-    }
-    Number { value, end }
 }
 
 // Reads a rule into tables of so many numbers.
