@@ -7,3 +7,4 @@ pub mod HoldLaws
 pub mod PipelineLaws
 pub mod CollectionLaws
 pub mod Demand3Laws
+pub mod WalkLaws

@@ -1,5 +1,6 @@
 pub mod Value
 pub mod Calls
+pub mod Walk
 pub mod Pipeline
 pub mod Compare
 pub mod Outcome
