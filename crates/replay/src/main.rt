@@ -2,6 +2,7 @@
 // `stdout` the answers of the Rust, both written by the oracle. A case is `TOKENS TREE ERRORS LENGTH:` and the rule's bytes and
 // a line feed: the lengths of the three tables in numbers, and of the rule in bytes.
 use libc::STDOUT_FILENO;
+use message::Message;
 use parser::Reading;
 use syntax::refusal;
 ghost use mathlib.Core.Path.{_≡_};
@@ -39,10 +40,10 @@ fn replay_case(input: &[u8], at: usize, case: usize) -> usize
     requires { ⌜ at ≤ length (now input) ⌝ }
     ensures { λ r. ⌜ r ≤ length (now (input .entry)) ⌝ }
 {
-    let tokens = cases::read_number(input, at);
-    let tree = cases::read_number(input, tokens.end);
-    let errors = cases::read_number(input, tree.end);
-    let length = cases::read_number(input, errors.end);
+    let tokens = read_number(input, at);
+    let tree = read_number(input, tokens.end);
+    let errors = read_number(input, tree.end);
+    let length = read_number(input, errors.end);
     let first = length.end;
     let bytes = length.value;
     if input.len() - first <= bytes {
@@ -60,10 +61,40 @@ fn replay_case(input: &[u8], at: usize, case: usize) -> usize
     if ROWS < found {
         return 0;
     }
-    print::number(b"case ", case as u64);
+    print_number(b"case ", case as u64);
     let end = first + bytes;
     run_case(&input[first..end], n, rows, found);
     end + 1
+}
+
+// A number of the input, and the place past the byte that ends it.
+struct Number {
+    value: usize,
+    end: usize,
+}
+
+// The decimal number at a place. One above 9,999,999 is cut short, so that sums of numbers and places stay small.
+fn read_number(input: &[u8], at: usize) -> Number
+    requires { ⌜ at ≤ length (now input) ⌝ }
+    ensures { λ r. ⌜ r .end ≤ length (now (input .entry)) ⌝ }
+{
+    let mut value = 0;
+    let mut end = at;
+    while end < input.len() {
+        let digit = input[end];
+        end += 1;
+        if digit < b'0' {
+            return Number { value, end };
+        }
+        if b'9' < digit {
+            return Number { value, end };
+        }
+        if 999_999 < value {
+            return Number { value, end };
+        }
+        value = value * 10 + ((digit - b'0') as usize);
+    }
+    Number { value, end }
 }
 
 // Reads a rule into tables of so many numbers.
@@ -110,15 +141,15 @@ fn print_reading(rule: &[u8], tokens: &mut [u32], tree: &mut [u32], errors: &mut
             errors: c,
         } => {
             print_tokens(tokens, a);
-            print::number(b"tokens ", a as u64);
-            print::rows(tree, b);
-            print::number(b"tree ", b as u64);
+            print_number(b"tokens ", a as u64);
+            print_tree(tree, b);
+            print_number(b"tree ", b as u64);
             print_errors(rule, errors, c);
-            print::number(b"errors ", c as u64);
+            print_number(b"errors ", c as u64);
             print_kept(tokens, a, tree, b, errors, c);
         }
         Reading::Refused(r) => {
-            print::number(b"refused ", refusal::number(r) as u64);
+            print_number(b"refused ", refusal::number(r) as u64);
             print_kept(tokens, 0, tree, 0, errors, 0);
         }
     }
@@ -159,7 +190,22 @@ fn print_tokens(table: &[u32], n: usize) {
             return;
         }
         let at = i * 3;
-        print::row_of_three(table[at], table[at + 1], table[at + 2]);
+        print_three(table[at], table[at + 1], table[at + 2]);
+        io::write_all(STDOUT_FILENO, b"\n");
+        i += 1;
+    }
+}
+
+// The same of a tree table.
+fn print_tree(table: &[u32], n: usize) {
+    let whole = table.len() / 4;
+    let mut i = 0;
+    while i < whole {
+        if i == n {
+            return;
+        }
+        let at = i * 4;
+        print_four(table[at], table[at + 1], table[at + 2], table[at + 3]);
         i += 1;
     }
 }
@@ -179,8 +225,44 @@ fn print_errors(rule: &[u8], table: &[u32], n: usize) {
 }
 
 fn print_error(rule: &[u8], form: u32, expected: u32, first: u32, end: u32) {
-    print::row(form, expected, first, end);
-    print::error(rule, form, expected, first, end);
+    print_four(form, expected, first, end);
+    let mut out = io::buffer();
+    let written = message::write_message(rule, form, expected, first, end, &mut out);
+    match written {
+        Message::Written(n) => print_front(&out, n),
+        Message::NoRoom => print_front(b"no room", 7),
+    }
+    io::write_all(STDOUT_FILENO, b"\n");
+}
+
+// Prints the first n bytes, or as many as there are.
+fn print_front(bytes: &[u8], n: usize) {
+    if n <= bytes.len() {
+        io::write_all(STDOUT_FILENO, &bytes[..n]);
+        return;
+    }
+    io::write_all(STDOUT_FILENO, bytes);
+}
+
+fn print_four(a: u32, b: u32, c: u32, d: u32) {
+    print_three(a, b, c);
+    io::write_all(STDOUT_FILENO, b" ");
+    io::print_decimal(STDOUT_FILENO, d as u64);
+    io::write_all(STDOUT_FILENO, b"\n");
+}
+
+fn print_three(a: u32, b: u32, c: u32) {
+    io::print_decimal(STDOUT_FILENO, a as u64);
+    io::write_all(STDOUT_FILENO, b" ");
+    io::print_decimal(STDOUT_FILENO, b as u64);
+    io::write_all(STDOUT_FILENO, b" ");
+    io::print_decimal(STDOUT_FILENO, c as u64);
+}
+
+fn print_number(label: &[u8], n: u64) {
+    io::write_all(STDOUT_FILENO, label);
+    io::print_decimal(STDOUT_FILENO, n);
+    io::write_all(STDOUT_FILENO, b"\n");
 }
 
 // Whether every number past the first n rows is as it was: of a token table, and of a tree or error table.

@@ -1,4 +1,6 @@
 // Reads a rule from standard input and prints its tree rows, the number of parse errors and their messages, or why it is refused.
+use libc::STDOUT_FILENO;
+use message::Message;
 use parser::Reading;
 use syntax::refusal;
 ghost use mathlib.Core.Path.{_≡_};
@@ -64,12 +66,43 @@ fn print_reading(rule: &[u8]) {
             tree: rows,
             errors: found,
         } => {
-            print::rows(&tree, rows);
-            print::number(b"errors ", found as u64);
+            print_rows(&tree, rows);
+            print_number(b"errors ", found as u64);
             print_messages(rule, &errors, found);
         }
-        Reading::Refused(r) => print::number(b"refused ", refusal::number(r) as u64),
+        Reading::Refused(r) => print_number(b"refused ", refusal::number(r) as u64),
     }
+}
+
+// Prints the first n rows of a table, or as many as it has.
+fn print_rows(table: &[u32], n: usize) {
+    let whole = table.len() / 4;
+    let mut i = 0;
+    while i < whole {
+        if i == n {
+            return;
+        }
+        let at = i * 4;
+        print_row(table[at], table[at + 1], table[at + 2], table[at + 3]);
+        i += 1;
+    }
+}
+
+fn print_row(kind: u32, level: u32, first: u32, end: u32) {
+    io::print_decimal(STDOUT_FILENO, kind as u64);
+    io::write_all(STDOUT_FILENO, b" ");
+    io::print_decimal(STDOUT_FILENO, level as u64);
+    io::write_all(STDOUT_FILENO, b" ");
+    io::print_decimal(STDOUT_FILENO, first as u64);
+    io::write_all(STDOUT_FILENO, b" ");
+    io::print_decimal(STDOUT_FILENO, end as u64);
+    io::write_all(STDOUT_FILENO, b"\n");
+}
+
+fn print_number(label: &[u8], n: u64) {
+    io::write_all(STDOUT_FILENO, label);
+    io::print_decimal(STDOUT_FILENO, n);
+    io::write_all(STDOUT_FILENO, b"\n");
 }
 
 // Prints the messages of the first n error rows, or of as many as there are.
@@ -81,7 +114,7 @@ fn print_messages(rule: &[u8], errors: &[u32], n: usize) {
             return;
         }
         let at = i * 4;
-        print::error(
+        print_message(
             rule,
             errors[at],
             errors[at + 1],
@@ -90,4 +123,23 @@ fn print_messages(rule: &[u8], errors: &[u32], n: usize) {
         );
         i += 1;
     }
+}
+
+fn print_message(rule: &[u8], form: u32, expected: u32, first: u32, end: u32) {
+    let mut out = io::buffer();
+    let written = message::write_message(rule, form, expected, first, end, &mut out);
+    match written {
+        Message::Written(n) => print_front(&out, n),
+        Message::NoRoom => print_front(b"a message too long to print", 27),
+    }
+    io::write_all(STDOUT_FILENO, b"\n");
+}
+
+// Prints the first n bytes, or as many as there are.
+fn print_front(bytes: &[u8], n: usize) {
+    if n <= bytes.len() {
+        io::write_all(STDOUT_FILENO, &bytes[..n]);
+        return;
+    }
+    io::write_all(STDOUT_FILENO, bytes);
 }

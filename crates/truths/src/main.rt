@@ -48,9 +48,9 @@ fn replay_case(input: &[u8], at: usize, case: usize) -> usize
     requires { ⌜ at ≤ length (now input) ⌝ }
     ensures { λ r. ⌜ r ≤ length (now (input .entry)) ⌝ }
 {
-    let image = cases::read_number(input, at);
-    let rule = cases::read_number(input, image.end);
-    let sort = cases::read_number(input, rule.end);
+    let image = read_number(input, at);
+    let rule = read_number(input, image.end);
+    let sort = read_number(input, rule.end);
     let first = sort.end;
     let bytes = image.value;
     let more = rule.value;
@@ -62,9 +62,39 @@ fn replay_case(input: &[u8], at: usize, case: usize) -> usize
         return 0;
     }
     let end = middle + more;
-    print::number(b"case ", case as u64);
+    print_number(b"case ", case as u64);
     run_case(&input[first..middle], &input[middle..end], sort.value);
     end + 1
+}
+
+// A number of the input, and the place past the byte that ends it.
+struct Number {
+    value: usize,
+    end: usize,
+}
+
+// The decimal number at a place. One above 9,999,999 is cut short, so that sums of numbers and places stay small.
+fn read_number(input: &[u8], at: usize) -> Number
+    requires { ⌜ at ≤ length (now input) ⌝ }
+    ensures { λ r. ⌜ r .end ≤ length (now (input .entry)) ⌝ }
+{
+    let mut value = 0;
+    let mut end = at;
+    while end < input.len() {
+        let digit = input[end];
+        end += 1;
+        if digit < b'0' {
+            return Number { value, end };
+        }
+        if b'9' < digit {
+            return Number { value, end };
+        }
+        if 999_999 < value {
+            return Number { value, end };
+        }
+        value = value * 10 + ((digit - b'0') as usize);
+    }
+    Number { value, end }
 }
 
 // Each `ensures` gives the length, which lending the array needs.
@@ -91,7 +121,7 @@ fn run_case(image: &[u8], rule: &[u8], sort: usize) {
             tree: rows,
             errors: found,
         } => check_case(image, rule, &tree, rows, found, sort),
-        Reading::Refused(r) => print::number(b"refused ", refusal::number(r) as u64),
+        Reading::Refused(r) => print_number(b"refused ", refusal::number(r) as u64),
     }
 }
 
@@ -99,12 +129,12 @@ fn check_case(image: &[u8], rule: &[u8], table: &[u32], rows: usize, errors: usi
     match board::check_image(image, COLLECTION) {
         Check::Passed => {
             if errors != 0 {
-                print::number(b"errors ", errors as u64);
+                print_number(b"errors ", errors as u64);
                 return;
             }
             run_rows(image, rule, table, rows, sort);
         }
-        Check::Refused(r) => print::number(b"refused ", refusal::number(r) as u64),
+        Check::Refused(r) => print_number(b"refused ", refusal::number(r) as u64),
     }
 }
 
@@ -204,4 +234,10 @@ fn print_truth(truth: bool) {
         return;
     }
     io::write_all(STDOUT_FILENO, b"0");
+}
+
+fn print_number(label: &[u8], n: u64) {
+    io::write_all(STDOUT_FILENO, label);
+    io::print_decimal(STDOUT_FILENO, n);
+    io::write_all(STDOUT_FILENO, b"\n");
 }

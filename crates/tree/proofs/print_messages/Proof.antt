@@ -20,41 +20,41 @@ returns c = search needs
 mul-at : tie.Need-mul-at Inv-loop μ-loop
 mul-at c = search needs
 
-mul-error : tie.Need-mul-error Inv-loop μ-loop
-mul-error c = search needs
+mul-print-message : tie.Need-mul-print-message Inv-loop μ-loop
+mul-print-message c = search needs
 
-shared-slice-read-error : tie.Need-shared-slice-read-error Inv-loop μ-loop
-shared-slice-read-error c = search needs
+shared-slice-read-print-message : tie.Need-shared-slice-read-print-message Inv-loop μ-loop
+shared-slice-read-print-message c = search needs
 
-add-error : tie.Need-add-error Inv-loop μ-loop
-add-error c = search needs
+add-print-message : tie.Need-add-print-message Inv-loop μ-loop
+add-print-message c = search needs
 
-mul-error-2 : tie.Need-mul-error-2 Inv-loop μ-loop
-mul-error-2 c = search needs
+mul-print-message-2 : tie.Need-mul-print-message-2 Inv-loop μ-loop
+mul-print-message-2 c = search needs
 
-shared-slice-read-error-2 : tie.Need-shared-slice-read-error-2 Inv-loop μ-loop
-shared-slice-read-error-2 c = search needs
+shared-slice-read-print-message-2 : tie.Need-shared-slice-read-print-message-2 Inv-loop μ-loop
+shared-slice-read-print-message-2 c = search needs
 
-add-error-2 : tie.Need-add-error-2 Inv-loop μ-loop
-add-error-2 c = search needs
+add-print-message-2 : tie.Need-add-print-message-2 Inv-loop μ-loop
+add-print-message-2 c = search needs
 
-mul-error-3 : tie.Need-mul-error-3 Inv-loop μ-loop
-mul-error-3 c = search needs
+mul-print-message-3 : tie.Need-mul-print-message-3 Inv-loop μ-loop
+mul-print-message-3 c = search needs
 
-shared-slice-read-error-3 : tie.Need-shared-slice-read-error-3 Inv-loop μ-loop
-shared-slice-read-error-3 c = search needs
+shared-slice-read-print-message-3 : tie.Need-shared-slice-read-print-message-3 Inv-loop μ-loop
+shared-slice-read-print-message-3 c = search needs
 
-add-error-3 : tie.Need-add-error-3 Inv-loop μ-loop
-add-error-3 c = search needs
+add-print-message-3 : tie.Need-add-print-message-3 Inv-loop μ-loop
+add-print-message-3 c = search needs
 
-mul-error-4 : tie.Need-mul-error-4 Inv-loop μ-loop
-mul-error-4 c = search needs
+mul-print-message-4 : tie.Need-mul-print-message-4 Inv-loop μ-loop
+mul-print-message-4 c = search needs
 
-shared-slice-read-error-4 : tie.Need-shared-slice-read-error-4 Inv-loop μ-loop
-shared-slice-read-error-4 c = search needs
+shared-slice-read-print-message-4 : tie.Need-shared-slice-read-print-message-4 Inv-loop μ-loop
+shared-slice-read-print-message-4 c = search needs
 
-error-requires : tie.Need-error-requires Inv-loop μ-loop
-error-requires c κs = search needs
+print-message-requires : tie.Need-print-message-requires Inv-loop μ-loop
+print-message-requires c κs = search needs
 
 add-i : tie.Need-add-i Inv-loop μ-loop
 add-i c = search needs
@@ -77,18 +77,18 @@ print-messages-spec =
     loop-holds
     returns
     mul-at
-    mul-error
-    shared-slice-read-error
-    add-error
-    mul-error-2
-    shared-slice-read-error-2
-    add-error-2
-    mul-error-3
-    shared-slice-read-error-3
-    add-error-3
-    mul-error-4
-    shared-slice-read-error-4
-    error-requires
+    mul-print-message
+    shared-slice-read-print-message
+    add-print-message
+    mul-print-message-2
+    shared-slice-read-print-message-2
+    add-print-message-2
+    mul-print-message-3
+    shared-slice-read-print-message-3
+    add-print-message-3
+    mul-print-message-4
+    shared-slice-read-print-message-4
+    print-message-requires
     add-i
     loop-less
     loop-again

@@ -2,17 +2,14 @@
 use Prim.Native.Nat.{_-_, _≤_}
 use lib.ListN.{length}
 use native.Mathlib.Omega.{arith}
-use Rattle.cases.proofs.read_number.Statement.{statement}
-use Rattle.cases.proofs.read_number.Tie as tie
+use Rattle.replay.proofs.read_number.Statement.{statement}
+use Rattle.replay.proofs.read_number.Tie as tie
 
 abbrev Inv-loop : tie.InvT-loop
 Inv-loop input at value₀ end₀ value end = (end ≤ length input) × (value ≤ 9999999)
 
 abbrev μ-loop : tie.MeasureT-loop
 μ-loop input at value₀ end₀ value end = length input - end
-
-returns : tie.Need-returns Inv-loop μ-loop
-returns c = (omega arith, omega arith)
 
 loop-holds : tie.Need-loop-holds Inv-loop μ-loop
 loop-holds c = omega arith
@@ -23,11 +20,14 @@ shared-slice-read-digit c = omega arith
 add-end : tie.Need-add-end Inv-loop μ-loop
 add-end c = omega arith
 
+returns : tie.Need-returns Inv-loop μ-loop
+returns c = omega arith
+
 returns-2 : tie.Need-returns-2 Inv-loop μ-loop
-returns-2 c = (omega arith, omega arith)
+returns-2 c = omega arith
 
 returns-3 : tie.Need-returns-3 Inv-loop μ-loop
-returns-3 c = (omega arith, omega arith)
+returns-3 c = omega arith
 
 mul-value : tie.Need-mul-value Inv-loop μ-loop
 mul-value c = omega arith
@@ -45,10 +45,7 @@ loop-again : tie.Need-loop-again Inv-loop μ-loop
 loop-again c = omega arith
 
 returns-4 : tie.Need-returns-4 Inv-loop μ-loop
-returns-4 c = (omega arith, omega arith)
-
-returns-5 : tie.Need-returns-5 Inv-loop μ-loop
-returns-5 c = (omega arith, omega arith)
+returns-4 c = omega arith
 
 pub read-number-spec : {M : Type 1} → statement M
 read-number-spec =
@@ -56,16 +53,15 @@ read-number-spec =
     (tie.spec
     Inv-loop
     μ-loop
-    returns
     loop-holds
     shared-slice-read-digit
     add-end
+    returns
     returns-2
     returns-3
-    returns-4
     mul-value
     cast-value
     add-value
     loop-less
     loop-again
-    returns-5)
+    returns-4)
