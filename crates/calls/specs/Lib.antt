@@ -1,0 +1,4 @@
+pub mod Table
+pub mod Answer
+pub mod Integer
+pub mod Numbers
