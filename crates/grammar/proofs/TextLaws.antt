@@ -8,10 +8,10 @@ use lib.Dec.{T}
 use Rattle.syntax.specs.Kind.{WHITESPACE}
 use Rattle.syntax.specs.Text.{ascii, is}
 use Rattle.syntax.proofs.BoolLaws.{whether, true→T}
-use Rattle.lexer.specs.Lex.{Token, lex, hasQuote, closed}
+use Rattle.lexer.specs.Lex.{Token, lex, hasQuote, isClosed, closed}
 use Rattle.lexer.proofs.LexLaws.{Joint, joint-kind, lex-joint, lex-nil, lex-joint-first, closed-append}
 use Rattle.parser.specs.Look.{isBlank}
-use Rattle.grammar.specs.Grammar.{solid, word, dot, opening, closing, andWord, orWord, notWord, category, kind, direction, severity, message, Part, OrGroup, Predicate, lastGroup, orThen, lastAtom, andThen, negated, bracketed, hasText, isConnected, messageHas, fieldIs, tokensOf, ReadWhole, Source, components, analysis, Call, where-call, all-call, any-call, none-call, count-call, features-call, diagnostics-call, sourceTokens, withPredicate, callTokens, callsTokens, ReadPipeline}
+use Rattle.grammar.specs.Grammar.{solid, word, quoted, dot, opening, closing, andWord, orWord, notWord, category, kind, direction, severity, message, Part, OrGroup, Predicate, lastGroup, orThen, lastAtom, andThen, negated, bracketed, hasText, isConnected, messageHas, fieldIs, tokensOf, ReadWhole, Source, components, analysis, Call, where-call, all-call, any-call, none-call, count-call, features-call, diagnostics-call, sourceTokens, withPredicate, callTokens, callsTokens, ReadPipeline}
 use Rattle.grammar.specs.Texts.{Method, where-method, all-method, any-method, none-method, methodName, methodCall, methodText, callText, bracketText, andText, orText, notText, andPredicate, orPredicate, notPredicate}
 use Rattle.grammar.proofs.BlankLaws.{solid-append}
 
@@ -22,6 +22,10 @@ unfolding hasQuote
 quote-last [] = refl
 quote-last (b ∷ w) = rw (quote-last w) (or-true (is "'" b))
 
+quoted-closed : (w : List ℕ) → isClosed (quoted w) ≡ true
+unfolding isClosed
+quoted-closed w = quote-last w
+
 closed-predicate : {part : Part} (p : Predicate part) → closed (tokensOf p) ≡ true
 unfolding closed tokensOf
 closed-predicate (lastGroup g) = closed-predicate g
@@ -30,14 +34,14 @@ closed-predicate (lastAtom a) = closed-predicate a
 closed-predicate (andThen a g) = rw (closed-append (tokensOf a) (andWord ∷ tokensOf g), closed-predicate a) (closed-predicate g)
 closed-predicate (negated a) = closed-predicate a
 closed-predicate (bracketed p) = rw (closed-append (tokensOf p) (closing ∷ []), closed-predicate p)
-closed-predicate (hasText w) = rw (quote-last w)
+closed-predicate (hasText w) = rw (quoted-closed w)
 closed-predicate isConnected = refl
-closed-predicate (messageHas w) = rw (quote-last w)
-closed-predicate (fieldIs category w) = rw (quote-last w)
-closed-predicate (fieldIs kind w) = rw (quote-last w)
-closed-predicate (fieldIs direction w) = rw (quote-last w)
-closed-predicate (fieldIs severity w) = rw (quote-last w)
-closed-predicate (fieldIs message w) = rw (quote-last w)
+closed-predicate (messageHas w) = rw (quoted-closed w)
+closed-predicate (fieldIs category w) = rw (quoted-closed w)
+closed-predicate (fieldIs kind w) = rw (quoted-closed w)
+closed-predicate (fieldIs direction w) = rw (quoted-closed w)
+closed-predicate (fieldIs severity w) = rw (quoted-closed w)
+closed-predicate (fieldIs message w) = rw (quoted-closed w)
 
 closed-brackets : (p : Predicate OrGroup) → closed (tokensOf p ++ (closing ∷ [])) ≡ true
 unfolding closed
@@ -61,7 +65,7 @@ closed-calls (c ∷ cs) = rw (closed-append (callTokens c) (callsTokens cs), clo
 closed-source : (s : Source) → closed (sourceTokens s) ≡ true
 unfolding closed
 closed-source components = refl
-closed-source (analysis name) = rw (quote-last name)
+closed-source (analysis name) = rw (quoted-closed name)
 
 -- blanks are closed
 pub closed-solid : (ts : List Token) → closed (solid ts) ≡ closed ts

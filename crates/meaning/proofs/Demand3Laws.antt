@@ -24,7 +24,7 @@ use Rattle.meaning.specs.Holds.{holds}
 use Rattle.meaning.specs.Demand3.{trueOf, membersFor, countFor, howMany, whereText, anyText, noneText, allText, countText, ComesTo, Agree, Demand3}
 use Rattle.meaning.proofs.MemberLaws.{kept-kept, kept-same, kept-exchanged, kept-parts, kept-sums, some-count, none-count, every-count}
 use Rattle.meaning.proofs.KindLaws.{where-taken, quantifier-taken, count-taken}
-use Rattle.meaning.proofs.BlankLaws.{truth-solid}
+use Rattle.meaning.proofs.SpacingLaws.{truth-solid}
 use Rattle.meaning.proofs.HoldLaws.{predicate-holds, predicate-holds-before}
 use Rattle.meaning.proofs.CollectionLaws.{collection-read}
 use Rattle.meaning.proofs.PipelineLaws.{argsFor, callFor, after, after-nothing, means, call-outcome, count-outcome, call-means, collection-means}

@@ -2,7 +2,7 @@ pub mod CaseLaws
 pub mod VerdictLaws
 pub mod MemberLaws
 pub mod KindLaws
-pub mod BlankLaws
+pub mod SpacingLaws
 pub mod HoldLaws
 pub mod PipelineLaws
 pub mod CollectionLaws

@@ -26,7 +26,7 @@ use Rattle.meaning.specs.Calls.{Where, All, Any, None, Count, Features, 
 use Rattle.meaning.specs.Pipeline.{allComponents, diagnosticsOf, sourceOf, callsOf, evalPipeline}
 use Rattle.meaning.specs.Compare.{MAX-INTEGER, operatorHolds, against, compared, operatorOf, integerOf}
 use Rattle.meaning.specs.Outcome.{firstKind, firstInner, evalCountCompare, evalNode, outcomeOf, outcome}
-use Rattle.meaning.proofs.BlankLaws.{outcome-strip}
+use Rattle.meaning.proofs.SpacingLaws.{outcome-strip}
 use Rattle.meaning.proofs.HoldLaws.{content-quoted}
 
 -- ---- the calls of the grammar, and those that are read from their trees
