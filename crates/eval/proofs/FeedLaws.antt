@@ -1,0 +1,199 @@
+-- Members sent one after the other, and what is kept of each. Assumes nothing.
+use mathlib.Core.Path.{_≡_, refl, sym, ap, _∙_, subst}
+use mathlib.Core.Bool.{Bool, true, false, _&&_, cond}
+use mathlib.Core.List.{List, [], _∷_, _++_, append-assoc, append-nil, map}
+use mathlib.Core.Option.{Option, none, some}
+use Prim.Native.Nat.{ℕ, _+_, _*_, _-_, _≤_, _<_}
+use native.Mathlib.Nat.{add-zero}
+use native.Mathlib.Omega.{arith}
+use lib.ListN.{length, length-append}
+use lib.Seq.{sets, length-sets}
+use Rattle.syntax.proofs.TableLaws.{sets-append}
+use Rattle.board.specs.Check.{COLLECTION-ROW}
+use Rattle.predicate.specs.declared.atom.Member.{Member}
+use Rattle.predicate.specs.declared.atom.Member.the-variants.{Component, Feature, Diagnostic}
+use Rattle.meaning.specs.Value.{rowOf, rowsOf}
+use Rattle.meaning.specs.Calls.{Method, Where, Count, Features, Diagnostics, Call, keep, kept, trueFor, featuresOf}
+use Rattle.meaning.specs.Walk.{isQuantifier, isLast, arrivals, lastCall, testIn, howMany}
+use Rattle.meaning.proofs.WalkLaws.{upTo, arrivals-append, arrivals-none, arrive-end, arrive-kept, arrive-dropped, arrive-passed, arrive-component, arrive-feature, arrive-diagnostic, arrive-last, last-none, last-here, last-later, how-many-none, how-many-append, how-many-most, rows-append, rows-length, made-turn, made-over, kept-turn, kept-skip, kept-over}
+use Rattle.eval.specs.Feed.{State, listed, arrive, fed, Fits}
+
+-- a state by its parts
+abbrev state : (arrived passed : ℕ) → List ℕ → State
+state arrived passed table = record { arrived = arrived; passed = passed; table = table }
+
+state-is : {a b c d : ℕ} {t u : List ℕ} → a ≡ b → c ≡ d → t ≡ u → state a c t ≡ state b d u
+state-is p q r = λ i. state (p i) (q i) (r i)
+
+-- ---- members arrive: none, and some after others
+
+pub arrive-nothing : (image : List ℕ) (last : Option Call) (s : State) → arrive image last [] s ≡ s
+unfolding arrive rowsOf howMany kept
+arrive-nothing image none s = state-is (add-zero (s .arrived)) (add-zero (s .passed)) refl
+arrive-nothing image (some call) s = state-is (add-zero (s .arrived)) (add-zero (s .passed)) refl
+
+pub arrive-append : (image : List ℕ) (last : Option Call) (xs ys : List Member) (s : State)
+    → arrive image last (xs ++ ys) s ≡ arrive image last ys (arrive image last xs s)
+unfolding arrive
+arrive-append image last xs ys s =
+    let parts = length-append xs ys in
+    state-is (omega (arith, parts)) (omega (arith, how-many-append (testIn image last) xs ys)) (rows last)
+  where
+    rows : (last : Option Call)
+        → sets (s .table) (COLLECTION-ROW * s .arrived) (rowsOf (listed last (xs ++ ys)))
+        ≡ sets (sets (s .table) (COLLECTION-ROW * s .arrived) (rowsOf (listed last xs))) (COLLECTION-ROW * (s .arrived + length xs)) (rowsOf (listed last ys))
+    rows none =
+        let place : COLLECTION-ROW * s .arrived + length (rowsOf xs) ≡ COLLECTION-ROW * (s .arrived + length xs) = omega (arith, rows-length xs) in
+        ap (sets (s .table) (COLLECTION-ROW * s .arrived)) (rows-append xs ys)
+        ∙ sets-append (rowsOf xs) (rowsOf ys) (s .table) (COLLECTION-ROW * s .arrived)
+        ∙ ap (λ (i : ℕ). sets (sets (s .table) (COLLECTION-ROW * s .arrived) (rowsOf xs)) i (rowsOf ys)) place
+    rows (some call) = refl
+
+-- ---- members are sent
+
+-- what arrives of members is what arrives of others, by calls with the same last one
+pub record Alike (image : List ℕ) (calls : List Call) (members : List Member) (later : List Call) (others : List Member) : Type 0 where
+  pub arrivals : arrivals image calls members ≡ arrivals image later others
+  pub last : lastCall calls ≡ lastCall later
+
+-- it is what arrives of some and then of others
+pub record Parts (image : List ℕ) (calls : List Call) (members first others : List Member) : Type 0 where
+  pub arrivals : arrivals image calls members ≡ arrivals image calls first ++ arrivals image calls others
+
+-- nothing arrives of members
+pub record Lost (image : List ℕ) (calls : List Call) (members : List Member) : Type 0 where
+  pub arrivals : arrivals image calls members ≡ []
+
+pub fed-alike : {image : List ℕ} {calls later : List Call} {members others : List Member} (s : State)
+    → Alike image calls members later others → fed image later others s ≡ fed image calls members s
+unfolding fed
+fed-alike s a = rw (a .arrivals, a .last)
+
+pub fed-lost : {image : List ℕ} {calls : List Call} {members : List Member} (s : State) → Lost image calls members → s ≡ fed image calls members s
+unfolding fed
+fed-lost {image} {calls} s l = sym (rw (l .arrivals) (arrive-nothing image (lastCall calls) s))
+
+pub fed-parts : {image : List ℕ} {calls : List Call} {members first others : List Member} (s : State) → Parts image calls members first others
+    → fed image calls members s ≡ fed image calls others (fed image calls first s)
+unfolding fed
+fed-parts {image} {calls} {members} {first} {others} s p =
+    ap (λ (ms : List Member). arrive image (lastCall calls) ms s) (p .arrivals)
+    ∙ arrive-append image (lastCall calls) (arrivals image calls first) (arrivals image calls others) s
+
+-- ---- one member at a call
+
+module _ (image : List ℕ) (call : Call) (calls : List Call) (m : Member) where
+  pub at-kept : call .method ≡ Where → trueFor image (call .args) m ≡ true → Alike image (call ∷ calls) (m ∷ []) calls (m ∷ [])
+  at-kept e t = record { arrivals = arrive-kept image call calls m e t; last = last-later call calls (rw e) }
+
+  pub at-dropped : call .method ≡ Where → trueFor image (call .args) m ≡ false → Lost image (call ∷ calls) (m ∷ [])
+  at-dropped e t = record { arrivals = arrive-dropped image call calls m e t }
+
+  pub at-passed : call .method ≡ Diagnostics → Alike image (call ∷ calls) (m ∷ []) calls (m ∷ [])
+  at-passed e = record { arrivals = arrive-passed image call calls m e; last = last-later call calls (rw e) }
+
+  -- the last call: it is counted, and tested by a quantifier
+  pub fed-last : (s : State) (b : Bool) → isLast (call .method) ≡ true → (isQuantifier (call .method) && trueFor image (call .args) m) ≡ b
+      → state (s .arrived + 1) (s .passed + cond b 1 0) (s .table) ≡ fed image (call ∷ calls) (m ∷ []) s
+  unfolding fed arrive howMany kept rowsOf
+  fed-last s b l e = rw (arrive-last image call calls m l, last-here call calls l, e) (go b)
+    where
+      go : (b : Bool) → state (s .arrived + 1) (s .passed + cond b 1 0) (s .table) ≡ state (s .arrived + 1) (s .passed + length (keep b m [])) (s .table)
+      go true = refl
+      go false = refl
+
+-- `features`
+module _ (image : List ℕ) (call : Call) (calls : List Call) (h : call .method ≡ Features) where
+  pub at-features : (c : ℕ) → Alike image (call ∷ calls) (Component c ∷ []) calls (featuresOf image c)
+  at-features c = record { arrivals = arrive-component image call calls h c; last = last-later call calls (rw h) }
+
+  pub at-feature : (c f : ℕ) → Lost image (call ∷ calls) (Feature c f ∷ [])
+  at-feature c f = record { arrivals = arrive-feature image call calls h c f }
+
+  pub at-diagnostic : (d : ℕ) → Lost image (call ∷ calls) (Diagnostic d ∷ [])
+  at-diagnostic d = record { arrivals = arrive-diagnostic image call calls h d }
+
+-- no call is left: its row is written
+pub fed-end : (image : List ℕ) (m : Member) (s : State)
+    → state (s .arrived + 1) (s .passed) (sets (s .table) (COLLECTION-ROW * s .arrived) (rowOf m)) ≡ fed image [] (m ∷ []) s
+unfolding fed arrive howMany kept rowsOf arrivals lastCall
+fed-end image m s = state-is refl (sym (add-zero (s .passed))) (ap (sets (s .table) (COLLECTION-ROW * s .arrived)) (sym (append-nil (rowOf m))))
+
+-- ---- room for members
+
+-- no more pass than arrive
+fewer-more : (image : List ℕ) (calls : List Call) (members : List Member) (s : State) → s .passed ≤ s .arrived
+    → fed image calls members s .passed ≤ fed image calls members s .arrived
+unfolding fed arrive
+fewer-more image calls members s h = omega (arith, how-many-most (testIn image (lastCall calls)) (arrivals image calls members))
+
+module _ {image : List ℕ} {calls : List Call} {members first others : List Member} {s : State} (p : Parts image calls members first others)
+    (f : Fits image calls members s) where
+  size : length (arrivals image calls members) ≡ length (arrivals image calls first) + length (arrivals image calls others)
+  size = ap length (p .arrivals) ∙ length-append (arrivals image calls first) (arrivals image calls others)
+
+  pub fits-first : Fits image calls first s
+  fits-first = record { room = omega (arith, f .room, size); fewer = f .fewer }
+
+  pub fits-others : Fits image calls others (fed image calls first s)
+  unfolding fed arrive
+  fits-others =
+      record {
+        room = omega (arith, f .room, size, length-sets (s .table) (COLLECTION-ROW * s .arrived) (rowsOf (listed (lastCall calls) (arrivals image calls first))));
+        fewer = fewer-more image calls first s (f .fewer);
+      }
+
+-- the same room for what arrives alike
+pub fits-alike : {image : List ℕ} {calls later : List Call} {members others : List Member} {s : State}
+    → Alike image calls members later others → Fits image calls members s → Fits image later others s
+fits-alike {s = s} a f =
+    record { room = subst (λ (ms : List Member). COLLECTION-ROW * (s .arrived + length ms) ≤ length (s .table)) (a .arrivals) (f .room); fewer = f .fewer }
+
+-- room for one member more, at the end of the calls or at the last
+pub fits-one : {image : List ℕ} {calls : List Call} {m : Member} {s : State} → arrivals image calls (m ∷ []) ≡ m ∷ [] → Fits image calls (m ∷ []) s
+    → COLLECTION-ROW * (s .arrived + 1) ≤ length (s .table)
+fits-one {s = s} e f = subst (λ (ms : List Member). COLLECTION-ROW * (s .arrived + length ms) ≤ length (s .table)) e (f .room)
+
+-- ---- a loop over members
+
+-- what is left to send comes to what all come to from the start, and has room
+pub record Feeding (image : List ℕ) (calls : List Call) (all : List Member) (start : State) (rest : List Member) (s : State) : Type 0 where
+  pub same : fed image calls rest s ≡ fed image calls all start
+  pub fits : Fits image calls rest s
+
+pub feeding-start : {image : List ℕ} {calls : List Call} {all : List Member} {start : State} → Fits image calls all start → Feeding image calls all start all start
+feeding-start f = record { same = refl; fits = f }
+
+module _ {image : List ℕ} {calls : List Call} {all : List Member} {start : State} {rest : List Member} {s : State} (p : Feeding image calls all start rest s) where
+  -- some are sent
+  pub feeding-on : {first others : List Member} {t : State} → Parts image calls rest first others → t ≡ fed image calls first s → Feeding image calls all start others t
+  feeding-on {first} {others} q e =
+      subst (Feeding image calls all start others) (sym e)
+      (record { same = sym (fed-parts s q) ∙ p .same; fits = fits-others q (p .fits) })
+
+  -- one is passed over
+  pub feeding-skip : {others : List Member} → Alike image calls rest calls others → Feeding image calls all start others s
+  feeding-skip a = record { same = fed-alike s a ∙ p .same; fits = fits-alike a (p .fits) }
+
+  -- none is left
+  pub feeding-end : Lost image calls rest → s ≡ fed image calls all start
+  feeding-end l = fed-lost s l ∙ p .same
+
+-- the members in their turn: made of the numbers from one up to an end
+module _ (image : List ℕ) (calls : List Call) (make : ℕ → Member) (first end : ℕ) where
+  pub turn : first < end → Parts image calls (map make (upTo first end)) (make first ∷ []) (map make (upTo (first + 1) end))
+  turn h = record { arrivals = made-turn image calls make first end h }
+
+  pub over : end ≤ first → Lost image calls (map make (upTo first end))
+  over h = record { arrivals = made-over image calls make first end h }
+
+-- and of those the ones that pass a test
+module _ (image : List ℕ) (calls : List Call) (passes : Member → Bool) (make : ℕ → Member) (first end : ℕ) where
+  pub turn-kept : first < end → passes (make first) ≡ true → Parts image calls (kept passes (map make (upTo first end))) (make first ∷ []) (kept passes (map make (upTo (first + 1) end)))
+  turn-kept h t = record { arrivals = kept-turn image calls passes make first end h t }
+
+  pub turn-skipped : first < end → passes (make first) ≡ false → Alike image calls (kept passes (map make (upTo first end))) calls (kept passes (map make (upTo (first + 1) end)))
+  turn-skipped h t = record { arrivals = kept-skip image calls passes make first end h t; last = refl }
+
+  pub over-kept : end ≤ first → Lost image calls (kept passes (map make (upTo first end)))
+  over-kept h = record { arrivals = kept-over image calls passes make first end h }

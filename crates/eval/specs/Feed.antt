@@ -1,0 +1,57 @@
+-- Members sent through calls one after the other, and what is kept of those that arrive: how many, how many of them pass the last call's
+-- test, and, where the calls come to a collection, their rows. Assumes nothing: these are definitions.
+use Prim.Native.Nat.{ℕ, _+_, _*_, _≤_}
+use mathlib.Core.List.{List, []}
+use mathlib.Core.Option.{Option, none, some}
+use lib.ListN.{length}
+use lib.Seq.{sets}
+use Rattle.board.specs.Check.{COLLECTION-ROW}
+use Rattle.predicate.specs.declared.atom.Member.{Member}
+use Rattle.meaning.specs.Value.{rowsOf, withMembers}
+use Rattle.meaning.specs.Calls.{Call}
+use Rattle.meaning.specs.Walk.{arrivals, lastCall, testIn, howMany}
+use Rattle.eval.specs.declared.walk.Tally.{Tally}
+
+-- how far members were sent: how many arrived, how many of those passed, and the collection table
+pub record State : Type 0 where
+  pub arrived : ℕ
+  pub passed : ℕ
+  pub table : List ℕ
+
+abbrev pub stateOf : Tally → List ℕ → State
+stateOf tally table = record { arrived = tally .arrived; passed = tally .passed; table = table }
+
+-- the members whose rows are written: all, or none where a last call makes no collection of them
+abbrev pub listed : Option Call → List Member → List Member
+listed none members = members
+listed (some call) members = []
+
+-- members arrive
+unfoldable pub arrive : (image : List ℕ) → Option Call → List Member → State → State
+unfolding howMany rowsOf
+arrive image last members s =
+    record {
+      arrived = s .arrived + length members;
+      passed = s .passed + howMany (testIn image last) members;
+      table = sets (s .table) (COLLECTION-ROW * s .arrived) (rowsOf (listed last members));
+    }
+
+-- members are sent through calls
+unfoldable pub fed : (image : List ℕ) → List Call → List Member → State → State
+unfolding arrive arrivals lastCall
+fed image calls members s = arrive image (lastCall calls) (arrivals image calls members) s
+
+-- the table has a row for each that arrives, and no more passed than arrived
+pub record Fits (image : List ℕ) (calls : List Call) (members : List Member) (s : State) : Type 0 where
+  pub room : COLLECTION-ROW * (s .arrived + length (arrivals image calls members)) ≤ length (s .table)
+  pub fewer : s .passed ≤ s .arrived
+
+-- all members of a source were sent, from a table that held `table`
+unfoldable pub walked : (image : List ℕ) → List Call → List Member → List ℕ → State
+unfolding arrivals lastCall howMany withMembers
+walked image calls members table =
+    record {
+      arrived = length (arrivals image calls members);
+      passed = howMany (testIn image (lastCall calls)) (arrivals image calls members);
+      table = withMembers (listed (lastCall calls) (arrivals image calls members)) table;
+    }

@@ -1,0 +1,3 @@
+// eval.rs: what a rule comes to on a board.
+pub mod ready;
+pub mod walk;
