@@ -12,11 +12,11 @@ use Rattle.predicate.specs.declared.atom.Member.{Member}
 use Rattle.predicate.specs.declared.Truth.{Truth}
 use Rattle.predicate.specs.declared.Operands.{Operands}
 use Rattle.predicate.specs.Truth.{orAfter, joinedBy, joined, sortOf, settle, truths, truth}
-use Rattle.predicate.specs.Rows.{ROW, kindAt, levelAt, forestFrom, nodeAt, isBelow, ofNode, pastBelow}
+use Rattle.predicate.specs.Rows.{ROW, kindAt, levelAt, forestFrom, childrenAt, nodeAt, isRow, isBelow, ofNode, pastBelow}
 use Rattle.predicate.specs.Eval.{FoundAt, FoundNowhere, Skips, Evaluated, Inner, joinedFrom, Joined, Operand, Joins}
 use Rattle.predicate.proofs.RowLaws.{row-there, below-row, row-below, passed-row, passed-stop}
 use Rattle.predicate.proofs.AtomLaws.{node-truth, of-kind}
-use Rattle.predicate.proofs.ForestLaws.{forest-below, forest-ends, forest-token, forest-node, forest-skip, passed-passed, found-passed, found-level, found-kind, Ignores, ignored-none, ignored-found}
+use Rattle.predicate.proofs.ForestLaws.{children-none, forest-below, forest-ends, forest-token, forest-node, forest-skip, passed-passed, found-passed, found-level, found-kind, Ignores, ignored-none, ignored-found}
 
 -- a node by the rows below its own
 module _ (rule image tree : List ℕ) (m : Member) where
@@ -24,6 +24,10 @@ module _ (rule image tree : List ℕ) (m : Member) where
   pub truth-missing : (at : ℕ) → length tree < at + ROW → false ≡ truth image m (nodeAt rule tree at)
   unfolding truth truths nodeAt
   truth-missing at h = sym (rw (lt-leb (at + ROW) (length tree) h))
+
+  pub args-missing : (at : ℕ) → isRow tree at ≡ false → false ≡ truth image m (childrenAt rule tree at)
+  unfolding truth truths
+  args-missing at h = sym (ap (truth image m) (children-none rule tree at h))
 
   module _ (at : ℕ) (h : at + ROW ≤ length tree) where
     pub truth-binary : kindAt tree at ≡ BINARY-EXPR → truth image m (nodeAt rule tree at) ≡ joinedFrom rule image tree m (levelAt tree at) (record { at = at + ROW; or = false; before = true })
@@ -191,7 +195,7 @@ module _ {rule image tree : List ℕ} {m : Member} where
         next = skips-at tree at e (j .next);
       }
 
-  inner-value : (at : ℕ) {l : ℕ} {r : Truth} → l ≡ levelAt tree at → Inner rule image tree m l (at + ROW) r → r .value ≡ truth image m (forestFrom rule tree (levelAt tree at + 1) (at + ROW))
+  pub inner-value : (at : ℕ) {l : ℕ} {r : Truth} → l ≡ levelAt tree at → Inner rule image tree m l (at + ROW) r → r .value ≡ truth image m (childrenAt rule tree at)
   inner-value at e i = i .value ∙ ap (λ (l : ℕ). truth image m (forestFrom rule tree (l + 1) (at + ROW))) e
 
   pub evaluated-unary : {l at : ℕ} {r : Truth} → at + ROW ≤ length tree → kindAt tree at ≡ UNARY-EXPR → l ≡ levelAt tree at → Inner rule image tree m l (at + ROW) r → Evaluated rule image tree m at (record { value = not (r .value); next = r .next })

@@ -6,12 +6,12 @@ use mathlib.Core.List.{List, [], _∷_, cons≢nil}
 use Prim.Native.Nat.{ℕ, _+_, _-_, _≤_, _<_}
 use native.Mathlib.Omega.{arith}
 use lib.Dec.{eqb, ltb}
-use lib.ListN.{length, getD, drop}
+use lib.ListN.{length, getD, drop, drop-of-length-le}
 use borrow.Author.Tests.{lt-ltb, le-ltb, eqb-true, eqb-false, ltb-true, ltb-false}
 use Rattle.syntax.specs.Kind.{ROOT}
 use Rattle.syntax.proofs.BoolLaws.{both}
 use Rattle.parser.specs.Green.{Forest, nil, leaf, node}
-use Rattle.predicate.specs.Rows.{ROW, Place, below, past, token, child, placeOf, grown, bytesBetween, forest, kindAt, levelAt, textAt, forestFrom, isRow, isBelow, rowsFrom, pastBelow}
+use Rattle.predicate.specs.Rows.{ROW, Place, below, past, token, child, placeOf, grown, bytesBetween, forest, kindAt, levelAt, textAt, forestFrom, childrenAt, isRow, isBelow, rowsFrom, pastBelow}
 use Rattle.predicate.specs.Eval.{FoundAt, FoundNowhere, Skips}
 use Rattle.predicate.proofs.RowLaws.{row-there, row-missing, drop-row, few, short-forest}
 
@@ -60,6 +60,11 @@ module _ (rule tree : List ℕ) (level at : ℕ) where
     pub forest-node : levelAt tree at ≡ level → ROOT ≤ kindAt tree at
         → forestFrom rule tree level at ≡ node (kindAt tree at) (forestFrom rule tree (level + 1) (at + ROW)) (forestFrom rule tree level (at + ROW))
     forest-node e k = by-place child (place-child level (kindAt tree at) (levelAt tree at) e k)
+
+-- what is no whole row has no children
+pub children-none : (rule tree : List ℕ) (at : ℕ) → isRow tree at ≡ false → childrenAt rule tree at ≡ nil
+unfolding forestFrom forest
+children-none rule tree at h = ap (forest rule (levelAt tree at + 1)) (drop-of-length-le tree {i = at + ROW} (omega (arith, row-missing tree at h)))
 
 -- no forest is below a level where no row is
 pub forest-ends : (rule tree : List ℕ) (level at : ℕ) → isBelow tree level at ≡ false → forestFrom rule tree (level + 1) at ≡ nil

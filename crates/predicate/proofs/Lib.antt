@@ -1,5 +1,6 @@
 pub mod RowLaws
 pub mod ForestLaws
+pub mod NodeLaws
 pub mod AtomLaws
 pub mod EvalLaws
 pub mod ReadBackLaws

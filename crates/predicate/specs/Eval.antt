@@ -1,4 +1,4 @@
--- What the evaluator's functions give; no caller of the crate needs this file. Assumes nothing: these are definitions.
+-- What the evaluator's functions give; no public contract needs this file. Assumes nothing: these are definitions.
 use Prim.Native.Nat.{ℕ, _+_, _≤_, _<_}
 use mathlib.Core.Path.{_≡_}
 use mathlib.Core.Bool.{Bool, true, false}

@@ -5,6 +5,7 @@ use mathlib.Core.List.{List, [], _∷_}
 use lib.Dec.{eqb, ltb, leb}
 use lib.ListN.{length, getD, take, drop}
 use Rattle.syntax.specs.Kind.{ROOT}
+use Rattle.matching.specs.declared.search.Found.{Found}
 use Rattle.parser.specs.Green.{Forest, nil, leaf, node}
 
 -- the numbers of a tree row: kind, level, first byte, end byte
@@ -55,6 +56,10 @@ unfoldable pub forestFrom : List ℕ → List ℕ → ℕ → ℕ → Forest
 unfolding forest
 forestFrom rule tree level at = forest rule level (drop at tree)
 
+-- the children of the node whose row is at a place; none where no whole row is there
+abbrev pub childrenAt : List ℕ → List ℕ → ℕ → Forest
+childrenAt rule tree at = forestFrom rule tree (levelAt tree at + 1) (at + ROW)
+
 -- the node whose row is at a place; nothing where no whole row is there
 unfoldable pub nodeAt : List ℕ → List ℕ → ℕ → Forest
 unfolding forestFrom
@@ -91,6 +96,16 @@ rowsFrom test level (k ∷ m ∷ []) = []
 rowsFrom test level (k ∷ m ∷ first ∷ []) = []
 rowsFrom test level (k ∷ m ∷ first ∷ end ∷ rows) =
     cond (ltb m level) [] (cond (eqb m level && test k) (k ∷ m ∷ first ∷ end ∷ rows) (rowsFrom test level rows))
+
+-- the place in a table where rows begin that are the last of it; none where there are none
+unfoldable pub placeIn : List ℕ → List ℕ → Found
+placeIn tree [] = Found.Absent
+placeIn tree (x ∷ rows) = Found.At (length tree - length (x ∷ rows))
+
+-- the place of the first row at a level, from a place on, that passes, before one that is above the level
+unfoldable pub firstRow : (ℕ → Bool) → List ℕ → ℕ → ℕ → Found
+unfolding rowsFrom placeIn
+firstRow test tree level from = placeIn tree (rowsFrom test level (drop from tree))
 
 -- the rows below a level that rows begin with are passed over
 unfoldable pub pastBelow : ℕ → List ℕ → List ℕ

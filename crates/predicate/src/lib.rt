@@ -1,6 +1,7 @@
 // eval.rs, "Predicate evaluation": what a predicate says of one member. The Rust has a function for each sort of member; here they are
 // one, as they differ only in the atoms, which `atom` has. It reads the rows of the predicate's tree once, in their order.
 pub mod atom;
+pub mod node;
 pub mod rows;
 
 use atom::Member;
@@ -10,7 +11,7 @@ ghost use mathlib.Core.Path.{_≡_};
 ghost use Prim.Native.Nat.{_+_, _≤_, _<_, _^_};
 ghost use lib.ListN.{length};
 ghost use Rattle.predicate.specs.Truth.{truth, orAfter};
-ghost use Rattle.predicate.specs.Rows.{ROW, nodeAt};
+ghost use Rattle.predicate.specs.Rows.{ROW, childrenAt, nodeAt};
 ghost use Rattle.predicate.specs.Eval.{Evaluated, Inner, Operand, Joins, Joined};
 
 // The truth of a node, and the place of the row after its last.
@@ -38,6 +39,18 @@ pub fn eval_predicate(rule: &[u8], image: &[u8], tree: &[u32], member: Member, a
     }
     let node = eval_node(rule, image, tree, member, at);
     node.value
+}
+
+// The same of the first node inside the one whose row is at a place, as the predicate in a CALL_ARGS; false where there is none.
+pub fn eval_args(rule: &[u8], image: &[u8], tree: &[u32], member: Member, at: usize) -> bool
+    ensures { λ r. ⌜ r ≡ truth (now (image .entry)) member (childrenAt (now (rule .entry)) (now (tree .entry)) at) ⌝ }
+{
+    if !rows::is_row(tree, at) {
+        return false;
+    }
+    let level = rows::level_at(tree, at);
+    let inner = eval_inner(rule, image, tree, member, level, at + rows::ROW);
+    inner.value
 }
 
 fn eval_node(rule: &[u8], image: &[u8], tree: &[u32], member: Member, at: usize) -> Truth

@@ -80,7 +80,7 @@ pub(crate) fn skip_below(tree: &[u32], level: usize, from: usize) -> usize
 }
 
 // Whether a row is at a place and is below a level.
-pub(crate) fn is_below(tree: &[u32], level: usize, at: usize) -> bool
+pub fn is_below(tree: &[u32], level: usize, at: usize) -> bool
     ensures { λ r. ⌜ r ≡ isBelow (now (tree .entry)) level at ⌝ }
 {
     if !is_row(tree, at) {

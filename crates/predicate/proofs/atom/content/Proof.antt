@@ -1,5 +1,5 @@
 -- `atom::content` lends the part of a string that `content` takes. Assumes nothing.
-use Rattle.predicate.proofs.AtomLaws.{content-none, content-part}
+use Rattle.predicate.proofs.NodeLaws.{content-none, content-part}
 use borrow.Author.Needs.{needs}
 use Rattle.predicate.proofs.atom.content.Statement.{statement}
 use Rattle.predicate.proofs.atom.content.Tie as tie

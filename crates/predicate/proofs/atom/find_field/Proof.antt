@@ -1,7 +1,8 @@
 -- `atom::find_field` lends the text of a node's first word. Assumes nothing.
 use mathlib.Core.Path.{_∙_}
 use native.Mathlib.Omega.{arith}
-use Rattle.predicate.proofs.AtomLaws.{found-at, found-nowhere, text-none, text-found}
+use Rattle.predicate.proofs.AtomLaws.{found-at, found-nowhere}
+use Rattle.predicate.proofs.NodeLaws.{text-none, text-found}
 use borrow.Author.Needs.{needs}
 use Rattle.predicate.proofs.atom.find_field.Statement.{statement}
 use Rattle.predicate.proofs.atom.find_field.Tie as tie

@@ -2,7 +2,8 @@
 use mathlib.Core.Path.{ap, _∙_}
 use native.Mathlib.Omega.{arith}
 use Rattle.predicate.specs.Truth.{content}
-use Rattle.predicate.proofs.AtomLaws.{found-at, found-nowhere, literal-none, literal-empty, literal-text}
+use Rattle.predicate.proofs.AtomLaws.{found-at, found-nowhere}
+use Rattle.predicate.proofs.NodeLaws.{literal-none, literal-empty, literal-text}
 use borrow.Author.Needs.{needs}
 use Rattle.predicate.proofs.atom.find_string_literal.Statement.{statement}
 use Rattle.predicate.proofs.atom.find_string_literal.Tie as tie

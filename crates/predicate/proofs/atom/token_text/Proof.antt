@@ -1,7 +1,7 @@
 -- `atom::token_text` lends the part of the rule that `textAt` takes. Assumes nothing.
 use Prim.Native.Nat.{_+_}
 use native.Mathlib.Omega.{arith}
-use Rattle.predicate.proofs.AtomLaws.{bytes-none, bytes-past, bytes-long}
+use Rattle.predicate.proofs.NodeLaws.{bytes-none, bytes-past, bytes-long}
 use borrow.Author.Needs.{needs}
 use Rattle.predicate.proofs.atom.token_text.Statement.{statement}
 use Rattle.predicate.proofs.atom.token_text.Tie as tie
