@@ -6,17 +6,23 @@ use mathlib.Core.Option.{Option, none, some}
 use Prim.Native.Nat.{ℕ, _+_, _*_, _-_, _≤_, _<_}
 use native.Mathlib.Nat.{add-zero}
 use native.Mathlib.Omega.{arith}
-use lib.ListN.{length, length-append}
+use lib.ListN.{length, getD, length-append}
 use lib.Seq.{sets, length-sets}
 use Rattle.syntax.proofs.TableLaws.{sets-append}
 use Rattle.board.specs.Check.{COLLECTION-ROW}
 use Rattle.predicate.specs.declared.atom.Member.{Member}
 use Rattle.predicate.specs.declared.atom.Member.the-variants.{Component, Feature, Diagnostic}
 use Rattle.meaning.specs.Value.{rowOf, rowsOf}
-use Rattle.meaning.specs.Calls.{Method, Where, Count, Features, Diagnostics, Call, keep, kept, trueFor, featuresOf}
+use Rattle.meaning.specs.Calls.{Method, Where, Count, Features, Diagnostics, Call, methodNumber, keep, kept, trueFor, featuresOf}
 use Rattle.meaning.specs.Walk.{isQuantifier, isLast, arrivals, lastCall, testIn, howMany}
 use Rattle.meaning.proofs.WalkLaws.{upTo, arrivals-append, arrivals-none, arrive-end, arrive-kept, arrive-dropped, arrive-passed, arrive-component, arrive-feature, arrive-diagnostic, arrive-last, last-none, last-here, last-later, how-many-none, how-many-append, how-many-most, rows-append, rows-length, made-turn, made-over, kept-turn, kept-skip, kept-over}
-use Rattle.eval.specs.Feed.{State, listed, arrive, fed, Fits}
+use Rattle.predicate.specs.Truth.{truth}
+use Rattle.predicate.specs.Rows.{childrenAt}
+use Rattle.calls.specs.Table.{methodAt}
+use Rattle.eval.specs.declared.walk.Tally.{Tally}
+use Rattle.eval.specs.Ready.{CALL-ROW, callIn, callsFrom}
+use Rattle.eval.specs.Feed.{State, stateOf, listed, arrive, fed, Fits, Arrives}
+use Rattle.eval.proofs.ReadyLaws.{calls-at, calls-over, method-is, method-past, last-between, quantifier-of, count-no-quantifier}
 
 -- a state by its parts
 abbrev state : (arrived passed : ℕ) → List ℕ → State
@@ -197,3 +203,89 @@ module _ (image : List ℕ) (calls : List Call) (passes : Member → Bool) (make
 
   pub over-kept : end ≤ first → Lost image calls (kept passes (map make (upTo first end)))
   over-kept h = record { arrivals = kept-over image calls passes make first end h }
+
+-- ---- a member at the last call
+
+module _ (rule image tree : List ℕ) (method args : ℕ) (m : Member) (t : Tally) where
+  abbrev asked : Bool
+  asked = truth image m (childrenAt rule tree args)
+
+  pub arrives-counted : method ≡ methodNumber Count → Arrives rule image tree method args m t (record { arrived = t .arrived + 1; passed = t .passed })
+  arrives-counted e = record { arrived = refl; passed = sym (rw (count-no-quantifier method e) (add-zero (t .passed))) }
+
+  module _ (l : isLast (methodAt method) ≡ true) (h : method ≡ methodNumber Count → ⊥) where
+    pub arrives-true : asked ≡ true → Arrives rule image tree method args m t (record { arrived = t .arrived + 1; passed = t .passed + 1 })
+    arrives-true e = record { arrived = refl; passed = sym (rw (quantifier-of method l h, e)) }
+
+    pub arrives-false : asked ≡ false → Arrives rule image tree method args m t (record { arrived = t .arrived + 1; passed = t .passed })
+    arrives-false e = record { arrived = refl; passed = sym (rw (quantifier-of method l h, e) (add-zero (t .passed))) }
+
+-- ---- one member at the row of a call
+
+module _ (rule image tree rows : List ℕ) (i : ℕ) where
+  -- the calls from this row on, and from the next
+  abbrev calls : List Call
+  calls = callsFrom rule tree rows (CALL-ROW * i)
+
+  abbrev later : List Call
+  later = callsFrom rule tree rows (CALL-ROW * (i + 1))
+
+  abbrev method : ℕ
+  method = getD rows (CALL-ROW * i) 0
+
+  abbrev args : ℕ
+  args = getD rows (CALL-ROW * i + 1) 0
+
+  module _ (h : CALL-ROW * i + CALL-ROW ≤ length rows) where
+    abbrev call : Call
+    call = callIn rule tree method args
+
+    here : (P : List Call → Type 0) → P (call ∷ later) → P calls
+    here P p = subst P (sym (calls-at rule tree rows i h)) p
+
+    pub here-kept : (m : Member) → method ≡ methodNumber Where → truth image m (childrenAt rule tree args) ≡ true → Alike image calls (m ∷ []) later (m ∷ [])
+    here-kept m e t = here (λ cs. Alike image cs (m ∷ []) later (m ∷ [])) (at-kept image call later m (method-is method Where e) t)
+
+    pub here-dropped : (m : Member) → method ≡ methodNumber Where → truth image m (childrenAt rule tree args) ≡ false → Lost image calls (m ∷ [])
+    here-dropped m e t = here (λ cs. Lost image cs (m ∷ [])) (at-dropped image call later m (method-is method Where e) t)
+
+    pub here-passed : (m : Member) → methodNumber Features < method → Alike image calls (m ∷ []) later (m ∷ [])
+    here-passed m l = here (λ cs. Alike image cs (m ∷ []) later (m ∷ [])) (at-passed image call later m (method-past method l))
+
+    pub here-features : (m : Member) (c : ℕ) → method ≡ methodNumber Features → m ≡ Component c → Alike image calls (m ∷ []) later (featuresOf image c)
+    here-features m c e q = here (λ cs. Alike image cs (m ∷ []) later (featuresOf image c)) (subst (λ (m : Member). Alike image (call ∷ later) (m ∷ []) later (featuresOf image c)) (sym q) (at-features image call later (method-is method Features e) c))
+
+    pub here-feature : (m : Member) (c f : ℕ) → method ≡ methodNumber Features → m ≡ Feature c f → Lost image calls (m ∷ [])
+    here-feature m c f e q = here (λ cs. Lost image cs (m ∷ [])) (subst (λ (m : Member). Lost image (call ∷ later) (m ∷ [])) (sym q) (at-feature image call later (method-is method Features e) c f))
+
+    pub here-diagnostic : (m : Member) (d : ℕ) → method ≡ methodNumber Features → m ≡ Diagnostic d → Lost image calls (m ∷ [])
+    here-diagnostic m d e q = here (λ cs. Lost image cs (m ∷ [])) (subst (λ (m : Member). Lost image (call ∷ later) (m ∷ [])) (sym q) (at-diagnostic image call later (method-is method Features e) d))
+
+    -- a call that is none of these is the last
+    pub here-last : (method ≡ methodNumber Where → ⊥) → (method ≡ methodNumber Features → ⊥) → method ≤ methodNumber Features → isLast (methodAt method) ≡ true
+    here-last w f l = last-between method w f l
+
+    pub here-arrives : (m : Member) (t r : Tally) (table : List ℕ) → isLast (methodAt method) ≡ true → Arrives rule image tree method args m t r
+        → stateOf r table ≡ fed image calls (m ∷ []) (stateOf t table)
+    here-arrives m t r table l a =
+        state-is (a .arrived) (a .passed) refl
+        ∙ here (λ cs. state (t .arrived + 1) (t .passed + cond (isQuantifier (methodAt method) && truth image m (childrenAt rule tree args)) 1 0) table ≡ fed image cs (m ∷ []) (stateOf t table))
+        (fed-last image call later m (stateOf t table) (isQuantifier (methodAt method) && truth image m (childrenAt rule tree args)) l refl)
+
+    -- there is room for it
+    pub here-room : (m : Member) (s : State) → isLast (methodAt method) ≡ true → Fits image calls (m ∷ []) s → COLLECTION-ROW * (s .arrived + 1) ≤ length (s .table)
+    here-room m s l f = here (λ cs. Fits image cs (m ∷ []) s → COLLECTION-ROW * (s .arrived + 1) ≤ length (s .table)) (fits-one (arrive-last image call later m l)) f
+
+  -- no row is left
+  module _ (h : length rows < CALL-ROW * i + CALL-ROW) where
+    over-end : (P : List Call → Type 0) → P [] → P calls
+    over-end P p = subst P (sym (calls-over rule tree rows i h)) p
+
+    pub end-room : (m : Member) (s : State) → Fits image calls (m ∷ []) s → COLLECTION-ROW * (s .arrived + 1) ≤ length (s .table)
+    end-room m s f = over-end (λ cs. Fits image cs (m ∷ []) s → COLLECTION-ROW * (s .arrived + 1) ≤ length (s .table)) (fits-one (arrive-end image (m ∷ []))) f
+
+    pub end-put : (m : Member) (t : Tally) {table after : List ℕ} → after ≡ sets table (COLLECTION-ROW * t .arrived) (rowOf m)
+        → stateOf (record { arrived = t .arrived + 1; passed = t .passed }) after ≡ fed image calls (m ∷ []) (stateOf t table)
+    end-put m t {table} {after} e =
+        state-is refl refl e
+        ∙ over-end (λ cs. state (t .arrived + 1) (t .passed) (sets table (COLLECTION-ROW * t .arrived) (rowOf m)) ≡ fed image cs (m ∷ []) (stateOf t table)) (fed-end image m (stateOf t table))

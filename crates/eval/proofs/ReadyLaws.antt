@@ -8,12 +8,12 @@ use native.Mathlib.Omega.{arith}
 use lib.Dec.{eqb, leb}
 use lib.ListN.{length, getD, drop, length-drop}
 use lib.Seq.{drop-cons}
-use borrow.Author.Tests.{ne-eqb, eqb-true, leb-true, leb-false, le-leb, lt-leb}
+use borrow.Author.Tests.{ne-eqb, eqb-true, eqb-false, leb-true, leb-false, le-leb, lt-leb}
 use Rattle.syntax.specs.declared.refusal.Refusal.{Refusal}
 use Rattle.syntax.proofs.BoolLaws.{whether}
 use Rattle.meaning.specs.Value.{Kind}
 use Rattle.meaning.specs.Calls.{Method, Where, All, Any, None, Count, Features, Diagnostics, Call, Entry, next, refuse, gives, methodNumber, kindNumber, entriesAfter}
-use Rattle.meaning.specs.Walk.{planOf, isLast, methodIn, lastMethod, lastCall}
+use Rattle.meaning.specs.Walk.{planOf, isLast, isQuantifier, methodIn, lastMethod, lastCall}
 use Rattle.meaning.proofs.WalkLaws.{last-none, last-here, last-later}
 use Rattle.calls.specs.declared.table.Next.{Next}
 use Rattle.calls.specs.Table.{nextOf, methodAt, kindAt, nextFor}
@@ -59,15 +59,15 @@ refusal-stays [] r = refl
 refusal-stays (call ∷ calls) r = refusal-stays calls r
 
 -- an entry by what the code has of it
-isKind : Next → Bool
+abbrev isKind : Next → Bool
 isKind (Next.Kind k) = true
 isKind (Next.Refused r) = false
 
-kindIn : Next → ℕ
+abbrev kindIn : Next → ℕ
 kindIn (Next.Kind k) = k
 kindIn (Next.Refused r) = 0
 
-refusalIn : Refusal → Next → Refusal
+abbrev refusalIn : Refusal → Next → Refusal
 refusalIn d (Next.Kind k) = d
 refusalIn d (Next.Refused r) = r
 
@@ -91,11 +91,11 @@ entry-kind (refuse q) k h = absurd (false≢true (ap isKind h))
 -- the number of the kind that a number stands for
 kind-number : (k : ℕ) → k ≤ LAST-KIND → kindNumber (kindAt k) ≡ k
 unfolding kindAt
-kind-number 0 h = refl
-kind-number 1 h = refl
-kind-number 2 h = refl
-kind-number 3 h = refl
-kind-number 4 h = refl
+kind-number zero h = refl
+kind-number (suc zero) h = refl
+kind-number (suc (suc zero)) h = refl
+kind-number (suc (suc (suc zero))) h = refl
+kind-number (suc (suc (suc (suc zero)))) h = refl
 kind-number (suc (suc (suc (suc (suc k))))) h = absurd (omega arith)
 
 -- the kind after the calls before the i-th
@@ -108,7 +108,7 @@ kinds-start rows source h = record { small = h; rest = λ rule tree. ap (planOf 
 
 module _ {rows : List ℕ} {source kind i : ℕ} (k : Kinds rows source kind i) where
   module _ {given : Next} (h : CALL-ROW * i + CALL-ROW ≤ length rows) (g : given ≡ nextFor (getD rows (CALL-ROW * i) 0) kind) where
-    entry : Entry
+    abbrev entry : Entry
     entry = gives (methodAt (getD rows (CALL-ROW * i) 0)) (kindAt kind)
 
     step : (rule tree : List ℕ) → entriesAfter (callsFrom rule tree rows (CALL-ROW * (i + 1))) entry ≡ planOf (kindAt source) (callsIn rule tree rows)
@@ -150,21 +150,59 @@ plan-kind e {k = k} g h = entry-kind e k (sym g ∙ h)
 -- by its number: from `all` to `count`
 pub last-below : (n : ℕ) → n < methodNumber All → false ≡ isLast (methodAt n)
 unfolding methodAt
-last-below 0 h = refl
+last-below zero h = refl
 last-below (suc n) h = absurd (omega arith)
 
 pub last-from : (n : ℕ) → methodNumber All ≤ n → leb n (methodNumber Count) ≡ isLast (methodAt n)
 unfolding methodAt
-last-from 0 h = absurd (omega arith)
-last-from 1 h = refl
-last-from 2 h = refl
-last-from 3 h = refl
-last-from 4 h = refl
-last-from 5 h = refl
+last-from zero h = absurd (omega arith)
+last-from (suc zero) h = refl
+last-from (suc (suc zero)) h = refl
+last-from (suc (suc (suc zero))) h = refl
+last-from (suc (suc (suc (suc zero)))) h = refl
+last-from (suc (suc (suc (suc (suc zero))))) h = refl
 last-from (suc (suc (suc (suc (suc (suc n)))))) h =
     let m : ℕ = suc (suc (suc (suc (suc (suc n))))) in
     lt-leb m 4 (omega arith)
     ∙ sym (rw (ne-eqb m 0 (λ e. omega arith), ne-eqb m 1 (λ e. omega arith), ne-eqb m 2 (λ e. omega arith), ne-eqb m 3 (λ e. omega arith), ne-eqb m 4 (λ e. omega arith), ne-eqb m 5 (λ e. omega arith)))
+
+-- the call with a number
+pub method-is : (n : ℕ) (m : Method) → n ≡ methodNumber m → methodAt n ≡ m
+method-is n m e = ap methodAt e ∙ method-at m
+
+pub method-past : (n : ℕ) → methodNumber Features < n → methodAt n ≡ Diagnostics
+unfolding methodAt
+method-past n h =
+    rw (ne-eqb n 0 (λ e. omega arith), ne-eqb n 1 (λ e. omega arith), ne-eqb n 2 (λ e. omega arith), ne-eqb n 3 (λ e. omega arith), ne-eqb n 4 (λ e. omega arith), ne-eqb n 5 (λ e. omega arith))
+
+-- what is neither `where` nor `features` nor past them is a last call
+pub last-between : (n : ℕ) → (n ≡ methodNumber Where → ⊥) → (n ≡ methodNumber Features → ⊥) → n ≤ methodNumber Features → isLast (methodAt n) ≡ true
+last-between n w f l = sym (last-from n (above n w)) ∙ le-leb n 4 (below n f l)
+  where
+    above : (n : ℕ) → (n ≡ 0 → ⊥) → 1 ≤ n
+    above zero w = absurd (w refl)
+    above (suc n) w = omega arith
+
+    below : (n : ℕ) → (n ≡ 5 → ⊥) → n ≤ 5 → n ≤ 4
+    below n f l = whether (eqb n 5) (λ e. absurd (f (eqb-true n 5 e))) (λ e. omega (arith, eqb-false n 5 e))
+
+-- a last call that is not `count` is a quantifier
+pub quantifier-of : (n : ℕ) → isLast (methodAt n) ≡ true → (n ≡ methodNumber Count → ⊥) → isQuantifier (methodAt n) ≡ true
+unfolding methodAt
+quantifier-of zero l h = absurd (false≢true l)
+quantifier-of (suc zero) l h = refl
+quantifier-of (suc (suc zero)) l h = refl
+quantifier-of (suc (suc (suc zero))) l h = refl
+quantifier-of (suc (suc (suc (suc zero)))) l h = absurd (h refl)
+quantifier-of (suc (suc (suc (suc (suc n))))) l h =
+    let m : ℕ = suc (suc (suc (suc (suc n)))) in
+    let few : m ≤ 4 = leb-true m 4 (last-from m (omega arith) ∙ l) in
+    absurd (omega arith)
+
+-- the number of `count` is no quantifier's
+pub count-no-quantifier : (n : ℕ) → n ≡ methodNumber Count → isQuantifier (methodAt n) ≡ false
+unfolding methodAt
+count-no-quantifier n e = rw e
 
 -- no call before the i-th is the last
 pub record NotYet (rows : List ℕ) (i : ℕ) : Type 0 where

@@ -3,13 +3,18 @@
 use Prim.Native.Nat.{ℕ, _+_, _*_, _≤_}
 use mathlib.Core.List.{List, []}
 use mathlib.Core.Option.{Option, none, some}
+use mathlib.Core.Bool.{cond, _&&_}
+use mathlib.Core.Path.{_≡_}
 use lib.ListN.{length}
 use lib.Seq.{sets}
 use Rattle.board.specs.Check.{COLLECTION-ROW}
 use Rattle.predicate.specs.declared.atom.Member.{Member}
+use Rattle.predicate.specs.Truth.{truth}
+use Rattle.predicate.specs.Rows.{childrenAt}
 use Rattle.meaning.specs.Value.{rowsOf, withMembers}
 use Rattle.meaning.specs.Calls.{Call}
-use Rattle.meaning.specs.Walk.{arrivals, lastCall, testIn, howMany}
+use Rattle.meaning.specs.Walk.{isQuantifier, arrivals, lastCall, testIn, howMany}
+use Rattle.calls.specs.Table.{methodAt}
 use Rattle.eval.specs.declared.walk.Tally.{Tally}
 
 -- how far members were sent: how many arrived, how many of those passed, and the collection table
@@ -20,6 +25,10 @@ pub record State : Type 0 where
 
 abbrev pub stateOf : Tally → List ℕ → State
 stateOf tally table = record { arrived = tally .arrived; passed = tally .passed; table = table }
+
+-- nothing was sent yet
+abbrev pub begin : List ℕ → State
+begin table = record { arrived = 0; passed = 0; table = table }
 
 -- the members whose rows are written: all, or none where a last call makes no collection of them
 abbrev pub listed : Option Call → List Member → List Member
@@ -45,6 +54,11 @@ fed image calls members s = arrive image (lastCall calls) (arrivals image calls 
 pub record Fits (image : List ℕ) (calls : List Call) (members : List Member) (s : State) : Type 0 where
   pub room : COLLECTION-ROW * (s .arrived + length (arrivals image calls members)) ≤ length (s .table)
   pub fewer : s .passed ≤ s .arrived
+
+-- a member arrived at a call that gives no collection
+pub record Arrives (rule image tree : List ℕ) (method args : ℕ) (m : Member) (t r : Tally) : Type 0 where
+  pub arrived : r .arrived ≡ t .arrived + 1
+  pub passed : r .passed ≡ t .passed + cond (isQuantifier (methodAt method) && truth image m (childrenAt rule tree args)) 1 0
 
 -- all members of a source were sent, from a table that held `table`
 unfoldable pub walked : (image : List ℕ) → List Call → List Member → List ℕ → State

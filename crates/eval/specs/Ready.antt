@@ -1,8 +1,9 @@
 -- The calls of a pipeline made ready for members: rows of two numbers, the call's number and the place of its CALL_ARGS in the tree
 -- table. Assumes nothing: these are definitions.
-use Prim.Native.Nat.{ℕ, _+_}
+use Prim.Native.Nat.{ℕ}
 use mathlib.Core.List.{List, [], _∷_, map}
 use mathlib.Core.Bool.{cond}
+use mathlib.Core.Path.{_≡_}
 use lib.Dec.{eqb}
 use lib.ListN.{drop}
 use Rattle.syntax.specs.Kind.{IDENT-EXPR}
@@ -11,14 +12,13 @@ use Rattle.board.specs.Image.{componentCount, diagnosticCount}
 use Rattle.predicate.specs.declared.atom.Member.{Member}
 use Rattle.predicate.specs.declared.atom.Member.the-variants.{Component, Diagnostic}
 use Rattle.predicate.specs.Truth.{literalOf}
-use Rattle.predicate.specs.Rows.{ROW, levelAt, forestFrom}
+use Rattle.predicate.specs.Rows.{childrenAt}
 use Rattle.meaning.specs.Value.{Sort, components, diagnostics}
 use Rattle.meaning.specs.Calls.{Call, kept, upFrom}
 use Rattle.meaning.specs.Pipeline.{isOfAnalysis}
-use Rattle.calls.specs.Table.{methodAt}
-
-abbrev pub childrenAt : List ℕ → List ℕ → ℕ → Forest
-childrenAt rule tree at = forestFrom rule tree (levelAt tree at + 1) (at + ROW)
+use Rattle.meaning.specs.Walk.{planOf, lastMethod}
+use Rattle.calls.specs.declared.table.Next.{Next}
+use Rattle.calls.specs.Table.{nextOf, methodAt, kindAt}
 
 -- the numbers of a row
 abbrev pub CALL-ROW : ℕ
@@ -43,6 +43,14 @@ callsIn rule tree (method ∷ args ∷ rows) = callIn rule tree method args ∷ 
 unfoldable pub callsFrom : (rule tree rows : List ℕ) → ℕ → List Call
 unfolding callsIn
 callsFrom rule tree rows i = callsIn rule tree (drop i rows)
+
+-- the kind after all calls, or the refusal of the leftmost that may not stand where it stands; and the last call. The rows say it without
+-- rule and tree
+pub record KindAfter (rows : List ℕ) (source : ℕ) (r : Next) : Type 0 where
+  pub next : (rule tree : List ℕ) → r ≡ nextOf (planOf (kindAt source) (callsIn rule tree rows))
+
+pub record LastMethod (rows : List ℕ) (r : ℕ) : Type 0 where
+  pub method : (rule tree : List ℕ) → methodAt r ≡ lastMethod (callsIn rule tree rows)
 
 -- the source by the kind of its node: its sort, and its members
 abbrev pub sourceSort : ℕ → Sort

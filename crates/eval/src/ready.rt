@@ -4,11 +4,10 @@ use calls::method;
 use calls::table;
 use calls::table::Next;
 ghost use mathlib.Core.Path.{_≡_};
-ghost use mathlib.Core.List.{List};
-ghost use Prim.Native.Nat.{ℕ, _≤_};
-ghost use Rattle.meaning.specs.Walk.{planOf, lastMethod, isLast};
-ghost use Rattle.calls.specs.Table.{nextOf, kindAt, methodAt};
-ghost use Rattle.eval.specs.Ready.{callsIn, LAST-KIND};
+ghost use Prim.Native.Nat.{_≤_};
+ghost use Rattle.meaning.specs.Walk.{isLast};
+ghost use Rattle.calls.specs.Table.{methodAt};
+ghost use Rattle.eval.specs.Ready.{LAST-KIND, KindAfter, LastMethod};
 
 // The numbers of a row.
 pub(crate) const CALL_ROW: usize = 2;
@@ -16,7 +15,7 @@ pub(crate) const CALL_ROW: usize = 2;
 // The kind after all calls, or the refusal of the leftmost that may not stand where it stands.
 pub(crate) fn kind_after(calls: &[u32], source: usize) -> Next
     requires { ⌜ source ≤ LAST-KIND ⌝ }
-    ensures { λ r. ⌜ (rule tree : List ℕ) → r ≡ nextOf (planOf (kindAt source) (callsIn rule tree (now (calls .entry)))) ⌝ }
+    ensures { λ r. ⌜ KindAfter (now (calls .entry)) source r ⌝ }
 {
     let mut kind = source;
     let mut i = 0;
@@ -36,7 +35,7 @@ pub(crate) fn kind_after(calls: &[u32], source: usize) -> Next
 
 // The number of the first call that gives no collection; where there is none, that of `where`.
 pub(crate) fn last_method(calls: &[u32]) -> u32
-    ensures { λ r. ⌜ (rule tree : List ℕ) → methodAt r ≡ lastMethod (callsIn rule tree (now (calls .entry))) ⌝ }
+    ensures { λ r. ⌜ LastMethod (now (calls .entry)) r ⌝ }
 {
     let mut i = 0;
     while i < calls.len() / CALL_ROW {

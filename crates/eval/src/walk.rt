@@ -1,13 +1,32 @@
 // Members sent through the calls of a pipeline, one source member at a time: each `where`, then its features, each further `where`. No
 // collection but the last is kept.
+use crate::ready;
+use board::image;
+use board::image::Section;
+use calls::method;
+use instance;
+use predicate;
 use predicate::atom::Member;
+use predicate::node;
+use syntax::kind;
+use syntax::text;
 ghost use mathlib.Core.Path.{_≡_};
-ghost use mathlib.Core.List.{_++_};
+ghost use mathlib.Core.Bool.{true};
+ghost use mathlib.Core.List.{[], _∷_, _++_, map};
 ghost use Prim.Native.Nat.{_+_, _*_, _≤_};
 ghost use lib.ListN.{length, drop, replicate};
 ghost use lib.Seq.{sets};
+ghost use Rattle.board.specs.Image.{componentCount, diagnosticCount};
 ghost use Rattle.board.specs.Check.{COLLECTION-ROW};
+ghost use Rattle.board.specs.WellFormed.{WellFormed, Room};
+ghost use Rattle.predicate.specs.Rows.{ROW, kindAt, childrenAt};
 ghost use Rattle.meaning.specs.Value.{rowOf, wholeRows};
+ghost use Rattle.meaning.specs.Calls.{kept, upFrom, featuresOf};
+ghost use Rattle.meaning.specs.Pipeline.{isOfAnalysis};
+ghost use Rattle.meaning.specs.Walk.{isLast};
+ghost use Rattle.calls.specs.Table.{methodAt};
+ghost use Rattle.eval.specs.Ready.{CALL-ROW, callsIn, callsFrom, sourceMembers};
+ghost use Rattle.eval.specs.Feed.{stateOf, begin, fed, Fits, Arrives, walked};
 
 // The numbers of a row of the collection table.
 const COLLECTION_ROW: usize = 2;
@@ -16,6 +35,26 @@ const COLLECTION_ROW: usize = 2;
 pub(crate) struct Tally {
     arrived: usize,
     passed: usize,
+}
+
+// Sends all members of a source through the calls, into a collection table whose rows become 0 first.
+pub(crate) fn walk(
+    rule: &[u8],
+    image: &[u8],
+    tree: &[u32],
+    source: usize,
+    calls: &[u32],
+    collection: &mut [u32],
+) -> Tally
+    requires { ⌜ (source + ROW ≤ length (now tree)) × WellFormed (now image) × Room (now image) (length (now collection)) ⌝ }
+    ensures { λ r. ⌜ stateOf r (now (collection .exit)) ≡ walked (now (image .entry)) (callsIn (now (rule .entry)) (now (tree .entry)) (now (calls .entry))) (sourceMembers (now (image .entry)) (kindAt (now (tree .entry)) source) (childrenAt (now (rule .entry)) (now (tree .entry)) source)) (now (collection .entry)) ⌝ }
+{
+    clear(collection);
+    if tree[source] == kind::IDENT_EXPR {
+        return feed_components(rule, image, tree, calls, collection);
+    }
+    let name = node::find_string_literal(rule, tree, source);
+    feed_diagnostics(rule, image, tree, name, calls, collection)
 }
 
 // Sets all whole rows of the collection table to 0.
@@ -27,6 +66,173 @@ fn clear(collection: &mut [u32])
     while i < end {
         collection[i] = 0;
         i += 1;
+    }
+}
+
+// `components`: every component of the board.
+fn feed_components(
+    rule: &[u8],
+    image: &[u8],
+    tree: &[u32],
+    calls: &[u32],
+    collection: &mut [u32],
+) -> Tally
+    requires { ⌜ Fits (now image) (callsIn (now rule) (now tree) (now calls)) (map Member.Component (upFrom 0 (componentCount (now image)))) (begin (now collection)) ⌝ }
+    ensures { λ r. ⌜ stateOf r (now (collection .exit)) ≡ fed (now (image .entry)) (callsIn (now (rule .entry)) (now (tree .entry)) (now (calls .entry))) (map Member.Component (upFrom 0 (componentCount (now (image .entry))))) (begin (now (collection .entry))) ⌝ }
+{
+    let count = image::record_count(image, Section::Components);
+    let mut tally = Tally {
+        arrived: 0,
+        passed: 0,
+    };
+    let mut component = 0;
+    while component < count {
+        let member = Member::Component(component);
+        tally = feed(rule, image, tree, calls, 0, member, collection, tally);
+        component += 1;
+    }
+    tally
+}
+
+// `analysis('name')`: the diagnostics of the analysis with this name.
+fn feed_diagnostics(
+    rule: &[u8],
+    image: &[u8],
+    tree: &[u32],
+    name: &[u8],
+    calls: &[u32],
+    collection: &mut [u32],
+) -> Tally
+    requires { ⌜ Fits (now image) (callsIn (now rule) (now tree) (now calls)) (kept (isOfAnalysis (now image) (now name)) (map Member.Diagnostic (upFrom 0 (diagnosticCount (now image))))) (begin (now collection)) ⌝ }
+    ensures { λ r. ⌜ stateOf r (now (collection .exit)) ≡ fed (now (image .entry)) (callsIn (now (rule .entry)) (now (tree .entry)) (now (calls .entry))) (kept (isOfAnalysis (now (image .entry)) (now (name .entry))) (map Member.Diagnostic (upFrom 0 (diagnosticCount (now (image .entry)))))) (begin (now (collection .entry))) ⌝ }
+{
+    let count = image::record_count(image, Section::Diagnostics);
+    let mut tally = Tally {
+        arrived: 0,
+        passed: 0,
+    };
+    let mut diagnostic = 0;
+    while diagnostic < count {
+        if is_of_analysis(image, name, diagnostic) {
+            let member = Member::Diagnostic(diagnostic);
+            tally = feed(rule, image, tree, calls, 0, member, collection, tally);
+        }
+        diagnostic += 1;
+    }
+    tally
+}
+
+fn is_of_analysis(image: &[u8], name: &[u8], diagnostic: u32) -> bool
+    ensures { λ r. ⌜ r ≡ isOfAnalysis (now (image .entry)) (now (name .entry)) (Member.Diagnostic diagnostic) ⌝ }
+{
+    let analysis = image::field(image, Section::Diagnostics, diagnostic, image::ANALYSIS);
+    text::same(image::string(image, analysis), name)
+}
+
+// Sends one member through the calls from the i-th on.
+fn feed(
+    rule: &[u8],
+    image: &[u8],
+    tree: &[u32],
+    calls: &[u32],
+    i: usize,
+    member: Member,
+    collection: &mut [u32],
+    tally: Tally,
+) -> Tally
+    requires { ⌜ Fits (now image) (callsFrom (now rule) (now tree) (now calls) (CALL-ROW * i)) (member ∷ []) (stateOf tally (now collection)) ⌝ }
+    ensures { λ r. ⌜ stateOf r (now (collection .exit)) ≡ fed (now (image .entry)) (callsFrom (now (rule .entry)) (now (tree .entry)) (now (calls .entry)) (CALL-ROW * i)) (member ∷ []) (stateOf tally (now (collection .entry))) ⌝ }
+{
+    if calls.len() / ready::CALL_ROW <= i {
+        put_member(collection, tally.arrived, member);
+        return Tally {
+            arrived: tally.arrived + 1,
+            passed: tally.passed,
+        };
+    }
+    let method = calls[ready::CALL_ROW * i] as usize;
+    let args = calls[ready::CALL_ROW * i + 1] as usize;
+    if method == method::WHERE {
+        if predicate::eval_args(rule, image, tree, member, args) {
+            return feed(rule, image, tree, calls, i + 1, member, collection, tally);
+        }
+        return tally;
+    }
+    if method == method::FEATURES {
+        return match member {
+            Member::Component(component) => feed_features(
+                rule,
+                image,
+                tree,
+                calls,
+                i + 1,
+                component,
+                collection,
+                tally,
+            ),
+            Member::Feature(_, _) => tally,
+            Member::Diagnostic(_) => tally,
+        };
+    }
+    if method::FEATURES < method {
+        return feed(rule, image, tree, calls, i + 1, member, collection, tally);
+    }
+    arrive(rule, image, tree, method, args, member, tally)
+}
+
+// Sends the features of a component through the calls from the i-th on.
+fn feed_features(
+    rule: &[u8],
+    image: &[u8],
+    tree: &[u32],
+    calls: &[u32],
+    i: usize,
+    component: u32,
+    collection: &mut [u32],
+    tally: Tally,
+) -> Tally
+    requires { ⌜ Fits (now image) (callsFrom (now rule) (now tree) (now calls) (CALL-ROW * i)) (featuresOf (now image) component) (stateOf tally (now collection)) ⌝ }
+    ensures { λ r. ⌜ stateOf r (now (collection .exit)) ≡ fed (now (image .entry)) (callsFrom (now (rule .entry)) (now (tree .entry)) (now (calls .entry)) (CALL-ROW * i)) (featuresOf (now (image .entry)) component) (stateOf tally (now (collection .entry))) ⌝ }
+{
+    let end = instance::features_end(image, component);
+    let mut feature = image::field(image, Section::Components, component, image::FIRST_FEATURE);
+    let mut tally = tally;
+    while feature < end {
+        let member = Member::Feature(component, feature);
+        tally = feed(rule, image, tree, calls, i, member, collection, tally);
+        feature += 1;
+    }
+    tally
+}
+
+// A member arrives at a call that gives no collection: it is counted, and a quantifier's predicate is asked.
+fn arrive(
+    rule: &[u8],
+    image: &[u8],
+    tree: &[u32],
+    method: usize,
+    args: usize,
+    member: Member,
+    tally: Tally,
+) -> Tally
+    requires { ⌜ (isLast (methodAt method) ≡ true) × (tally .arrived + 1 ≤ 18446744073709551615) × (tally .passed ≤ tally .arrived) ⌝ }
+    ensures { λ r. ⌜ Arrives (now (rule .entry)) (now (image .entry)) (now (tree .entry)) method args member tally r ⌝ }
+{
+    if method == method::COUNT {
+        return Tally {
+            arrived: tally.arrived + 1,
+            passed: tally.passed,
+        };
+    }
+    if predicate::eval_args(rule, image, tree, member, args) {
+        return Tally {
+            arrived: tally.arrived + 1,
+            passed: tally.passed + 1,
+        };
+    }
+    Tally {
+        arrived: tally.arrived + 1,
+        passed: tally.passed,
     }
 }
 

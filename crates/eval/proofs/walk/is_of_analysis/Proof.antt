@@ -1,0 +1,24 @@
+-- `is_of_analysis` compares the name of the diagnostic's analysis. Assumes nothing.
+use borrow.Author.Needs.{needs}
+use Rattle.eval.proofs.walk.is_of_analysis.Statement.{statement}
+use Rattle.eval.proofs.walk.is_of_analysis.Tie as tie
+use Rattle.eval.proofs.walk.is_of_analysis.Reads as reads
+use Rattle.eval.proofs.walk.is_of_analysis.Lts as lts
+use Rattle.board.proofs.image.field.Reads as field-reads
+use Rattle.board.proofs.image.string.Reads as string-reads
+use Rattle.syntax.proofs.text.same.Reads as same-reads
+
+field-requires : tie.Need-field-requires
+field-requires c κs = search needs
+
+string-requires : tie.Need-string-requires
+string-requires c κs = search needs
+
+same-requires : tie.Need-same-requires
+same-requires c κs = search needs
+
+returns : tie.Need-returns
+returns c = ?
+
+pub is-of-analysis-spec : {M : Type 1} → statement M
+is-of-analysis-spec = tie.close (tie.spec field-requires string-requires same-requires returns)
