@@ -155,20 +155,11 @@ pub literal-none : (rule : List ℕ) {tree : List ℕ} {level from : ℕ} → Fo
 unfolding literalOf
 literal-none rule h = sym (ignored-none literal-ignores rule h)
 
-module _ (rule : List ℕ) {tree : List ℕ} {level from at : ℕ} (f : FoundAt (ofKind LITERAL) tree level from at) where
-  literal-found : literalOf (forestFrom rule tree level from) ≡ content (firstText STRING-LIT (forestFrom rule tree (level + 1) (at + ROW)))
-  unfolding literalOf
-  literal-found =
-      ignored-found literal-ignores rule f
-      ∙ ap literalOf (forest-node rule tree level at (f .whole) (found-level f) (omega (arith, eqb-true (kindAt tree at) LITERAL (found-kind f))))
-      ∙ rw (found-kind f, literalOf)
-
-  pub literal-empty : FoundNowhere (ofKind STRING-LIT) tree (level + 1) (at + ROW) → [] ≡ literalOf (forestFrom rule tree level from)
-  literal-empty h = content-none [] (omega arith) ∙ ap content (text-none rule STRING-LIT h) ∙ sym literal-found
-
-  pub literal-text : {row : ℕ} → FoundAt (ofKind STRING-LIT) tree (level + 1) (at + ROW) row → content (textAt rule tree row) ≡ literalOf (forestFrom rule tree level from)
-  literal-text s = ap content (text-found rule STRING-LIT (omega arith) s) ∙ sym literal-found
-
-  -- the literal's string is the first inside the row found
-  pub literal-inside : content (firstText STRING-LIT (childrenAt rule tree at)) ≡ literalOf (forestFrom rule tree level from)
-  literal-inside = ap (λ (l : ℕ). content (firstText STRING-LIT (forestFrom rule tree (l + 1) (at + ROW)))) (found-level f) ∙ sym literal-found
+-- the string in the literal found is the first inside it
+pub literal-found : (rule : List ℕ) {tree : List ℕ} {level from at : ℕ} → FoundAt (ofKind LITERAL) tree level from at → content (firstText STRING-LIT (childrenAt rule tree at)) ≡ literalOf (forestFrom rule tree level from)
+unfolding literalOf
+literal-found rule {tree} {level} {from} {at} f =
+    ap (λ (l : ℕ). content (firstText STRING-LIT (forestFrom rule tree (l + 1) (at + ROW)))) (found-level f)
+    ∙ sym (ignored-found literal-ignores rule f
+    ∙ ap literalOf (forest-node rule tree level at (f .whole) (found-level f) (omega (arith, eqb-true (kindAt tree at) LITERAL (found-kind f))))
+    ∙ rw (found-kind f, literalOf))
