@@ -50,10 +50,10 @@ found-before test level (k ∷ m ∷ a ∷ e ∷ rows) x more h = go (found-befo
 module _ {test : ℕ → Bool} {tree : List ℕ} {level from : ℕ} where
   pub first-found : {at : ℕ} → FoundAt test tree level from at → Found.At at ≡ firstRow test tree level from
   unfolding firstRow placeIn
-  first-found {at} f = ap Found.At place ∙ ap (placeIn tree) (sym (drop-row tree at (f .whole)) ∙ f .here)
+  first-found {at} f = place ∙ ap (placeIn tree) (sym (drop-row tree at (f .whole)) ∙ f .here)
     where
-      place : at ≡ length tree - length (rowAnd tree at)
-      place = omega (arith, length-drop (at + ROW) tree, f .whole)
+      place : Found.At at ≡ placeIn tree (rowAnd tree at)
+      place = ap Found.At (omega (arith, length-drop (at + ROW) tree, f .whole))
 
   pub first-nowhere : FoundNowhere test tree level from → Found.Absent ≡ firstRow test tree level from
   unfolding firstRow placeIn
