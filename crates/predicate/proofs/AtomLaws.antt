@@ -1,5 +1,5 @@
 -- A text found in another, and the truth of a node by its kind. Assumes nothing.
-use mathlib.Core.Path.{_≡_, sym, ap, _∙_, subst}
+use mathlib.Core.Path.{_≡_, sym, ap, _∙_}
 use mathlib.Core.Bool.{Bool, false, cond}
 use mathlib.Core.List.{List, []}
 use Prim.Native.Nat.{ℕ, _+_, _-_, _≤_}
@@ -14,17 +14,8 @@ use Rattle.matching.specs.declared.search.Found.{Found}
 use Rattle.matching.specs.Search.{find, setBefore, nameAfter, propertySetOf, propertyNameOf}
 use Rattle.instance.specs.Instance.{hasProperty}
 use Rattle.predicate.specs.declared.atom.Member.{Member}
-use Rattle.predicate.specs.Truth.{firstText, literalOf, fieldOf, connected, hasPropertyOf, has, compares, messageContains, sortOf, settle, truths, truth}
-use Rattle.predicate.specs.Rows.{ROW, kindAt, levelAt, forestFrom, nodeAt}
-use Rattle.predicate.specs.Eval.{FoundAt, FoundNowhere, Finds}
-
--- a row was found, or not
-module _ (test : ℕ → Bool) (tree : List ℕ) (level from : ℕ) {f : Found} (h : Finds test tree level from f) where
-  pub found-at : {at : ℕ} → f ≡ Found.At at → FoundAt test tree level from at
-  found-at e = subst (Finds test tree level from) e h
-
-  pub found-nowhere : f ≡ Found.Absent → FoundNowhere test tree level from
-  found-nowhere e = subst (Finds test tree level from) e h
+use Rattle.predicate.specs.Truth.{literalOf, fieldOf, connected, hasPropertyOf, has, compares, messageContains, sortOf, settle, truths, truth}
+use Rattle.predicate.specs.Rows.{ROW, kindAt, childrenAt, nodeAt}
 
 -- a component's property by a text: parted where `::` was found, whole where it was not
 module _ (image : List ℕ) (component : ℕ) (value : List ℕ) where
@@ -43,41 +34,35 @@ module _ (image : List ℕ) (component : ℕ) (value : List ℕ) where
 -- the truth of a node whose row is at a place
 module _ (rule image tree : List ℕ) (m : Member) (at : ℕ) (h : at + ROW ≤ length tree) where
   pub node-truth : truth image m (nodeAt rule tree at)
-      ≡ settle image m (sortOf (kindAt tree at)) (forestFrom rule tree (levelAt tree at + 1) (at + ROW)) (truths image m (forestFrom rule tree (levelAt tree at + 1) (at + ROW)))
+      ≡ settle image m (sortOf (kindAt tree at)) (childrenAt rule tree at) (truths image m (childrenAt rule tree at))
   unfolding truth truths nodeAt
   node-truth =
-      ap (λ (there : Bool). truth image m (cond there (node (kindAt tree at) (forestFrom rule tree (levelAt tree at + 1) (at + ROW)) nil) nil))
+      ap (λ (there : Bool). truth image m (cond there (node (kindAt tree at) (childrenAt rule tree at) nil) nil))
       (le-leb (at + ROW) (length tree) h)
 
   pub of-kind : {kind : ℕ} → kindAt tree at ≡ kind
-      → settle image m (sortOf kind) (forestFrom rule tree (levelAt tree at + 1) (at + ROW)) (truths image m (forestFrom rule tree (levelAt tree at + 1) (at + ROW))) ≡ truth image m (nodeAt rule tree at)
+      → settle image m (sortOf kind) (childrenAt rule tree at) (truths image m (childrenAt rule tree at)) ≡ truth image m (nodeAt rule tree at)
   of-kind e =
       sym (node-truth
-      ∙ ap (λ (k : ℕ). settle image m (sortOf k) (forestFrom rule tree (levelAt tree at + 1) (at + ROW)) (truths image m (forestFrom rule tree (levelAt tree at + 1) (at + ROW)))) e)
+      ∙ ap (λ (k : ℕ). settle image m (sortOf k) (childrenAt rule tree at) (truths image m (childrenAt rule tree at))) e)
 
   pub truth-ident : kindAt tree at ≡ IDENT-EXPR → connected image m ≡ truth image m (nodeAt rule tree at)
   unfolding sortOf settle
   truth-ident e = of-kind e
 
-  -- by the level before that of its children, and their texts
-  module _ {level : ℕ} (l : level ≡ levelAt tree at) {value : List ℕ} (v : value ≡ literalOf (forestFrom rule tree (level + 1) (at + ROW))) where
-    same-literal : value ≡ literalOf (forestFrom rule tree (levelAt tree at + 1) (at + ROW))
-    same-literal = v ∙ ap (λ (n : ℕ). literalOf (forestFrom rule tree (n + 1) (at + ROW))) l
-
+  -- by the texts inside
+  module _ {value : List ℕ} (v : value ≡ literalOf (childrenAt rule tree at)) where
     pub truth-call : kindAt tree at ≡ CALL-EXPR → has image m value ≡ truth image m (nodeAt rule tree at)
     unfolding sortOf settle
-    truth-call e = ap (has image m) same-literal ∙ of-kind e
+    truth-call e = ap (has image m) v ∙ of-kind e
 
     pub truth-contains : kindAt tree at ≡ CONTAINS-EXPR → messageContains image m value ≡ truth image m (nodeAt rule tree at)
     unfolding sortOf settle
-    truth-contains e = ap (messageContains image m) same-literal ∙ of-kind e
+    truth-contains e = ap (messageContains image m) v ∙ of-kind e
 
-    pub truth-compare : {field : List ℕ} → kindAt tree at ≡ COMPARE-EXPR → field ≡ fieldOf (forestFrom rule tree (level + 1) (at + ROW)) → compares image m field value ≡ truth image m (nodeAt rule tree at)
+    pub truth-compare : {field : List ℕ} → kindAt tree at ≡ COMPARE-EXPR → field ≡ fieldOf (childrenAt rule tree at) → compares image m field value ≡ truth image m (nodeAt rule tree at)
     unfolding sortOf settle
-    truth-compare {field} e f =
-        ap (compares image m field) same-literal
-        ∙ ap (λ (x : List ℕ). compares image m x (literalOf (forestFrom rule tree (levelAt tree at + 1) (at + ROW)))) (f ∙ ap (λ (n : ℕ). fieldOf (forestFrom rule tree (n + 1) (at + ROW))) l)
-        ∙ of-kind e
+    truth-compare {field} e f = ap (compares image m field) v ∙ ap (λ (x : List ℕ). compares image m x (literalOf (childrenAt rule tree at))) f ∙ of-kind e
 
   pub truth-other : (kindAt tree at ≡ BINARY-EXPR → ⊥) → (kindAt tree at ≡ UNARY-EXPR → ⊥) → (kindAt tree at ≡ PAREN-EXPR → ⊥) → (kindAt tree at ≡ IDENT-EXPR → ⊥)
       → (kindAt tree at ≡ CALL-EXPR → ⊥) → (kindAt tree at ≡ CONTAINS-EXPR → ⊥) → (kindAt tree at ≡ COMPARE-EXPR → ⊥) → false ≡ truth image m (nodeAt rule tree at)

@@ -34,11 +34,11 @@ module _ (rule image tree : List ℕ) (m : Member) where
     unfolding settle sortOf joinedFrom
     truth-binary e = sym (of-kind rule image tree m at h e)
 
-    pub truth-unary : kindAt tree at ≡ UNARY-EXPR → truth image m (nodeAt rule tree at) ≡ not (truth image m (forestFrom rule tree (levelAt tree at + 1) (at + ROW)))
+    pub truth-unary : kindAt tree at ≡ UNARY-EXPR → truth image m (nodeAt rule tree at) ≡ not (truth image m (childrenAt rule tree at))
     unfolding settle sortOf truth
     truth-unary e = sym (of-kind rule image tree m at h e)
 
-    pub truth-paren : kindAt tree at ≡ PAREN-EXPR → truth image m (nodeAt rule tree at) ≡ truth image m (forestFrom rule tree (levelAt tree at + 1) (at + ROW))
+    pub truth-paren : kindAt tree at ≡ PAREN-EXPR → truth image m (nodeAt rule tree at) ≡ truth image m (childrenAt rule tree at)
     unfolding settle sortOf truth
     truth-paren e = sym (of-kind rule image tree m at h e)
 

@@ -50,10 +50,10 @@ found-before test level (k ∷ m ∷ a ∷ e ∷ rows) x more h = go (found-befo
 module _ {test : ℕ → Bool} {tree : List ℕ} {level from : ℕ} where
   pub first-found : {at : ℕ} → FoundAt test tree level from at → Found.At at ≡ firstRow test tree level from
   unfolding firstRow placeIn
-  first-found {at} f = ap Found.At place ∙ ap (placeIn tree) (sym (drop-row tree at (f .whole)) ∙ f .here)
+  first-found {at} f = place ∙ ap (placeIn tree) (sym (drop-row tree at (f .whole)) ∙ f .here)
     where
-      place : at ≡ length tree - length (rowAnd tree at)
-      place = omega (arith, length-drop (at + ROW) tree, f .whole)
+      place : Found.At at ≡ placeIn tree (rowAnd tree at)
+      place = ap Found.At (omega (arith, length-drop (at + ROW) tree, f .whole))
 
   pub first-nowhere : FoundNowhere test tree level from → Found.Absent ≡ firstRow test tree level from
   unfolding firstRow placeIn
@@ -155,20 +155,11 @@ pub literal-none : (rule : List ℕ) {tree : List ℕ} {level from : ℕ} → Fo
 unfolding literalOf
 literal-none rule h = sym (ignored-none literal-ignores rule h)
 
-module _ (rule : List ℕ) {tree : List ℕ} {level from at : ℕ} (f : FoundAt (ofKind LITERAL) tree level from at) where
-  literal-found : literalOf (forestFrom rule tree level from) ≡ content (firstText STRING-LIT (forestFrom rule tree (level + 1) (at + ROW)))
-  unfolding literalOf
-  literal-found =
-      ignored-found literal-ignores rule f
-      ∙ ap literalOf (forest-node rule tree level at (f .whole) (found-level f) (omega (arith, eqb-true (kindAt tree at) LITERAL (found-kind f))))
-      ∙ rw (found-kind f, literalOf)
-
-  pub literal-empty : FoundNowhere (ofKind STRING-LIT) tree (level + 1) (at + ROW) → [] ≡ literalOf (forestFrom rule tree level from)
-  literal-empty h = content-none [] (omega arith) ∙ ap content (text-none rule STRING-LIT h) ∙ sym literal-found
-
-  pub literal-text : {row : ℕ} → FoundAt (ofKind STRING-LIT) tree (level + 1) (at + ROW) row → content (textAt rule tree row) ≡ literalOf (forestFrom rule tree level from)
-  literal-text s = ap content (text-found rule STRING-LIT (omega arith) s) ∙ sym literal-found
-
-  -- the literal's string is the first inside the row found
-  pub literal-inside : content (firstText STRING-LIT (childrenAt rule tree at)) ≡ literalOf (forestFrom rule tree level from)
-  literal-inside = ap (λ (l : ℕ). content (firstText STRING-LIT (forestFrom rule tree (l + 1) (at + ROW)))) (found-level f) ∙ sym literal-found
+-- the string in the literal found is the first inside it
+pub literal-found : (rule : List ℕ) {tree : List ℕ} {level from at : ℕ} → FoundAt (ofKind LITERAL) tree level from at → content (firstText STRING-LIT (childrenAt rule tree at)) ≡ literalOf (forestFrom rule tree level from)
+unfolding literalOf
+literal-found rule {tree} {level} {from} {at} f =
+    ap (λ (l : ℕ). content (firstText STRING-LIT (forestFrom rule tree (l + 1) (at + ROW)))) (found-level f)
+    ∙ sym (ignored-found literal-ignores rule f
+    ∙ ap literalOf (forest-node rule tree level at (f .whole) (found-level f) (omega (arith, eqb-true (kindAt tree at) LITERAL (found-kind f))))
+    ∙ rw (found-kind f, literalOf))

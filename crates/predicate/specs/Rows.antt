@@ -65,7 +65,7 @@ unfoldable pub nodeAt : List ℕ → List ℕ → ℕ → Forest
 unfolding forestFrom
 nodeAt rule tree at =
     cond (leb (at + ROW) (length tree))
-    (node (kindAt tree at) (forestFrom rule tree (levelAt tree at + 1) (at + ROW)) nil)
+    (node (kindAt tree at) (childrenAt rule tree at) nil)
     nil
 
 -- whether a whole row is at a place

@@ -1,5 +1,5 @@
 // The atoms of predicates: `connected`, `has('..')`, `field == '..'` and `message.contains('..')`, of one member of a board.
-use crate::rows;
+use crate::node;
 use board::image;
 use board::image::Section;
 use instance;
@@ -9,11 +9,11 @@ use matching::search::Found;
 use syntax::kind;
 use syntax::text;
 ghost use mathlib.Core.Path.{_≡_};
-ghost use Prim.Native.Nat.{_+_, _≤_, _^_};
+ghost use Prim.Native.Nat.{_+_, _≤_};
 ghost use lib.ListN.{length};
 ghost use Rattle.syntax.specs.Kind.{BINARY-EXPR, UNARY-EXPR, PAREN-EXPR};
-ghost use Rattle.predicate.specs.Truth.{content, literalOf, fieldOf, connected, hasPropertyOf, has, compares, messageContains, truth};
-ghost use Rattle.predicate.specs.Rows.{ROW, kindAt, textAt, forestFrom, nodeAt};
+ghost use Rattle.predicate.specs.Truth.{connected, hasPropertyOf, has, compares, messageContains, truth};
+ghost use Rattle.predicate.specs.Rows.{ROW, kindAt, nodeAt};
 
 // A member of a collection: a component, a component's feature, or a diagnostic, by their indexes on the board.
 pub enum Member {
@@ -28,11 +28,10 @@ pub(crate) fn eval_atom(rule: &[u8], image: &[u8], tree: &[u32], member: Member,
     ensures { λ r. ⌜ r ≡ truth (now (image .entry)) member (nodeAt (now (rule .entry)) (now (tree .entry)) at) ⌝ }
 {
     let kind = tree[at];
-    let children = rows::level_at(tree, at) + 1;
     if kind == kind::IDENT_EXPR {
         return connected(image, member);
     }
-    let value = find_string_literal(rule, tree, children, at + rows::ROW);
+    let value = node::find_string_literal(rule, tree, at);
     if kind == kind::CALL_EXPR {
         return has(image, member, value);
     }
@@ -40,73 +39,10 @@ pub(crate) fn eval_atom(rule: &[u8], image: &[u8], tree: &[u32], member: Member,
         return message_contains(image, member, value);
     }
     if kind == kind::COMPARE_EXPR {
-        let field = find_field(rule, tree, children, at + rows::ROW);
+        let field = node::ident(rule, tree, at);
         return compares(image, member, field, value);
     }
     false
-}
-
-// The content of the string of a node, a part of the rule. The node's children are at a level, from a place on.
-pub(crate) fn find_string_literal<'a>(
-    rule: &'a [u8],
-    tree: &[u32],
-    level: usize,
-    from: usize,
-) -> &'a [u8]
-    requires { ⌜ (from ≤ length (now tree)) × (level ≤ 2 ^ 32) ⌝ }
-    ensures { λ r. ⌜ now r ≡ literalOf (forestFrom (now (rule .entry)) (now (tree .entry)) level from) ⌝ }
-{
-    let literal = rows::find_row(tree, level, kind::LITERAL, from);
-    let Found::At(at) = literal else {
-        return &rule[0..0];
-    };
-    let string = rows::find_row(tree, level + 1, kind::STRING_LIT, at + rows::ROW);
-    let Found::At(row) = string else {
-        return &rule[0..0];
-    };
-    content(token_text(rule, tree, row))
-}
-
-// The bytes between the quotes of a string.
-fn content(string: &[u8]) -> &[u8]
-    ensures { λ r. ⌜ now r ≡ content (now (string .entry)) ⌝ }
-{
-    if string.len() < 2 {
-        return &string[0..0];
-    }
-    let last = string.len() - 1;
-    &string[1..last]
-}
-
-// The field that a comparison names, a part of the rule. The comparison's children are at a level, from a place on.
-fn find_field<'a>(rule: &'a [u8], tree: &[u32], level: usize, from: usize) -> &'a [u8]
-    requires { ⌜ from ≤ length (now tree) ⌝ }
-    ensures { λ r. ⌜ now r ≡ fieldOf (forestFrom (now (rule .entry)) (now (tree .entry)) level from) ⌝ }
-{
-    let field = rows::find_row(tree, level, kind::IDENT, from);
-    let Found::At(row) = field else {
-        return &rule[0..0];
-    };
-    token_text(rule, tree, row)
-}
-
-// The text of the token whose row is at a place, as far as the rule goes.
-fn token_text<'a>(rule: &'a [u8], tree: &[u32], at: usize) -> &'a [u8]
-    requires { ⌜ at + ROW ≤ length (now tree) ⌝ }
-    ensures { λ r. ⌜ now r ≡ textAt (now (rule .entry)) (now (tree .entry)) at ⌝ }
-{
-    let first = tree[at + 2] as usize;
-    let end = tree[at + 3] as usize;
-    if end < first {
-        return &rule[0..0];
-    }
-    if rule.len() < first {
-        return &rule[0..0];
-    }
-    if rule.len() < end {
-        return &rule[first..];
-    }
-    &rule[first..end]
 }
 
 // `connected`, which is false of a diagnostic.

@@ -11,20 +11,11 @@ mul-kind c = search needs
 shared-slice-read-kind : tie.Need-shared-slice-read-kind
 shared-slice-read-kind c = search needs
 
-level-at-requires : tie.Need-level-at-requires
-level-at-requires c κs = search needs
-
-add-children : tie.Need-add-children
-add-children c = search needs
-
 connected-requires : tie.Need-connected-requires
 connected-requires c κs = search needs
 
 returns : tie.Need-returns
-returns c = c .connected .ensures ∙ truth-ident _ _ _ _ _ (c .before .before .before .before .before .before .before .pre .0) (c .before .if1 .taken)
-
-add-find-string-literal : tie.Need-add-find-string-literal
-add-find-string-literal c = search needs
+returns c = c .connected .ensures ∙ truth-ident _ _ _ _ _ (c .before .before .before .before .before .before .pre .0) (c .before .if1 .taken)
 
 find-string-literal-requires : tie.Need-find-string-literal-requires
 find-string-literal-requires c κs = search needs
@@ -33,28 +24,25 @@ has-requires : tie.Need-has-requires
 has-requires c κs = search needs
 
 returns-2 : tie.Need-returns-2
-returns-2 c = c .has .ensures ∙ truth-call _ _ _ _ _ (c .before .before .before .before .before .before .before .before .before .pre .0) (c .before .before .before .before .level-at .ensures .0) (c .before .before .find-string-literal .ensures) (c .before .if2 .taken)
+returns-2 c = c .has .ensures ∙ truth-call _ _ _ _ _ (c .before .before .before .before .before .before .before .before .pre .0) (c .before .before .find-string-literal .ensures) (c .before .if2 .taken)
 
 message-contains-requires : tie.Need-message-contains-requires
 message-contains-requires c κs = search needs
 
 returns-3 : tie.Need-returns-3
-returns-3 c = c .message-contains .ensures ∙ truth-contains _ _ _ _ _ (c .before .before .before .before .before .before .before .before .before .before .pre .0) (c .before .before .before .before .before .level-at .ensures .0) (c .before .before .before .find-string-literal .ensures) (c .before .if3 .taken)
+returns-3 c = c .message-contains .ensures ∙ truth-contains _ _ _ _ _ (c .before .before .before .before .before .before .before .before .before .pre .0) (c .before .before .before .find-string-literal .ensures) (c .before .if3 .taken)
 
-add-find-field : tie.Need-add-find-field
-add-find-field c = search needs
-
-find-field-requires : tie.Need-find-field-requires
-find-field-requires c κs = search needs
+ident-requires : tie.Need-ident-requires
+ident-requires c κs = search needs
 
 compares-requires : tie.Need-compares-requires
 compares-requires c κs = search needs
 
 returns-4 : tie.Need-returns-4
-returns-4 c = c .compares .ensures ∙ truth-compare _ _ _ _ _ (c .before .before .before .before .before .before .before .before .before .before .before .before .pre .0) (c .before .before .before .before .before .before .before .level-at .ensures .0) (c .before .before .before .before .before .find-string-literal .ensures) (c .before .before .if4 .taken) (c .before .find-field .ensures)
+returns-4 c = c .compares .ensures ∙ truth-compare _ _ _ _ _ (c .before .before .before .before .before .before .before .before .before .before .before .pre .0) (c .before .before .before .before .before .find-string-literal .ensures) (c .before .before .if4 .taken) (c .before .ident .ensures)
 
 returns-5 : tie.Need-returns-5
-returns-5 c = truth-other _ _ _ _ _ (c .before .before .before .before .before .before .before .before .before .before .pre .0) (c .before .before .before .before .before .before .before .before .before .before .pre .1) (c .before .before .before .before .before .before .before .before .before .before .pre .2) (c .before .before .before .before .before .before .before .before .before .before .pre .3) (c .before .before .before .before .if1 .left) (c .before .before .if2 .left) (c .before .if3 .left) (c .if4 .left)
+returns-5 c = truth-other _ _ _ _ _ (c .before .before .before .before .before .before .before .before .before .pre .0) (c .before .before .before .before .before .before .before .before .before .pre .1) (c .before .before .before .before .before .before .before .before .before .pre .2) (c .before .before .before .before .before .before .before .before .before .pre .3) (c .before .before .before .before .if1 .left) (c .before .before .if2 .left) (c .before .if3 .left) (c .if4 .left)
 
 pub eval-atom-spec : {M : Type 1} → statement M
 eval-atom-spec =
@@ -62,18 +50,14 @@ eval-atom-spec =
     (tie.spec
     mul-kind
     shared-slice-read-kind
-    level-at-requires
-    add-children
     connected-requires
     returns
-    add-find-string-literal
     find-string-literal-requires
     has-requires
     returns-2
     message-contains-requires
     returns-3
-    add-find-field
-    find-field-requires
+    ident-requires
     compares-requires
     returns-4
     returns-5)

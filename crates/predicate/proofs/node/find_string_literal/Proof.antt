@@ -1,7 +1,7 @@
 -- `node::find_string_literal` lends the content of the string in the first literal. Assumes nothing.
 use mathlib.Core.Path.{sym, ap, _∙_}
 use Rattle.predicate.specs.Truth.{content}
-use Rattle.predicate.proofs.NodeLaws.{row-found, row-absent, literal-none, literal-inside}
+use Rattle.predicate.proofs.NodeLaws.{row-found, row-absent, literal-none, literal-found}
 use borrow.Author.Needs.{needs}
 use Rattle.predicate.proofs.node.find_string_literal.Statement.{statement}
 use Rattle.predicate.proofs.node.find_string_literal.Tie as tie
@@ -34,7 +34,7 @@ content-requires : tie.Need-content-requires
 content-requires c κs = search needs
 
 returns-2 : tie.Need-returns-2
-returns-2 c = c .content .ensures ∙ ap content (c .before .first-text .ensures) ∙ literal-inside _ (row-found (sym (c .before .before .before .before .before .child-of-kind .ensures) ∙ c .before .before .before .literal .given .1))
+returns-2 c = c .content .ensures ∙ ap content (c .before .first-text .ensures) ∙ literal-found _ (row-found (sym (c .before .before .before .before .before .child-of-kind .ensures) ∙ c .before .before .before .literal .given .1))
 
 pub find-string-literal-spec : {M : Type 1} → statement M
 find-string-literal-spec =
