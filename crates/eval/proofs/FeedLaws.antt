@@ -8,14 +8,17 @@ use native.Mathlib.Nat.{add-zero}
 use native.Mathlib.Omega.{arith}
 use lib.ListN.{length, getD, length-append}
 use lib.Seq.{sets, length-sets}
+use Rattle.syntax.proofs.BoolLaws.{whether}
 use Rattle.syntax.proofs.TableLaws.{sets-append}
 use Rattle.board.specs.Check.{COLLECTION-ROW}
+use Rattle.board.specs.Image.{firstFeature}
+use Rattle.instance.specs.Instance.{featuresEnd}
 use Rattle.predicate.specs.declared.atom.Member.{Member}
 use Rattle.predicate.specs.declared.atom.Member.the-variants.{Component, Feature, Diagnostic}
 use Rattle.meaning.specs.Value.{rowOf, rowsOf}
-use Rattle.meaning.specs.Calls.{Method, Where, Count, Features, Diagnostics, Call, methodNumber, keep, kept, trueFor, featuresOf}
+use Rattle.meaning.specs.Calls.{Method, Where, Count, Features, Diagnostics, Call, methodNumber, keep, kept, upFrom, trueFor, featuresOf}
 use Rattle.meaning.specs.Walk.{isQuantifier, isLast, arrivals, lastCall, testIn, howMany}
-use Rattle.meaning.proofs.WalkLaws.{upTo, arrivals-append, arrivals-none, arrive-end, arrive-kept, arrive-dropped, arrive-passed, arrive-component, arrive-feature, arrive-diagnostic, arrive-last, last-none, last-here, last-later, how-many-none, how-many-append, how-many-most, rows-append, rows-length, made-turn, made-over, kept-turn, kept-skip, kept-over}
+use Rattle.meaning.proofs.WalkLaws.{upTo, arrivals-append, arrivals-none, arrive-end, arrive-kept, arrive-dropped, arrive-passed, arrive-component, arrive-feature, arrive-diagnostic, arrive-last, last-none, last-here, last-later, how-many-none, how-many-append, how-many-most, rows-append, rows-length, up-all, features-made, made-turn, made-over, kept-turn, kept-skip, kept-over}
 use Rattle.predicate.specs.Truth.{truth}
 use Rattle.predicate.specs.Rows.{childrenAt}
 use Rattle.calls.specs.Table.{methodAt}
@@ -85,6 +88,15 @@ unfolding fed
 fed-parts {image} {calls} {members} {first} {others} s p =
     ap (λ (ms : List Member). arrive image (lastCall calls) ms s) (p .arrivals)
     ∙ arrive-append image (lastCall calls) (arrivals image calls first) (arrivals image calls others) s
+
+-- the table keeps its length
+fed-length : (image : List ℕ) (calls : List Call) (members : List Member) (s : State) → length (fed image calls members s .table) ≡ length (s .table)
+unfolding fed arrive
+fed-length image calls members s = length-sets (s .table) (COLLECTION-ROW * s .arrived) (rowsOf (listed (lastCall calls) (arrivals image calls members)))
+
+pub same-length : (image : List ℕ) (calls : List Call) (members : List Member) (s : State) {r : Tally} {after : List ℕ} → stateOf r after ≡ fed image calls members s
+    → length after ≡ length (s .table)
+same-length image calls members s e = ap (λ (s : State). length (s .table)) e ∙ fed-length image calls members s
 
 -- ---- one member at a call
 
@@ -177,13 +189,14 @@ module _ {image : List ℕ} {calls : List Call} {all : List Member} {start : Sta
       subst (Feeding image calls all start others) (sym e)
       (record { same = sym (fed-parts s q) ∙ p .same; fits = fits-others q (p .fits) })
 
-  -- one is passed over
-  pub feeding-skip : {others : List Member} → Alike image calls rest calls others → Feeding image calls all start others s
-  feeding-skip a = record { same = fed-alike s a ∙ p .same; fits = fits-alike a (p .fits) }
-
   -- none is left
   pub feeding-end : Lost image calls rest → s ≡ fed image calls all start
   feeding-end l = fed-lost s l ∙ p .same
+
+  -- the table keeps its length
+  pub feeding-length : length (s .table) ≡ length (start .table)
+  feeding-length =
+      sym (fed-length image calls rest s) ∙ ap (λ (s : State). length (s .table)) (p .same) ∙ fed-length image calls all start
 
 -- the members in their turn: made of the numbers from one up to an end
 module _ (image : List ℕ) (calls : List Call) (make : ℕ → Member) (first end : ℕ) where
@@ -193,16 +206,41 @@ module _ (image : List ℕ) (calls : List Call) (make : ℕ → Member) (first e
   pub over : end ≤ first → Lost image calls (map make (upTo first end))
   over h = record { arrivals = made-over image calls make first end h }
 
+-- a component's features, by their first and their end
+pub features-start : (image : List ℕ) (calls : List Call) (c : ℕ) (s : State) (first end : ℕ) → first ≡ firstFeature image c → end ≡ featuresEnd image c
+    → Fits image calls (featuresOf image c) s → Feeding image calls (featuresOf image c) s (map (Feature c) (upTo first end)) s
+features-start image calls c s first end f e h =
+    subst (λ (rest : List Member). Feeding image calls (featuresOf image c) s rest s) made (feeding-start h)
+  where
+    made : featuresOf image c ≡ map (Feature c) (upTo first end)
+    made = features-made image c ∙ λ i. map (Feature c) (upTo (sym f i) (sym e i))
+
 -- and of those the ones that pass a test
 module _ (image : List ℕ) (calls : List Call) (passes : Member → Bool) (make : ℕ → Member) (first end : ℕ) where
-  pub turn-kept : first < end → passes (make first) ≡ true → Parts image calls (kept passes (map make (upTo first end))) (make first ∷ []) (kept passes (map make (upTo (first + 1) end)))
-  turn-kept h t = record { arrivals = kept-turn image calls passes make first end h t }
-
-  pub turn-skipped : first < end → passes (make first) ≡ false → Alike image calls (kept passes (map make (upTo first end))) calls (kept passes (map make (upTo (first + 1) end)))
-  turn-skipped h t = record { arrivals = kept-skip image calls passes make first end h t; last = refl }
+  pub turn-kept : first < end → Parts image calls (kept passes (map make (upTo first end))) (kept passes (make first ∷ [])) (kept passes (map make (upTo (first + 1) end)))
+  unfolding kept
+  turn-kept h =
+      whether (passes (make first))
+      (λ t. record { arrivals = kept-turn image calls passes make first end h t ∙ rw t refl })
+      (λ t. record { arrivals = kept-skip image calls passes make first end h t ∙ rw (t, arrivals-none image calls) refl })
 
   pub over-kept : end ≤ first → Lost image calls (kept passes (map make (upTo first end)))
   over-kept h = record { arrivals = kept-over image calls passes make first end h }
+
+-- one that passes, and one that does not
+pub kept-one : (image : List ℕ) (calls : List Call) (passes : Member → Bool) (m : Member) → passes m ≡ true → Alike image calls (kept passes (m ∷ [])) calls (m ∷ [])
+unfolding kept
+kept-one image calls passes m t = record { arrivals = rw t refl; last = refl }
+
+pub kept-none : (image : List ℕ) (calls : List Call) (passes : Member → Bool) (m : Member) → passes m ≡ false → Lost image calls (kept passes (m ∷ []))
+unfolding kept
+kept-none image calls passes m t = record { arrivals = rw t (arrivals-none image calls) }
+
+-- all that are made of the numbers up to a count
+pub all-start : (image : List ℕ) (calls : List Call) (of : List ℕ → List Member) (s : State) (n count : ℕ) → count ≡ n
+    → Fits image calls (of (upFrom 0 n)) s → Feeding image calls (of (upFrom 0 n)) s (of (upTo 0 count)) s
+all-start image calls of s n count e h =
+    subst (λ (rest : List Member). Feeding image calls (of (upFrom 0 n)) s rest s) (ap of (up-all n ∙ ap (upTo 0) (sym e))) (feeding-start h)
 
 -- ---- a member at the last call
 
@@ -284,8 +322,8 @@ module _ (rule image tree rows : List ℕ) (i : ℕ) where
     pub end-room : (m : Member) (s : State) → Fits image calls (m ∷ []) s → COLLECTION-ROW * (s .arrived + 1) ≤ length (s .table)
     end-room m s f = over-end (λ cs. Fits image cs (m ∷ []) s → COLLECTION-ROW * (s .arrived + 1) ≤ length (s .table)) (fits-one (arrive-end image (m ∷ []))) f
 
-    pub end-put : (m : Member) (t : Tally) {table after : List ℕ} → after ≡ sets table (COLLECTION-ROW * t .arrived) (rowOf m)
+    pub end-put : (m : Member) (t : Tally) (table : List ℕ) {after : List ℕ} → after ≡ sets table (COLLECTION-ROW * t .arrived) (rowOf m)
         → stateOf (record { arrived = t .arrived + 1; passed = t .passed }) after ≡ fed image calls (m ∷ []) (stateOf t table)
-    end-put m t {table} {after} e =
+    end-put m t table e =
         state-is refl refl e
         ∙ over-end (λ cs. state (t .arrived + 1) (t .passed) (sets table (COLLECTION-ROW * t .arrived) (rowOf m)) ≡ fed image cs (m ∷ []) (stateOf t table)) (fed-end image m (stateOf t table))

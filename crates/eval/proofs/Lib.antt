@@ -1,3 +1,6 @@
 pub mod FeedLaws
 pub mod ReadyLaws
 pub mod TableLaws
+pub mod SourceLaws
+pub mod CallLaws
+pub mod PlanLaws

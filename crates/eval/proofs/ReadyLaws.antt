@@ -1,5 +1,5 @@
 -- Rows of calls, read one after the other. Assumes nothing.
-use mathlib.Core.Path.{_≡_, refl, sym, ap, _∙_, subst}
+use mathlib.Core.Path.{_≡_, refl, sym, ap, ap₂, _∙_, subst}
 use mathlib.Core.Bool.{Bool, true, false, cond, false≢true}
 use mathlib.Core.List.{List, [], _∷_, _++_}
 use mathlib.Core.Option.{Option}
@@ -18,7 +18,7 @@ use Rattle.meaning.proofs.WalkLaws.{last-none, last-here, last-later}
 use Rattle.calls.specs.declared.table.Next.{Next}
 use Rattle.calls.specs.Table.{nextOf, methodAt, kindAt, nextFor}
 use Rattle.calls.proofs.TableLaws.{method-at, kind-at}
-use Rattle.eval.specs.Ready.{CALL-ROW, LAST-KIND, callIn, callsIn, callsFrom}
+use Rattle.eval.specs.Ready.{CALL-ROW, LAST-KIND, callIn, callsIn, callsFrom, KindAfter}
 
 -- fewer numbers than a row are no call
 calls-short : (rule tree rows : List ℕ) → length rows < CALL-ROW → callsIn rule tree rows ≡ []
@@ -75,7 +75,7 @@ entry-refused : (e : Entry) (r : Refusal) → nextOf e ≡ Next.Refused r → e 
 entry-refused (next kind) r h = absurd (false≢true (sym (ap isKind h)))
 entry-refused (refuse q) r h = ap refuse (ap (refusalIn q) h)
 
-kind-small : (k : Kind) → kindNumber k ≤ LAST-KIND
+pub kind-small : (k : Kind) → kindNumber k ≤ LAST-KIND
 kind-small Kind.Components = omega arith
 kind-small Kind.Features = omega arith
 kind-small Kind.Diagnostics = omega arith
@@ -138,12 +138,17 @@ module _ {rows : List ℕ} {source kind i : ℕ} (k : Kinds rows source kind i) 
       ∙ ap (λ (calls : List Call). nextOf (planOf (kindAt kind) calls)) (sym (calls-over rule tree rows i h))
       ∙ ap nextOf (k .rest rule tree)
 
--- what it says of the plan
-pub plan-refused : (e : Entry) {given : Next} {r : Refusal} → given ≡ nextOf e → given ≡ Next.Refused r → e ≡ refuse r
-plan-refused e {r = r} g h = entry-refused e r (sym g ∙ h)
+-- what it says of the plan of calls that the rows stand for, from a kind with its number
+module _ (rule tree : List ℕ) {rows : List ℕ} {source : ℕ} {given : Next} (kind : Kind) (calls : List Call)
+    (a : KindAfter rows source given) (k : source ≡ kindNumber kind) (c : callsIn rule tree rows ≡ calls) where
+  planned : given ≡ nextOf (planOf kind calls)
+  planned = a .next rule tree ∙ ap nextOf (ap₂ planOf (ap kindAt k ∙ kind-at kind) c)
 
-pub plan-kind : (e : Entry) {given : Next} {k : ℕ} → given ≡ nextOf e → given ≡ Next.Kind k → (e ≡ next (kindAt k)) × (k ≤ LAST-KIND)
-plan-kind e {k = k} g h = entry-kind e k (sym g ∙ h)
+  pub plan-refused : {r : Refusal} → given ≡ Next.Refused r → planOf kind calls ≡ refuse r
+  plan-refused {r} h = entry-refused (planOf kind calls) r (sym planned ∙ h)
+
+  pub plan-kind : {n : ℕ} → given ≡ Next.Kind n → (planOf kind calls ≡ next (kindAt n)) × (n ≤ LAST-KIND)
+  plan-kind {n} h = entry-kind (planOf kind calls) n (sym planned ∙ h)
 
 -- ---- the last call
 

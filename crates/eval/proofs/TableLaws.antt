@@ -5,7 +5,7 @@ use Prim.Native.Nat.{ℕ, zero, suc, _+_, _*_, _-_, _≤_, _<_}
 use native.Mathlib.Nat.{not-suc-le-zero, le-of-suc-le-suc}
 use native.Mathlib.Omega.{arith}
 use lib.ListN.{length, drop, set, replicate, length-append, length-drop, length-replicate, replicate-append-replicate}
-use lib.Seq.{sets}
+use lib.Seq.{sets, length-sets}
 use Rattle.syntax.proofs.TableLaws.{sets-append, sets-front}
 use Rattle.board.specs.Check.{COLLECTION-ROW}
 use Rattle.predicate.specs.declared.atom.Member.{Member}
@@ -33,6 +33,9 @@ pub clearing-start : (table : List ℕ) → Clearing table table (wholeRows tabl
 clearing-start table = record { within = omega arith; table = refl; end-is = refl }
 
 module _ {before after : List ℕ} {end i : ℕ} (c : Clearing before after end i) where
+  pub clearing-length : length after ≡ length before
+  clearing-length = ap length (c .table) ∙ length-sets before 0 (zeros i)
+
   pub clearing-on : i < end → Clearing before (set after i 0) end (i + 1)
   clearing-on h =
       record {

@@ -1,2 +1,3 @@
 pub mod Ready
 pub mod Feed
+pub mod Pipeline

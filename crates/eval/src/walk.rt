@@ -33,8 +33,8 @@ const COLLECTION_ROW: usize = 2;
 
 // How many members arrived where the result is settled, and of how many of them the last call's predicate is true.
 pub(crate) struct Tally {
-    arrived: usize,
-    passed: usize,
+    pub arrived: usize,
+    pub passed: usize,
 }
 
 // Sends all members of a source through the calls, into a collection table whose rows become 0 first.
@@ -77,8 +77,8 @@ fn feed_components(
     calls: &[u32],
     collection: &mut [u32],
 ) -> Tally
-    requires { ⌜ Fits (now image) (callsIn (now rule) (now tree) (now calls)) (map Member.Component (upFrom 0 (componentCount (now image)))) (begin (now collection)) ⌝ }
-    ensures { λ r. ⌜ stateOf r (now (collection .exit)) ≡ fed (now (image .entry)) (callsIn (now (rule .entry)) (now (tree .entry)) (now (calls .entry))) (map Member.Component (upFrom 0 (componentCount (now (image .entry))))) (begin (now (collection .entry))) ⌝ }
+    requires { ⌜ Fits (now image) (callsFrom (now rule) (now tree) (now calls) 0) (map Member.Component (upFrom 0 (componentCount (now image)))) (begin (now collection)) ⌝ }
+    ensures { λ r. ⌜ stateOf r (now (collection .exit)) ≡ fed (now (image .entry)) (callsFrom (now (rule .entry)) (now (tree .entry)) (now (calls .entry)) 0) (map Member.Component (upFrom 0 (componentCount (now (image .entry))))) (begin (now (collection .entry))) ⌝ }
 {
     let count = image::record_count(image, Section::Components);
     let mut tally = Tally {
@@ -103,8 +103,8 @@ fn feed_diagnostics(
     calls: &[u32],
     collection: &mut [u32],
 ) -> Tally
-    requires { ⌜ Fits (now image) (callsIn (now rule) (now tree) (now calls)) (kept (isOfAnalysis (now image) (now name)) (map Member.Diagnostic (upFrom 0 (diagnosticCount (now image))))) (begin (now collection)) ⌝ }
-    ensures { λ r. ⌜ stateOf r (now (collection .exit)) ≡ fed (now (image .entry)) (callsIn (now (rule .entry)) (now (tree .entry)) (now (calls .entry))) (kept (isOfAnalysis (now (image .entry)) (now (name .entry))) (map Member.Diagnostic (upFrom 0 (diagnosticCount (now (image .entry)))))) (begin (now (collection .entry))) ⌝ }
+    requires { ⌜ Fits (now image) (callsFrom (now rule) (now tree) (now calls) 0) (kept (isOfAnalysis (now image) (now name)) (map Member.Diagnostic (upFrom 0 (diagnosticCount (now image))))) (begin (now collection)) ⌝ }
+    ensures { λ r. ⌜ stateOf r (now (collection .exit)) ≡ fed (now (image .entry)) (callsFrom (now (rule .entry)) (now (tree .entry)) (now (calls .entry)) 0) (kept (isOfAnalysis (now (image .entry)) (now (name .entry))) (map Member.Diagnostic (upFrom 0 (diagnosticCount (now (image .entry)))))) (begin (now (collection .entry))) ⌝ }
 {
     let count = image::record_count(image, Section::Diagnostics);
     let mut tally = Tally {
@@ -113,11 +113,29 @@ fn feed_diagnostics(
     };
     let mut diagnostic = 0;
     while diagnostic < count {
-        if is_of_analysis(image, name, diagnostic) {
-            let member = Member::Diagnostic(diagnostic);
-            tally = feed(rule, image, tree, calls, 0, member, collection, tally);
-        }
+        tally = feed_diagnostic(rule, image, tree, name, calls, diagnostic, collection, tally);
         diagnostic += 1;
+    }
+    tally
+}
+
+// Sends a diagnostic if it is of the analysis with this name.
+fn feed_diagnostic(
+    rule: &[u8],
+    image: &[u8],
+    tree: &[u32],
+    name: &[u8],
+    calls: &[u32],
+    diagnostic: u32,
+    collection: &mut [u32],
+    tally: Tally,
+) -> Tally
+    requires { ⌜ Fits (now image) (callsFrom (now rule) (now tree) (now calls) 0) (kept (isOfAnalysis (now image) (now name)) (Member.Diagnostic diagnostic ∷ [])) (stateOf tally (now collection)) ⌝ }
+    ensures { λ r. ⌜ stateOf r (now (collection .exit)) ≡ fed (now (image .entry)) (callsFrom (now (rule .entry)) (now (tree .entry)) (now (calls .entry)) 0) (kept (isOfAnalysis (now (image .entry)) (now (name .entry))) (Member.Diagnostic diagnostic ∷ [])) (stateOf tally (now (collection .entry))) ⌝ }
+{
+    if is_of_analysis(image, name, diagnostic) {
+        let member = Member::Diagnostic(diagnostic);
+        return feed(rule, image, tree, calls, 0, member, collection, tally);
     }
     tally
 }

@@ -1,5 +1,5 @@
 -- `clear` sets the whole rows to 0: so many numbers from the front are. Assumes nothing.
-use Rattle.eval.proofs.TableLaws.{Clearing, clearing-start, clearing-on, clearing-end}
+use Rattle.eval.proofs.TableLaws.{Clearing, clearing-start, clearing-length, clearing-on, clearing-end}
 use borrow.Author.Needs.{needs}
 use native.Mathlib.Omega.{arith}
 use Prim.Native.Nat.{_-_}
@@ -24,7 +24,7 @@ mul-collection : tie.Need-mul-collection Inv-loop μ-loop
 mul-collection c = search needs
 
 slice-write-collection : tie.Need-slice-write-collection Inv-loop μ-loop
-slice-write-collection c = omega arith
+slice-write-collection c = omega (arith, clearing-length (c .before .loop .inv), c .before .loop .inv .end-is)
 
 add-i : tie.Need-add-i Inv-loop μ-loop
 add-i c = omega arith
@@ -36,7 +36,7 @@ loop-again : tie.Need-loop-again Inv-loop μ-loop
 loop-again c = clearing-on (c .before .loop .inv) (c .loop-test .taken)
 
 same-length : tie.Need-same-length Inv-loop μ-loop
-same-length c = search needs
+same-length c = clearing-length (c .before .loop .inv)
 
 returns : tie.Need-returns Inv-loop μ-loop
 returns c = clearing-end (c .before .loop .inv) (c .loop-test .left)

@@ -1,4 +1,7 @@
 -- `is_of_analysis` compares the name of the diagnostic's analysis. Assumes nothing.
+use Rattle.instance.proofs.InstanceLaws.{text-same}
+use Rattle.meaning.specs.Pipeline.{isOfAnalysis}
+use denote.Ref.{now}
 use borrow.Author.Needs.{needs}
 use Rattle.eval.proofs.walk.is_of_analysis.Statement.{statement}
 use Rattle.eval.proofs.walk.is_of_analysis.Tie as tie
@@ -18,7 +21,8 @@ same-requires : tie.Need-same-requires
 same-requires c κs = search needs
 
 returns : tie.Need-returns
-returns c = ?
+unfolding isOfAnalysis
+returns c = text-same _ (now (c .before .before .before .before .before .args .name)) (c .before .before .field .ensures) (c .before .string .ensures) (c .same .ensures)
 
 pub is-of-analysis-spec : {M : Type 1} → statement M
 is-of-analysis-spec = tie.close (tie.spec field-requires string-requires same-requires returns)

@@ -1,0 +1,65 @@
+-- `feed_components` sends every component: those left come to what all come to. Assumes nothing.
+use Rattle.eval.proofs.FeedLaws.{fits-first, Feeding, feeding-on, feeding-end, feeding-length, turn, over, all-start}
+use Rattle.meaning.proofs.WalkLaws.{upTo}
+use Rattle.meaning.specs.Calls.{upFrom}
+use Rattle.predicate.specs.declared.atom.Member.the-variants.{Component}
+use Rattle.board.specs.Image.{componentCount}
+use Rattle.eval.specs.Feed.{stateOf, begin}
+use Rattle.eval.specs.Ready.{callsFrom}
+use borrow.Author.Needs.{needs}
+use native.Mathlib.Omega.{arith}
+use Prim.Native.Nat.{_-_}
+use mathlib.Core.List.{map}
+use denote.Ref.{now}
+use Rattle.eval.proofs.walk.feed_components.Statement.{statement}
+use Rattle.eval.proofs.walk.feed_components.Tie as tie
+use Rattle.eval.proofs.walk.feed_components.Reads as reads
+use Rattle.eval.proofs.walk.feed_components.Lts as lts
+use Rattle.board.proofs.image.record_count.Reads as record-count-reads
+use Rattle.eval.proofs.walk.feed.Reads as feed-reads
+
+abbrev Inv-loop : tie.InvT-loop
+Inv-loop rule image tree calls collection₀ count tally₀ component₀ collection tally component =
+    Feeding image (callsFrom rule tree calls 0) (map Component (upFrom 0 (componentCount image))) (begin collection₀) (map Component (upTo component count)) (stateOf tally collection)
+
+abbrev μ-loop : tie.MeasureT-loop
+μ-loop rule image tree calls collection₀ count tally₀ component₀ collection tally component = count - component
+
+record-count-requires : tie.Need-record-count-requires Inv-loop μ-loop
+record-count-requires c κs = search needs
+
+loop-holds : tie.Need-loop-holds Inv-loop μ-loop
+loop-holds c = all-start (now (c .before .before .before .before .before .before .args .image)) (callsFrom (now (c .before .before .before .before .before .before .args .rule)) (now (c .before .before .before .before .before .before .args .tree)) (now (c .before .before .before .before .before .before .args .calls)) 0) (map Component) (begin (now (c .before .before .before .before .before .before .args .collection))) _ _ (c .record-count .ensures) (c .before .before .before .before .before .before .pre)
+
+feed-requires : tie.Need-feed-requires Inv-loop μ-loop
+feed-requires c κs = fits-first (turn _ _ Component _ _ (c .before .loop-test .taken)) (c .before .before .loop .inv .fits)
+
+add-component : tie.Need-add-component Inv-loop μ-loop
+add-component c = omega (arith, c .before .before .before .before .loop-test .taken)
+
+loop-less : tie.Need-loop-less Inv-loop μ-loop
+loop-less c = omega (arith, c .before .before .before .before .loop-test .taken)
+
+loop-again : tie.Need-loop-again Inv-loop μ-loop
+loop-again c = feeding-on (c .before .before .before .before .before .loop .inv) (turn _ _ Component _ _ (c .before .before .before .before .loop-test .taken)) (c .before .before .feed .ensures)
+
+same-length : tie.Need-same-length Inv-loop μ-loop
+same-length c = feeding-length (c .before .loop .inv)
+
+returns : tie.Need-returns Inv-loop μ-loop
+returns c = feeding-end (c .before .loop .inv) (over _ _ Component _ _ (c .loop-test .left))
+
+pub feed-components-spec : {M : Type 1} → statement M
+feed-components-spec =
+    tie.close
+    (tie.spec
+    Inv-loop
+    μ-loop
+    record-count-requires
+    loop-holds
+    feed-requires
+    add-component
+    loop-less
+    loop-again
+    same-length
+    returns)

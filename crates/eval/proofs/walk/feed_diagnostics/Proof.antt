@@ -1,0 +1,66 @@
+-- `feed_diagnostics` sends every diagnostic of the analysis: those left come to what all come to. Assumes nothing.
+use Rattle.eval.proofs.FeedLaws.{fits-first, Feeding, feeding-on, feeding-end, feeding-length, turn-kept, over-kept, all-start}
+use Rattle.meaning.proofs.WalkLaws.{upTo}
+use Rattle.meaning.specs.Pipeline.{isOfAnalysis}
+use Rattle.meaning.specs.Calls.{kept, upFrom}
+use Rattle.predicate.specs.declared.atom.Member.the-variants.{Diagnostic}
+use Rattle.board.specs.Image.{diagnosticCount}
+use Rattle.eval.specs.Feed.{stateOf, begin}
+use Rattle.eval.specs.Ready.{callsFrom}
+use borrow.Author.Needs.{needs}
+use native.Mathlib.Omega.{arith}
+use Prim.Native.Nat.{_-_}
+use mathlib.Core.List.{map}
+use denote.Ref.{now}
+use Rattle.eval.proofs.walk.feed_diagnostics.Statement.{statement}
+use Rattle.eval.proofs.walk.feed_diagnostics.Tie as tie
+use Rattle.eval.proofs.walk.feed_diagnostics.Reads as reads
+use Rattle.eval.proofs.walk.feed_diagnostics.Lts as lts
+use Rattle.board.proofs.image.record_count.Reads as record-count-reads
+use Rattle.eval.proofs.walk.feed_diagnostic.Reads as feed-diagnostic-reads
+
+abbrev Inv-loop : tie.InvT-loop
+Inv-loop rule image tree name calls collection₀ count tally₀ diagnostic₀ collection tally diagnostic =
+    Feeding image (callsFrom rule tree calls 0) (kept (isOfAnalysis image name) (map Diagnostic (upFrom 0 (diagnosticCount image)))) (begin collection₀) (kept (isOfAnalysis image name) (map Diagnostic (upTo diagnostic count))) (stateOf tally collection)
+
+abbrev μ-loop : tie.MeasureT-loop
+μ-loop rule image tree name calls collection₀ count tally₀ diagnostic₀ collection tally diagnostic = count - diagnostic
+
+record-count-requires : tie.Need-record-count-requires Inv-loop μ-loop
+record-count-requires c κs = search needs
+
+loop-holds : tie.Need-loop-holds Inv-loop μ-loop
+loop-holds c = all-start (now (c .before .before .before .before .before .before .before .args .image)) (callsFrom (now (c .before .before .before .before .before .before .before .args .rule)) (now (c .before .before .before .before .before .before .before .args .tree)) (now (c .before .before .before .before .before .before .before .args .calls)) 0) (λ ns. kept (isOfAnalysis (now (c .before .before .before .before .before .before .before .args .image)) (now (c .before .before .before .before .before .before .before .args .name))) (map Diagnostic ns)) (begin (now (c .before .before .before .before .before .before .before .args .collection))) _ _ (c .record-count .ensures) (c .before .before .before .before .before .before .before .pre)
+
+feed-diagnostic-requires : tie.Need-feed-diagnostic-requires Inv-loop μ-loop
+feed-diagnostic-requires c κs = fits-first (turn-kept _ _ (isOfAnalysis (now (c .before .before .before .before .before .before .before .before .before .before .args .image)) (now (c .before .before .before .before .before .before .before .before .before .before .args .name))) Diagnostic _ _ (c .before .loop-test .taken)) (c .before .before .loop .inv .fits)
+
+add-diagnostic : tie.Need-add-diagnostic Inv-loop μ-loop
+add-diagnostic c = omega (arith, c .before .before .before .before .loop-test .taken)
+
+loop-less : tie.Need-loop-less Inv-loop μ-loop
+loop-less c = omega (arith, c .before .before .before .before .loop-test .taken)
+
+loop-again : tie.Need-loop-again Inv-loop μ-loop
+loop-again c = feeding-on (c .before .before .before .before .before .loop .inv) (turn-kept _ _ (isOfAnalysis (now (c .before .before .before .before .before .before .before .before .before .before .before .before .before .args .image)) (now (c .before .before .before .before .before .before .before .before .before .before .before .before .before .args .name))) Diagnostic _ _ (c .before .before .before .before .loop-test .taken)) (c .before .before .feed-diagnostic .ensures)
+
+same-length : tie.Need-same-length Inv-loop μ-loop
+same-length c = feeding-length (c .before .loop .inv)
+
+returns : tie.Need-returns Inv-loop μ-loop
+returns c = feeding-end (c .before .loop .inv) (over-kept _ _ (isOfAnalysis (now (c .before .before .before .before .before .before .before .before .before .args .image)) (now (c .before .before .before .before .before .before .before .before .before .args .name))) Diagnostic _ _ (c .loop-test .left))
+
+pub feed-diagnostics-spec : {M : Type 1} → statement M
+feed-diagnostics-spec =
+    tie.close
+    (tie.spec
+    Inv-loop
+    μ-loop
+    record-count-requires
+    loop-holds
+    feed-diagnostic-requires
+    add-diagnostic
+    loop-less
+    loop-again
+    same-length
+    returns)
