@@ -126,7 +126,7 @@ module _ (rule tree : List ℕ) (level row : ℕ) (h : row + ROW ≤ length tree
 
 -- ---- rows of calls, one behind the other
 
-calls-append : (rule tree : List ℕ) (k : ℕ) (xs ys : List ℕ) → length xs ≡ CALL-ROW * k → callsIn rule tree (xs ++ ys) ≡ callsIn rule tree xs ++ callsIn rule tree ys
+pub calls-append : (rule tree : List ℕ) (k : ℕ) (xs ys : List ℕ) → length xs ≡ CALL-ROW * k → callsIn rule tree (xs ++ ys) ≡ callsIn rule tree xs ++ callsIn rule tree ys
 unfolding callsIn
 calls-append rule tree zero [] ys e = refl
 calls-append rule tree (suc k) [] ys e = absurd (omega arith)

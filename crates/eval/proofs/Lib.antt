@@ -4,3 +4,5 @@ pub mod TableLaws
 pub mod SourceLaws
 pub mod CallLaws
 pub mod PlanLaws
+pub mod ValueLaws
+pub mod PipelineLaws

@@ -89,7 +89,7 @@ entry-kind (next kind) k h =
 entry-kind (refuse q) k h = absurd (false≢true (ap isKind h))
 
 -- the number of the kind that a number stands for
-kind-number : (k : ℕ) → k ≤ LAST-KIND → kindNumber (kindAt k) ≡ k
+pub kind-number : (k : ℕ) → k ≤ LAST-KIND → kindNumber (kindAt k) ≡ k
 unfolding kindAt
 kind-number zero h = refl
 kind-number (suc zero) h = refl

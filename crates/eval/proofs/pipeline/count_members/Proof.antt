@@ -1,3 +1,9 @@
+-- `count_members` sends all members to a `count` behind the calls. Assumes nothing.
+use Rattle.eval.proofs.PipelineLaws.{counted-length, counted-part, counts}
+use lib.ListN.{length-set}
+use native.Mathlib.Omega.{arith}
+use Prim.Native.Nat.{_*_}
+use denote.Ref.{now}
 use borrow.Author.Needs.{needs}
 use Rattle.eval.proofs.pipeline.count_members.Statement.{statement}
 use Rattle.eval.proofs.pipeline.count_members.Tie as tie
@@ -5,61 +11,47 @@ use Rattle.eval.proofs.pipeline.count_members.Reads as reads
 use Rattle.eval.proofs.pipeline.count_members.Lts as lts
 use Rattle.eval.proofs.walk.walk.Reads as walk-reads
 
--- src/pipeline.rt:124:16
 mul-last : tie.Need-mul-last
 mul-last c = search needs
 
--- src/pipeline.rt:125:19
 cast-calls : tie.Need-cast-calls
 cast-calls c = search needs
 
--- src/pipeline.rt:125:5
 mul-calls : tie.Need-mul-calls
 mul-calls c = search needs
 
--- src/pipeline.rt:125:5
 slice-write-calls : tie.Need-slice-write-calls
 slice-write-calls c = search needs
 
--- src/pipeline.rt:126:11
 add-calls : tie.Need-add-calls
 add-calls c = search needs
 
--- src/pipeline.rt:126:5
 mul-calls-2 : tie.Need-mul-calls-2
 mul-calls-2 c = search needs
 
--- src/pipeline.rt:126:5
 slice-write-calls-2 : tie.Need-slice-write-calls-2
-slice-write-calls-2 c = ?
+slice-write-calls-2 c = omega (arith, c .before .before .before .before .before .pre .1, length-set (now (c .before .before .before .before .before .args .calls)) (2 * c .before .before .before .before .before .args .count) 4)
 
--- src/pipeline.rt:127:15
 add-end : tie.Need-add-end
 add-end c = search needs
 
--- src/pipeline.rt:128:55
 slice-reshare-prefix-walk : tie.Need-slice-reshare-prefix-walk
-slice-reshare-prefix-walk c = ?
+slice-reshare-prefix-walk c = omega (arith, c .before .before .before .before .before .pre .1, counted-length (now (c .before .before .before .before .before .args .rule)) (now (c .before .before .before .before .before .args .image)) (now (c .before .before .before .before .before .args .tree)) (c .before .before .before .before .before .args .source) (now (c .before .before .before .before .before .args .calls)) (c .before .before .before .before .before .args .count) (c .before .before .before .before .before .pre .1))
 
--- src/pipeline.rt:128:55
 slice-aggregate-walk : tie.Need-slice-aggregate-walk
-slice-aggregate-walk c = ?
+slice-aggregate-walk c = counted-part (now (c .before .before .before .before .before .before .args .rule)) (now (c .before .before .before .before .before .before .args .image)) (now (c .before .before .before .before .before .before .args .tree)) (c .before .before .before .before .before .before .args .source) (now (c .before .before .before .before .before .before .args .calls)) (c .before .before .before .before .before .before .args .count) (c .before .before .before .before .before .before .pre .1)
 
--- src/pipeline.rt:128:9
 walk-requires : tie.Need-walk-requires
 walk-requires c κs = search needs
 
--- src/pipeline.rt:112:1
 same-length : tie.Need-same-length
 same-length c = search needs
 
--- src/pipeline.rt:112:1
 same-length-2 : tie.Need-same-length-2
 same-length-2 c = search needs
 
--- src/pipeline.rt:112:1
 returns : tie.Need-returns
-returns c = ?
+returns c = counts (now (c .before .before .before .before .before .before .before .before .before .before .args .rule)) (now (c .before .before .before .before .before .before .before .before .before .before .args .image)) (now (c .before .before .before .before .before .before .before .before .before .before .args .tree)) (c .before .before .before .before .before .before .before .before .before .before .args .source) (now (c .before .before .before .before .before .before .before .before .before .before .args .calls)) (c .before .before .before .before .before .before .before .before .before .before .args .count) (c .before .before .before .before .before .before .before .before .before .before .pre .1) (c .before .before .walk .ensures)
 
 pub count-members-spec : {M : Type 1} → statement M
 count-members-spec =

@@ -1,3 +1,10 @@
+-- `eval_pipeline` sends the members of what was planned, and gives what is settled. Assumes nothing.
+use Rattle.eval.proofs.PipelineLaws.{calls-room, refuses, pipeline-given}
+use Rattle.eval.proofs.PlanLaws.{calls-taken}
+use Rattle.eval.specs.Ready.{Plans}
+use native.Mathlib.Omega.{arith}
+use mathlib.Core.Path.{subst}
+use denote.Ref.{now}
 use borrow.Author.Needs.{needs}
 use Rattle.eval.proofs.pipeline.eval_pipeline.Statement.{statement}
 use Rattle.eval.proofs.pipeline.eval_pipeline.Tie as tie
@@ -8,69 +15,53 @@ use Rattle.eval.proofs.ready.last_method.Reads as last-method-reads
 use Rattle.eval.proofs.ready.plan.Reads as plan-reads
 use Rattle.eval.proofs.walk.walk.Reads as walk-reads
 
--- src/pipeline.rt:60:11
 plan-requires : tie.Need-plan-requires
-plan-requires c κs = ?
+plan-requires c κs = (c .before .before .before .before .before .before .pre .0, omega (arith, c .before .before .before .before .before .before .pre .1), omega (arith, calls-room (now (c .before .before .before .before .before .before .args .rule)) (now (c .before .before .before .before .before .before .args .tree)) (now (c .before .before .before .before .before .before .args .calls)) (c .before .before .before .before .before .before .args .at) (c .before .before .before .before .before .before .pre .1) (c .before .before .before .before .before .before .pre .2)))
 
--- src/pipeline.rt:61:26
 enum-known-r : tie.Need-enum-known-r
 enum-known-r c = search needs
 
--- src/pipeline.rt:63:13
 enum-known-source : tie.Need-enum-known-source
 enum-known-source c = search needs
 
--- src/pipeline.rt:67:23
 mul-end : tie.Need-mul-end
-mul-end c = ?
+mul-end c = omega (arith, (subst (Plans _ _ _ _) (c .before .source .given .1) (c .before .before .before .before .before .plan .ensures)) .holds .number, calls-room (now (c .before .before .before .before .before .before .before .before .before .before .before .before .args .rule)) (now (c .before .before .before .before .before .before .before .before .before .before .before .before .args .tree)) (now (c .before .before .before .before .before .before .before .before .before .before .before .before .args .calls)) (c .before .before .before .before .before .before .before .before .before .before .before .before .args .at) (c .before .before .before .before .before .before .before .before .before .before .before .before .pre .1) (c .before .before .before .before .before .before .before .before .before .before .before .before .pre .2))
 
--- src/pipeline.rt:68:63
 slice-reshare-prefix-walk : tie.Need-slice-reshare-prefix-walk
-slice-reshare-prefix-walk c = ?
+slice-reshare-prefix-walk c = (subst (Plans _ _ _ _) (c .before .source .given .1) (c .before .before .before .before .before .plan .ensures)) .holds .room
 
--- src/pipeline.rt:68:63
 slice-aggregate-walk : tie.Need-slice-aggregate-walk
-slice-aggregate-walk c = ?
+slice-aggregate-walk c = calls-taken ((subst (Plans _ _ _ _) (c .before .before .source .given .1) (c .before .before .before .before .before .before .plan .ensures)) .holds)
 
--- src/pipeline.rt:68:17
 walk-requires : tie.Need-walk-requires
-walk-requires c κs = ?
+walk-requires c κs = ((subst (Plans _ _ _ _) (c .before .before .before .source .given .1) (c .before .before .before .before .before .before .before .plan .ensures)) .found .whole, c .before .before .before .before .before .before .before .before .before .before .before .before .before .before .pre .3 .well, c .before .before .before .before .before .before .before .before .before .before .before .before .before .before .pre .3 .room)
 
--- src/pipeline.rt:69:45
 slice-reshare-prefix-last-method : tie.Need-slice-reshare-prefix-last-method
-slice-reshare-prefix-last-method c = ?
+slice-reshare-prefix-last-method c = (subst (Plans _ _ _ _) (c .before .before .before .before .before .before .source .given .1) (c .before .before .before .before .before .before .before .before .before .before .plan .ensures)) .holds .room
 
--- src/pipeline.rt:69:45
 slice-aggregate-last-method : tie.Need-slice-aggregate-last-method
-slice-aggregate-last-method c = ?
+slice-aggregate-last-method c = calls-taken ((subst (Plans _ _ _ _) (c .before .before .before .before .before .before .before .source .given .1) (c .before .before .before .before .before .before .before .before .before .before .before .plan .ensures)) .holds)
 
--- src/pipeline.rt:69:17
 last-method-requires : tie.Need-last-method-requires
 last-method-requires c κs = search needs
 
--- src/pipeline.rt:70:28
 value-requires : tie.Need-value-requires
-value-requires c κs = ?
+value-requires c κs = (subst (Plans _ _ _ _) (c .before .before .before .before .before .before .before .before .source .given .1) (c .before .before .before .before .before .before .before .before .before .before .before .before .plan .ensures)) .small
 
--- src/pipeline.rt:49:1
 same-length : tie.Need-same-length
 same-length c = search needs
 
--- src/pipeline.rt:49:1
 returns : tie.Need-returns
-returns c = ?
+returns c = refuses _ (subst (Plans _ _ _ _) (c .before .r .given .1) (c .before .before .before .before .before .plan .ensures))
 
--- src/pipeline.rt:49:1
 same-length-2 : tie.Need-same-length-2
 same-length-2 c = search needs
 
--- src/pipeline.rt:49:1
 same-length-3 : tie.Need-same-length-3
 same-length-3 c = search needs
 
--- src/pipeline.rt:49:1
 returns-2 : tie.Need-returns-2
-returns-2 c = ?
+returns-2 c = pipeline-given (now (c .before .before .before .before .before .before .before .before .before .before .before .before .before .before .before .before .before .before .before .before .args .rule)) (now (c .before .before .before .before .before .before .before .before .before .before .before .before .before .before .before .before .before .before .before .before .args .image)) (now (c .before .before .before .before .before .before .before .before .before .before .before .before .before .before .before .before .before .before .before .before .args .tree)) (c .before .before .before .before .before .before .before .before .before .before .before .before .before .before .before .before .before .before .before .before .args .at) (subst (Plans _ _ _ _) (c .before .before .before .before .before .before .before .before .before .source .given .1) (c .before .before .before .before .before .before .before .before .before .before .before .before .before .plan .ensures)) (c .before .before .before .before .before .walk .ensures) (c .before .last-method .ensures) (c .value .ensures)
 
 pub eval-pipeline-spec : {M : Type 1} → statement M
 eval-pipeline-spec =

@@ -1,52 +1,49 @@
+-- `is_operator` tests the level and the kind. Assumes nothing.
+use Rattle.eval.proofs.ValueLaws.{operator-below, operator-from}
+use Rattle.predicate.proofs.RowLaws.{passes-elsewhere, passes-here}
+use Rattle.parser.specs.Look.{isComparison}
+use native.Mathlib.Omega.{arith}
+use Prim.Native.Nat.{_+_}
+use mathlib.Core.Path.{refl, _∙_}
+use denote.Ref.{now}
 use borrow.Author.Needs.{needs}
 use Rattle.eval.proofs.pipeline.is_operator.Statement.{statement}
 use Rattle.eval.proofs.pipeline.is_operator.Tie as tie
 use Rattle.eval.proofs.pipeline.is_operator.Reads as reads
 use Rattle.eval.proofs.pipeline.is_operator.Lts as lts
 
--- src/pipeline.rt:153:13
 add-if1 : tie.Need-add-if1
 add-if1 c = search needs
 
--- src/pipeline.rt:153:8
 mul-if1 : tie.Need-mul-if1
 mul-if1 c = search needs
 
--- src/pipeline.rt:153:8
 shared-slice-read-if1 : tie.Need-shared-slice-read-if1
 shared-slice-read-if1 c = search needs
 
--- src/pipeline.rt:153:8
 cast-if1 : tie.Need-cast-if1
-cast-if1 c = ?
+cast-if1 c = omega (arith, c .shared-slice-known .given (c .before .args .row + 1))
 
--- src/pipeline.rt:154:9
 returns : tie.Need-returns
-returns c = ?
+returns c = passes-elsewhere isComparison (now (c .before .before .args .tree)) (c .before .before .args .level) (c .before .before .args .row) refl (c .if1 .taken)
 
--- src/pipeline.rt:156:8
 mul-if2 : tie.Need-mul-if2
 mul-if2 c = search needs
 
--- src/pipeline.rt:156:8
 shared-slice-read-if2 : tie.Need-shared-slice-read-if2
 shared-slice-read-if2 c = search needs
 
--- src/pipeline.rt:157:9
 returns-2 : tie.Need-returns-2
-returns-2 c = ?
+returns-2 c = operator-below _ (c .if2 .taken) ∙ passes-here isComparison (now (c .before .before .before .before .args .tree)) (c .before .before .before .before .args .level) (c .before .before .before .before .args .row) refl (c .before .before .if1 .left)
 
--- src/pipeline.rt:159:5
 mul-result : tie.Need-mul-result
 mul-result c = search needs
 
--- src/pipeline.rt:159:5
 shared-slice-read-result : tie.Need-shared-slice-read-result
 shared-slice-read-result c = search needs
 
--- src/pipeline.rt:149:1
 returns-3 : tie.Need-returns-3
-returns-3 c = ?
+returns-3 c = operator-from _ (c .before .if2 .left) ∙ passes-here isComparison (now (c .before .before .before .before .before .args .tree)) (c .before .before .before .before .before .args .level) (c .before .before .before .before .before .args .row) refl (c .before .before .before .if1 .left)
 
 pub is-operator-spec : {M : Type 1} → statement M
 is-operator-spec =

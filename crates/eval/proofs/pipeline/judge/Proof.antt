@@ -1,3 +1,5 @@
+-- `judge` gives `judged`, by the number of the call. Assumes nothing.
+use Rattle.eval.proofs.ValueLaws.{judges-all, judges-any, judges-none, judges-other}
 use borrow.Author.Needs.{needs}
 use Rattle.eval.proofs.pipeline.judge.Statement.{statement}
 use Rattle.eval.proofs.pipeline.judge.Tie as tie
@@ -5,29 +7,23 @@ use Rattle.eval.proofs.pipeline.judge.Reads as reads
 use Rattle.eval.proofs.pipeline.judge.Lts as lts
 use Rattle.eval.proofs.pipeline.boolean.Reads as boolean-reads
 
--- src/pipeline.rt:182:24
 boolean-requires : tie.Need-boolean-requires
 boolean-requires c κs = search needs
 
--- src/pipeline.rt:184:25
 boolean-requires-2 : tie.Need-boolean-requires-2
 boolean-requires-2 c κs = search needs
 
--- src/pipeline.rt:177:1
 returns : tie.Need-returns
-returns c = ?
+returns c = judges-all _ _ (c .before .match .keys1) (c .boolean .ensures)
 
--- src/pipeline.rt:177:1
 returns-2 : tie.Need-returns-2
-returns-2 c = ?
+returns-2 c = judges-any _ _ (c .match .keys2)
 
--- src/pipeline.rt:177:1
 returns-3 : tie.Need-returns-3
-returns-3 c = ?
+returns-3 c = judges-none _ _ (c .before .match .keys3) (c .boolean2 .ensures)
 
--- src/pipeline.rt:177:1
 returns-4 : tie.Need-returns-4
-returns-4 c = ?
+returns-4 c = judges-other _ _ _ (c .match .rest)
 
 pub judge-spec : {M : Type 1} → statement M
 judge-spec =

@@ -1,3 +1,5 @@
+-- `value` gives what is settled, by the number of the kind. Assumes nothing.
+use Rattle.eval.proofs.ValueLaws.{gives-components, gives-features, gives-diagnostics, gives-boolean, gives-count, last-left}
 use borrow.Author.Needs.{needs}
 use Rattle.eval.proofs.pipeline.value.Statement.{statement}
 use Rattle.eval.proofs.pipeline.value.Tie as tie
@@ -5,29 +7,23 @@ use Rattle.eval.proofs.pipeline.value.Reads as reads
 use Rattle.eval.proofs.pipeline.value.Lts as lts
 use Rattle.eval.proofs.pipeline.judge.Reads as judge-reads
 
--- src/pipeline.rt:171:27
 judge-requires : tie.Need-judge-requires
 judge-requires c κs = search needs
 
--- src/pipeline.rt:163:1
 returns : tie.Need-returns
-returns c = ?
+returns c = gives-components _ _ (c .match .keys1)
 
--- src/pipeline.rt:163:1
 returns-2 : tie.Need-returns-2
-returns-2 c = ?
+returns-2 c = gives-features _ _ (c .match .keys2)
 
--- src/pipeline.rt:163:1
 returns-3 : tie.Need-returns-3
-returns-3 c = ?
+returns-3 c = gives-diagnostics _ _ (c .match .keys3)
 
--- src/pipeline.rt:163:1
 returns-4 : tie.Need-returns-4
-returns-4 c = ?
+returns-4 c = gives-boolean _ _ (c .before .match .keys4) (c .judge .ensures)
 
--- src/pipeline.rt:163:1
 returns-5 : tie.Need-returns-5
-returns-5 c = ?
+returns-5 c = gives-count _ _ (last-left _ (c .before .pre) (c .match .rest))
 
 pub value-spec : {M : Type 1} → statement M
 value-spec = tie.close (tie.spec judge-requires returns returns-2 returns-3 returns-4 returns-5)
