@@ -1,27 +1,23 @@
 -- The calls of a pipeline, from the rows of the tree to rows of their own. Assumes nothing.
 use mathlib.Core.Path.{_≡_, refl, sym, ap, ap₂, _∙_, subst}
-use mathlib.Core.Bool.{Bool, true, false, cond, _&&_}
+use mathlib.Core.Bool.{Bool, true, false, _&&_}
 use mathlib.Core.List.{List, [], _∷_, _++_, append-assoc, append-nil}
-use Prim.Native.Nat.{ℕ, zero, suc, _+_, _*_, _-_, _≤_, _<_}
+use Prim.Native.Nat.{ℕ, zero, suc, _+_, _*_, _≤_}
 use native.Mathlib.Omega.{arith}
 use lib.Dec.{eqb, leb}
 use lib.ListN.{length, take, drop, set, length-append, length-take}
 use lib.Seq.{sets, sets-eq, length-sets, take-append-seam}
-use borrow.Author.Tests.{eq-eqb, ne-eqb, eqb-true, eqb-false, leb-true, leb-false, lt-leb}
-use Rattle.lexer.specs.Lex.{Token}
-use Rattle.syntax.specs.Kind.{IDENT, ROOT, DOT-CALL, CALL-ARGS, IDENT-EXPR}
+use borrow.Author.Tests.{eqb-true, eqb-false, leb-true, leb-false, lt-leb}
+use Rattle.syntax.specs.Kind.{IDENT, ROOT, DOT-CALL, CALL-ARGS}
 use Rattle.syntax.proofs.BoolLaws.{whether, both}
-use Rattle.parser.specs.Green.{Forest, nil, leaf, node}
 use Rattle.matching.specs.declared.search.Found.{Found}
 use Rattle.predicate.specs.Truth.{firstText}
-use Rattle.predicate.specs.Rows.{ROW, kindAt, levelAt, textAt, forestFrom, childrenAt, isRow, isBelow, rowPasses, ofKind, firstRow}
+use Rattle.predicate.specs.Rows.{ROW, kindAt, levelAt, forestFrom, childrenAt, isRow, isBelow, rowPasses, ofKind, firstRow}
 use Rattle.predicate.specs.Eval.{FoundAt, FoundNowhere}
-use Rattle.predicate.proofs.RowLaws.{row-there, below-row, passes-elsewhere, passes-here}
 use Rattle.predicate.proofs.ForestLaws.{forest-below, forest-token, forest-node, forest-ends, children-none, found-level, found-kind, Ignores, ignored-none, ignored-found}
 use Rattle.predicate.proofs.NodeLaws.{row-found, row-absent}
 use Rattle.meaning.specs.Calls.{Method, Where, All, Any, None, Count, Features, Diagnostics, Call, methodNumber}
 use Rattle.meaning.specs.Pipeline.{methodOf, argsOf, callOf, callsOf}
-use Rattle.calls.specs.Table.{methodAt}
 use Rattle.calls.proofs.TableLaws.{method-at}
 use Rattle.eval.specs.Ready.{CALL-ROW, callIn, callsIn, placeOr, argsPlace, callRow, Puts, CallsFit, Putting, PutsRow, Holds}
 
@@ -143,10 +139,10 @@ module _ (rule tree : List ℕ) (level row count : ℕ) {before : List ℕ} (h :
       record {
         long = refl;
         further = λ all q. record {
-            fit = record { room = subst (λ (cs : List Call). CALL-ROW * (count + length cs) ≤ length before) e (f .room) };
-            number = subst (λ (cs : List Call). count + length cs ≡ length all) e (q .number);
-            calls = subst (λ (cs : List Call). callsIn rule tree (take (CALL-ROW * count) before) ++ cs ≡ all) e (q .calls);
-          };
+          fit = record { room = subst (λ (cs : List Call). CALL-ROW * (count + length cs) ≤ length before) e (f .room) };
+          number = subst (λ (cs : List Call). count + length cs ≡ length all) e (q .number);
+          calls = subst (λ (cs : List Call). callsIn rule tree (take (CALL-ROW * count) before) ++ cs ≡ all) e (q .calls);
+        };
       }
 
   -- or it opens one: there is room for it
@@ -162,14 +158,14 @@ module _ (rule tree : List ℕ) (level row count : ℕ) {before : List ℕ} (h :
         record {
           long = long;
           further = λ all q. record {
-              fit = record { room = omega (arith, long, subst (λ (cs : List Call). CALL-ROW * (count + length cs) ≤ length before) opens (f .room)) };
-              number = omega (arith, q .number, ap length opens);
-              calls =
+            fit = record { room = omega (arith, long, subst (λ (cs : List Call). CALL-ROW * (count + length cs) ≤ length before) opens (f .room)) };
+            number = omega (arith, q .number, ap length opens);
+            calls =
                 ap (λ (cs : List Call). cs ++ callsOf (forestFrom rule tree level (row + ROW))) rows
                 ∙ append-assoc (callsIn rule tree (take (CALL-ROW * count) before)) (callOf (childrenAt rule tree row) ∷ []) (callsOf (forestFrom rule tree level (row + ROW)))
                 ∙ ap (λ (cs : List Call). callsIn rule tree (take (CALL-ROW * count) before) ++ cs) (sym opens)
                 ∙ q .calls;
-            };
+          };
         }
       where
         long : length after ≡ length before

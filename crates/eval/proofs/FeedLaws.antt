@@ -1,9 +1,9 @@
 -- Members sent one after the other, and what is kept of each. Assumes nothing.
 use mathlib.Core.Path.{_≡_, refl, sym, ap, _∙_, subst}
 use mathlib.Core.Bool.{Bool, true, false, _&&_, cond}
-use mathlib.Core.List.{List, [], _∷_, _++_, append-assoc, append-nil, map}
+use mathlib.Core.List.{List, [], _∷_, _++_, append-nil, map}
 use mathlib.Core.Option.{Option, none, some}
-use Prim.Native.Nat.{ℕ, _+_, _*_, _-_, _≤_, _<_}
+use Prim.Native.Nat.{ℕ, _+_, _*_, _≤_, _<_}
 use native.Mathlib.Nat.{add-zero}
 use native.Mathlib.Omega.{arith}
 use lib.ListN.{length, getD, length-append}
@@ -16,9 +16,9 @@ use Rattle.instance.specs.Instance.{featuresEnd}
 use Rattle.predicate.specs.declared.atom.Member.{Member}
 use Rattle.predicate.specs.declared.atom.Member.the-variants.{Component, Feature, Diagnostic}
 use Rattle.meaning.specs.Value.{rowOf, rowsOf}
-use Rattle.meaning.specs.Calls.{Method, Where, Count, Features, Diagnostics, Call, methodNumber, keep, kept, upFrom, trueFor, featuresOf}
+use Rattle.meaning.specs.Calls.{Where, Count, Features, Diagnostics, Call, methodNumber, keep, kept, upFrom, trueFor, featuresOf}
 use Rattle.meaning.specs.Walk.{isQuantifier, isLast, arrivals, lastCall, testIn, howMany}
-use Rattle.meaning.proofs.WalkLaws.{upTo, arrivals-append, arrivals-none, arrive-end, arrive-kept, arrive-dropped, arrive-passed, arrive-component, arrive-feature, arrive-diagnostic, arrive-last, last-none, last-here, last-later, how-many-none, how-many-append, how-many-most, rows-append, rows-length, up-all, features-made, made-turn, made-over, kept-turn, kept-skip, kept-over}
+use Rattle.meaning.proofs.WalkLaws.{upTo, arrivals-none, arrive-end, arrive-kept, arrive-dropped, arrive-passed, arrive-component, arrive-feature, arrive-diagnostic, arrive-last, last-here, last-later, how-many-append, how-many-most, rows-append, rows-length, up-all, features-made, made-turn, made-over, kept-turn, kept-skip, kept-over}
 use Rattle.predicate.specs.Truth.{truth}
 use Rattle.predicate.specs.Rows.{childrenAt}
 use Rattle.calls.specs.Table.{methodAt}

@@ -6,3 +6,4 @@ pub mod CallLaws
 pub mod PlanLaws
 pub mod ValueLaws
 pub mod PipelineLaws
+pub mod RunLaws

@@ -1,42 +1,42 @@
 -- What a pipeline, a comparison and a rule's tree come to, by what was planned and what arrived. Assumes nothing.
 use mathlib.Core.Path.{_≡_, refl, sym, ap, ap₂, _∙_, subst}
-use mathlib.Core.Bool.{Bool, true, false, cond}
+use mathlib.Core.Bool.{Bool, false}
 use mathlib.Core.List.{List, [], _∷_, _++_}
-use mathlib.Core.Option.{Option, none, some}
-use Prim.Native.Nat.{ℕ, zero, suc, _+_, _*_, _-_, _/_, _≤_, _<_}
+use mathlib.Core.Option.{Option}
+use Prim.Native.Nat.{ℕ, suc, _+_, _*_, _≤_}
 use native.Mathlib.Omega.{arith}
-use lib.Dec.{eqb, leb, ltb}
-use lib.ListN.{length, take, drop, set, length-append, length-take, length-drop, length-set}
+use lib.Dec.{eqb}
+use lib.ListN.{length, take, drop, set, length-append, length-take, length-drop}
 use lib.Seq.{sets, sets-eq, length-sets, take-append-seam}
 use borrow.Author.Tests.{eq-eqb, ne-eqb}
 use Rattle.syntax.specs.Kind.{INT-LIT, DOT-CALL, COUNT-COMPARE-EXPR}
 use Rattle.syntax.specs.declared.refusal.Refusal.{Refusal}
 use Rattle.syntax.specs.declared.refusal.Refusal.the-variants.{ParseErrors, ComparisonNotCountable, IntegerTooLarge}
 use Rattle.syntax.proofs.BoolLaws.{whether}
-use Rattle.parser.specs.Green.{Forest, nil, leaf, node}
+use Rattle.parser.specs.Green.{Forest}
 use Rattle.matching.specs.declared.search.Found.{Found}
 use Rattle.predicate.specs.declared.atom.Member.{Member}
 use Rattle.predicate.specs.Truth.{firstText}
 use Rattle.predicate.specs.Rows.{ROW, Place, below, past, token, child, placeOf, grown, bytesBetween, forest, kindAt as treeKind, levelAt, forestFrom, childrenAt, ofNode, firstRow}
 use Rattle.predicate.specs.Eval.{FoundAt, FoundNowhere}
-use Rattle.predicate.proofs.NodeLaws.{row-found, row-absent}
-use Rattle.meaning.specs.Value.{Sort, components, features, diagnostics, Outcome, collection, boolean, refused, Kind, sortKind, collectionTable, withMembers}
+use Rattle.predicate.proofs.NodeLaws.{row-absent}
+use Rattle.meaning.specs.Value.{Outcome, boolean, refused, Kind, sortKind, collectionTable, withMembers}
 use Rattle.meaning.specs.Calls.{Method, Where, All, Any, None, Count, Features, Diagnostics, Call, next, callsGive, methodNumber, kindNumber, trueFor}
 use Rattle.meaning.specs.Pipeline.{callsOf, sourceOf, evalPipeline}
-use Rattle.meaning.specs.Compare.{decimal, operatorHolds, against, compared, operatorOf, integerOf}
+use Rattle.meaning.specs.Compare.{operatorHolds, against, compared, operatorOf, integerOf}
 use Rattle.meaning.specs.Outcome.{firstKind, firstInner, evalCountCompare, evalNode}
-use Rattle.meaning.specs.Walk.{isLast, planOf, arrivals, arriveBy, lastCall, lastMethod, lastTest, testIn, howMany, judged, settled}
+use Rattle.meaning.specs.Walk.{isLast, planOf, arrivals, arriveBy, lastCall, lastMethod, lastTest, howMany, judged, settled}
 use Rattle.meaning.proofs.WalkLaws.{Ends, calls-settled, plan-ends}
 use Rattle.calls.specs.declared.value.Outcome.{Outcome as Answer}
 use Rattle.calls.specs.declared.value.Value.{Value}
 use Rattle.calls.specs.declared.value.Integer.{Integer}
 use Rattle.calls.specs.Answer.{answerOf}
 use Rattle.calls.specs.Integer.{integerFor, againstFor}
-use Rattle.calls.specs.Table.{methodAt, kindAt}
+use Rattle.calls.specs.Table.{kindAt}
 use Rattle.calls.proofs.CompareLaws.{against-integer}
 use Rattle.calls.proofs.TableLaws.{method-at, kind-at}
 use Rattle.eval.specs.declared.walk.Tally.{Tally}
-use Rattle.eval.specs.Ready.{CALL-ROW, LAST-KIND, callIn, callsIn, sourceSort, sourceMembers, LastMethod, Holds, Ready, Refuses}
+use Rattle.eval.specs.Ready.{CALL-ROW, callIn, callsIn, sourceSort, sourceMembers, LastMethod, Ready, Refuses}
 use Rattle.eval.specs.Feed.{State, stateOf, listed, walked}
 use Rattle.eval.specs.Pipeline.{MAX-ROWS, CALLS, Evaluates, Counts, OperatorAt, Gives}
 use Rattle.eval.proofs.ReadyLaws.{kind-number}
@@ -123,13 +123,13 @@ module _ (rule image tree : List ℕ) (at : ℕ) {rows : List ℕ} {source count
   pipeline-given {t} {method} {table} {after} {r} w m g =
       record {
         outcome =
-          g .given came (sym arrived)
-          ∙ (λ i. answerOf (settled (kindAt kind) (m .method rule tree i) (arrived i) (passed i) came))
-          ∙ ap answerOf (sym pipeline-settled);
+            g .given came (sym arrived)
+            ∙ (λ i. answerOf (settled (kindAt kind) (m .method rule tree i) (arrived i) (passed i) came))
+            ∙ ap answerOf (sym pipeline-settled);
         table =
-          ap (λ (s : State). s .table) w
-          ∙ listing (kindAt kind) (lastCall calls) (plan-ends calls (sourceSort (treeKind tree source)) (kindAt kind) plan-is) (lastMethod calls) (length came) (howMany (lastTest image calls) came) came table
-          ∙ ap (λ (o : Outcome). collectionTable o table) (sym pipeline-settled);
+            ap (λ (s : State). s .table) w
+            ∙ listing (kindAt kind) (lastCall calls) (plan-ends calls (sourceSort (treeKind tree source)) (kindAt kind) plan-is) (lastMethod calls) (length came) (howMany (lastTest image calls) came) came table
+            ∙ ap (λ (o : Outcome). collectionTable o table) (sym pipeline-settled);
       }
     where
       arrived : t .arrived ≡ length came
@@ -190,13 +190,13 @@ module _ (rule image tree : List ℕ) (source : ℕ) (rows : List ℕ) (count : 
   counts {t} {table} {after} w =
       record {
         members =
-          ap (λ (s : State). s .arrived) w
-          ∙ ap (λ (cs : List Call). length (arrivals image cs ms)) counted-calls
-          ∙ ap length (count-behind image first last ms (method-at Count));
+            ap (λ (s : State). s .arrived) w
+            ∙ ap (λ (cs : List Call). length (arrivals image cs ms)) counted-calls
+            ∙ ap length (count-behind image first last ms (method-at Count));
         table =
-          ap (λ (s : State). s .table) w
-          ∙ ap (λ (cs : List Call). withMembers (listed (lastCall cs) (arrivals image cs ms)) table) counted-calls
-          ∙ ap (λ (ms : List Member). withMembers ms table) (count-lists first last (arrivals image (first ++ (last ∷ [])) ms) (method-at Count));
+            ap (λ (s : State). s .table) w
+            ∙ ap (λ (cs : List Call). withMembers (listed (lastCall cs) (arrivals image cs ms)) table) counted-calls
+            ∙ ap (λ (ms : List Member). withMembers ms table) (count-lists first last (arrivals image (first ++ (last ∷ [])) ms) (method-at Count));
       }
     where
       ms : List Member

@@ -1,10 +1,10 @@
 -- What a pipeline comes to, by what is known of it before any member is looked at. Assumes nothing.
-use mathlib.Core.Path.{_≡_, refl, sym, ap, ap₂, _∙_, subst}
-use mathlib.Core.Bool.{Bool, true, false, cond, false≢true}
+use mathlib.Core.Path.{_≡_, refl, sym, ap, _∙_, subst}
+use mathlib.Core.Bool.{false≢true}
 use mathlib.Core.List.{List, [], _∷_}
 use Prim.Native.Nat.{ℕ, _+_, _*_, _≤_}
 use native.Mathlib.Omega.{arith}
-use lib.Dec.{eqb, leb}
+use lib.Dec.{eqb}
 use lib.ListN.{length, take, length-take}
 use borrow.Author.Tests.{le-leb, leb-true}
 use Rattle.syntax.specs.Kind.{ROOT, IDENT-EXPR}
@@ -14,20 +14,16 @@ use Rattle.syntax.proofs.BoolLaws.{whether}
 use Rattle.lexer.specs.Lex.{Token}
 use Rattle.parser.specs.Green.{Forest, nil, leaf, node}
 use Rattle.matching.specs.declared.search.Found.{Found}
-use Rattle.predicate.specs.declared.atom.Member.{Member}
 use Rattle.predicate.specs.Rows.{ROW, kindAt, levelAt, forestFrom, childrenAt, ofNode, firstRow}
 use Rattle.predicate.specs.Eval.{FoundAt, FoundNowhere}
 use Rattle.predicate.proofs.ForestLaws.{forest-node, found-level, found-kind, Ignores, ignored-none, ignored-found}
 use Rattle.predicate.proofs.NodeLaws.{row-found, row-absent}
-use Rattle.meaning.specs.Value.{Sort, components, diagnostics, Outcome, collection, refused, Kind, sortKind}
-use Rattle.meaning.specs.Calls.{Call, next, refuse, callGives, callsGive, kindNumber}
+use Rattle.meaning.specs.Value.{Sort, collection, refused, Kind, sortKind}
+use Rattle.meaning.specs.Calls.{Call, callGives, callsGive, kindNumber}
 use Rattle.meaning.specs.Pipeline.{allComponents, diagnosticsOf, sourceOf, callsOf, evalPipeline}
-use Rattle.meaning.specs.Walk.{planOf}
 use Rattle.meaning.proofs.WalkLaws.{calls-refused}
 use Rattle.calls.specs.declared.table.Next.{Next}
-use Rattle.calls.specs.Table.{kindAt as kindWith}
-use Rattle.eval.specs.declared.ready.Planned.{Planned}
-use Rattle.eval.specs.Ready.{CALL-ROW, LAST-KIND, callsIn, sourceSort, sourceMembers, KindAfter, Holds, Ready, Refuses}
+use Rattle.eval.specs.Ready.{CALL-ROW, LAST-KIND, sourceSort, sourceMembers, KindAfter, Holds, Ready, Refuses}
 use Rattle.eval.proofs.ReadyLaws.{kind-small, plan-refused, plan-kind}
 
 -- ---- the first node of a forest
@@ -80,8 +76,8 @@ module _ (rule tree : List ℕ) (at : ℕ) where
   no-source e h =
       record {
         refused = λ image.
-          ap (callsGive image (callsOf (childrenAt rule tree at))) (source-none rule image tree at (row-absent (sym e ∙ h)))
-          ∙ refusal-stays image (callsOf (childrenAt rule tree at)) ParseErrors;
+            ap (callsGive image (callsOf (childrenAt rule tree at))) (source-none rule image tree at (row-absent (sym e ∙ h)))
+            ∙ refusal-stays image (callsOf (childrenAt rule tree at)) ParseErrors;
       }
 
   -- there is one
@@ -96,9 +92,9 @@ module _ (rule tree : List ℕ) (at : ℕ) where
     planned-refused {r} e =
         record {
           refused = λ image.
-            ap (callsGive image (callsOf (childrenAt rule tree at))) (source-found rule image tree at f)
-            ∙ calls-refused image (callsOf (childrenAt rule tree at)) (sourceSort (kindAt tree source)) (sourceMembers image (kindAt tree source) (childrenAt rule tree source)) r
-            (plan-refused rule tree (sortKind (sourceSort (kindAt tree source))) (callsOf (childrenAt rule tree at)) a n (h .calls) e);
+              ap (callsGive image (callsOf (childrenAt rule tree at))) (source-found rule image tree at f)
+              ∙ calls-refused image (callsOf (childrenAt rule tree at)) (sourceSort (kindAt tree source)) (sourceMembers image (kindAt tree source) (childrenAt rule tree source)) r
+              (plan-refused rule tree (sortKind (sourceSort (kindAt tree source))) (callsOf (childrenAt rule tree at)) a n (h .calls) e);
         }
 
     pub planned-ready : {kind : ℕ} → given ≡ Next.Kind kind → Ready rule tree at rows source count kind

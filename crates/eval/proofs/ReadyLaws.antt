@@ -1,18 +1,17 @@
 -- Rows of calls, read one after the other. Assumes nothing.
 use mathlib.Core.Path.{_≡_, refl, sym, ap, ap₂, _∙_, subst}
-use mathlib.Core.Bool.{Bool, true, false, cond, false≢true}
-use mathlib.Core.List.{List, [], _∷_, _++_}
-use mathlib.Core.Option.{Option}
-use Prim.Native.Nat.{ℕ, zero, suc, _+_, _*_, _/_, _≤_, _<_}
+use mathlib.Core.Bool.{Bool, true, false, false≢true}
+use mathlib.Core.List.{List, [], _∷_}
+use Prim.Native.Nat.{ℕ, zero, suc, _+_, _*_, _≤_, _<_}
 use native.Mathlib.Omega.{arith}
 use lib.Dec.{eqb, leb}
 use lib.ListN.{length, getD, drop, length-drop}
 use lib.Seq.{drop-cons}
-use borrow.Author.Tests.{ne-eqb, eqb-true, eqb-false, leb-true, leb-false, le-leb, lt-leb}
+use borrow.Author.Tests.{ne-eqb, eqb-true, eqb-false, leb-true, le-leb, lt-leb}
 use Rattle.syntax.specs.declared.refusal.Refusal.{Refusal}
 use Rattle.syntax.proofs.BoolLaws.{whether}
 use Rattle.meaning.specs.Value.{Kind}
-use Rattle.meaning.specs.Calls.{Method, Where, All, Any, None, Count, Features, Diagnostics, Call, Entry, next, refuse, gives, methodNumber, kindNumber, entriesAfter}
+use Rattle.meaning.specs.Calls.{Method, Where, All, Count, Features, Diagnostics, Call, Entry, next, refuse, gives, methodNumber, kindNumber, entriesAfter}
 use Rattle.meaning.specs.Walk.{planOf, isLast, isQuantifier, methodIn, lastMethod, lastCall}
 use Rattle.meaning.proofs.WalkLaws.{last-none, last-here, last-later}
 use Rattle.calls.specs.declared.table.Next.{Next}
@@ -229,8 +228,8 @@ module _ {rows : List ℕ} {i : ℕ} (n : NotYet rows i) where
     last-on l =
         record {
           rest = λ rule tree.
-            sym (ap methodIn (ap lastCall (calls-at rule tree rows i h) ∙ last-later (callIn rule tree (getD rows (CALL-ROW * i) 0) (getD rows (CALL-ROW * i + 1) 0)) (callsFrom rule tree rows (CALL-ROW * (i + 1))) l))
-            ∙ n .rest rule tree;
+              sym (ap methodIn (ap lastCall (calls-at rule tree rows i h) ∙ last-later (callIn rule tree (getD rows (CALL-ROW * i) 0) (getD rows (CALL-ROW * i + 1) 0)) (callsFrom rule tree rows (CALL-ROW * (i + 1))) l))
+              ∙ n .rest rule tree;
         }
 
   pub last-over : length rows < CALL-ROW * i + CALL-ROW → (rule tree : List ℕ) → methodAt (methodNumber Where) ≡ lastMethod (callsIn rule tree rows)

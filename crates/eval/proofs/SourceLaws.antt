@@ -1,19 +1,16 @@
 -- All members of a source, sent into cleared rows. Assumes nothing.
-use mathlib.Core.Path.{_≡_, refl, sym, ap, _∙_, subst}
-use mathlib.Core.Bool.{Bool, true, false, cond}
-use mathlib.Core.List.{List, [], map}
+use mathlib.Core.Path.{_≡_, refl, ap, _∙_}
+use mathlib.Core.List.{List, map}
 use mathlib.Core.Option.{Option, none, some}
-use Prim.Native.Nat.{ℕ, _+_, _*_, _≤_}
+use Prim.Native.Nat.{ℕ, _≤_}
 use native.Mathlib.Nat.{zero-add}
 use native.Mathlib.Omega.{arith}
-use lib.Dec.{eqb}
 use lib.ListN.{length}
 use lib.Seq.{sets}
 use borrow.Author.Tests.{eq-eqb, ne-eqb}
 use Rattle.syntax.specs.Kind.{IDENT-EXPR}
 use Rattle.parser.specs.Green.{Forest}
 use Rattle.board.specs.Image.{componentCount, diagnosticCount}
-use Rattle.board.specs.Check.{COLLECTION-ROW}
 use Rattle.board.specs.WellFormed.{WellFormed, Room}
 use Rattle.predicate.specs.declared.atom.Member.{Member}
 use Rattle.predicate.specs.declared.atom.Member.the-variants.{Component, Diagnostic}
@@ -23,9 +20,8 @@ use Rattle.meaning.specs.Calls.{Call, kept, upFrom}
 use Rattle.meaning.specs.Pipeline.{isOfAnalysis}
 use Rattle.meaning.specs.Walk.{arrivals, lastCall, testIn, howMany}
 use Rattle.meaning.proofs.WalkLaws.{components-rows, diagnostics-rows, rows-length, whole-within}
-use Rattle.eval.specs.declared.walk.Tally.{Tally}
 use Rattle.eval.specs.Ready.{callsIn, callsFrom, sourceMembers}
-use Rattle.eval.specs.Feed.{State, stateOf, begin, listed, arrive, fed, Fits, walked}
+use Rattle.eval.specs.Feed.{begin, listed, arrive, fed, Fits, walked}
 use Rattle.eval.proofs.ReadyLaws.{calls-all}
 use Rattle.eval.proofs.TableLaws.{cleared, members-written, cleared-length}
 

@@ -1,13 +1,12 @@
 -- The collection table: its rows set to 0, and members' rows written from its front on. Assumes nothing.
 use mathlib.Core.Path.{_≡_, refl, sym, ap, _∙_}
 use mathlib.Core.List.{List, [], _∷_, _++_}
-use Prim.Native.Nat.{ℕ, zero, suc, _+_, _*_, _-_, _≤_, _<_}
+use Prim.Native.Nat.{ℕ, zero, suc, _+_, _-_, _≤_, _<_}
 use native.Mathlib.Nat.{not-suc-le-zero, le-of-suc-le-suc}
 use native.Mathlib.Omega.{arith}
 use lib.ListN.{length, drop, set, replicate, length-append, length-drop, length-replicate, replicate-append-replicate}
 use lib.Seq.{sets, length-sets}
 use Rattle.syntax.proofs.TableLaws.{sets-append, sets-front}
-use Rattle.board.specs.Check.{COLLECTION-ROW}
 use Rattle.predicate.specs.declared.atom.Member.{Member}
 use Rattle.meaning.specs.Value.{rowOf, rowsOf, wholeRows, withMembers}
 use Rattle.meaning.proofs.WalkLaws.{whole-within}
@@ -41,10 +40,10 @@ module _ {before after : List ℕ} {end i : ℕ} (c : Clearing before after end 
       record {
         within = omega arith;
         table =
-          ap (λ (t : List ℕ). set t i 0) (c .table)
-          ∙ ap (λ (k : ℕ). set (sets before 0 (zeros i)) k 0) (sym place)
-          ∙ sym (sets-append (zeros i) (0 ∷ []) before 0)
-          ∙ ap (sets before 0) (replicate-append-replicate i 1 0);
+            ap (λ (t : List ℕ). set t i 0) (c .table)
+            ∙ ap (λ (k : ℕ). set (sets before 0 (zeros i)) k 0) (sym place)
+            ∙ sym (sets-append (zeros i) (0 ∷ []) before 0)
+            ∙ ap (sets before 0) (replicate-append-replicate i 1 0);
         end-is = c .end-is;
       }
     where

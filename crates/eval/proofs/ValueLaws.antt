@@ -1,18 +1,17 @@
 -- What is settled by the numbers of members, and the operator of a comparison. Assumes nothing.
-use mathlib.Core.Path.{_≡_, refl, sym, ap, _∙_, subst}
-use mathlib.Core.Bool.{Bool, true, false, cond, _&&_, _||_}
-use mathlib.Core.List.{List, []}
+use mathlib.Core.Path.{_≡_, refl, sym, ap, _∙_}
+use mathlib.Core.Bool.{Bool, true, false, cond, _&&_}
+use mathlib.Core.List.{List}
 use Prim.Native.Nat.{ℕ, zero, suc, _+_, _≤_, _<_}
 use native.Mathlib.Omega.{arith}
 use lib.Dec.{eqb, leb, ltb}
 use lib.ListN.{length}
-use borrow.Author.Tests.{ne-eqb, eqb-true, eqb-false, le-leb, leb-true, leb-false, lt-leb, ltb-true, ltb-false}
+use borrow.Author.Tests.{ne-eqb, eqb-true, eqb-false, leb-true, leb-false}
 use Rattle.syntax.specs.Kind.{ROOT, EQ-EQ, NEQ, GE, GT, LE, LT, NONE}
 use Rattle.syntax.proofs.BoolLaws.{whether, both}
-use Rattle.parser.specs.Green.{Forest, nil, leaf, node}
 use Rattle.parser.specs.Look.{isComparison}
 use Rattle.predicate.specs.declared.atom.Member.{Member}
-use Rattle.predicate.specs.Rows.{ROW, kindAt as treeKind, levelAt, textAt, forestFrom, childrenAt, isBelow, rowPasses}
+use Rattle.predicate.specs.Rows.{ROW, kindAt as treeKind, levelAt, forestFrom, childrenAt, isBelow, rowPasses}
 use Rattle.predicate.proofs.ForestLaws.{forest-below, forest-token, forest-node, forest-ends}
 use Rattle.meaning.specs.Value.{Kind}
 use Rattle.meaning.specs.Calls.{Method, All, Any, None, methodNumber, kindNumber}

@@ -1,3 +1,4 @@
 pub mod Ready
 pub mod Feed
 pub mod Pipeline
+pub mod Run

@@ -1,5 +1,5 @@
 -- What the functions of `pipeline` ask and give; no public contract needs this file. Assumes nothing: these are definitions.
-use Prim.Native.Nat.{ℕ, _+_, _*_, _≤_}
+use Prim.Native.Nat.{ℕ, _*_}
 use mathlib.Core.Path.{_≡_}
 use mathlib.Core.List.{List, []}
 use lib.ListN.{length, take}
@@ -46,7 +46,7 @@ pub record OperatorAt (tree : List ℕ) (at r : ℕ) : Type 0 where
 -- what is settled, of as many members as arrived
 pub record Gives (kind method : ℕ) (t : Tally) (r : Value) : Type 0 where
   pub given : (members : List Member) → length members ≡ t .arrived
-    → Answer.Given r ≡ answerOf (settled (kindAt kind) (methodAt method) (t .arrived) (t .passed) members)
+      → Answer.Given r ≡ answerOf (settled (kindAt kind) (methodAt method) (t .arrived) (t .passed) members)
 
 pub record Judges (method arrived passed : ℕ) (r : Value) : Type 0 where
   pub judged : Answer.Given r ≡ answerOf (judged (methodAt method) arrived passed)

@@ -23,7 +23,11 @@ ghost use Rattle.eval.specs.Ready.{CALL-ROW, LAST-KIND, KindAfter, LastM
 // What is known of a pipeline before any member is looked at: the row of its source, the number of its calls and the kind that they come
 // to; or the refusal.
 pub(crate) enum Planned {
-    Ready { source: usize, calls: usize, kind: usize },
+    Ready {
+        source: usize,
+        calls: usize,
+        kind: usize,
+    },
     Refused(Refusal),
 }
 

@@ -113,7 +113,16 @@ fn feed_diagnostics(
     };
     let mut diagnostic = 0;
     while diagnostic < count {
-        tally = feed_diagnostic(rule, image, tree, name, calls, diagnostic, collection, tally);
+        tally = feed_diagnostic(
+            rule,
+            image,
+            tree,
+            name,
+            calls,
+            diagnostic,
+            collection,
+            tally,
+        );
         diagnostic += 1;
     }
     tally

@@ -2,8 +2,6 @@
 use mathlib.Core.Path.{refl}
 use Rattle.eval.proofs.pipeline.boolean.Statement.{statement}
 use Rattle.eval.proofs.pipeline.boolean.Tie as tie
-use Rattle.eval.proofs.pipeline.boolean.Reads as reads
-use Rattle.eval.proofs.pipeline.boolean.Lts as lts
 
 returns : tie.Need-returns
 returns c = rw (c .if1 .taken) refl

@@ -7,9 +7,6 @@ use denote.Ref.{now}
 use borrow.Author.Needs.{needs}
 use Rattle.eval.proofs.pipeline.count_members.Statement.{statement}
 use Rattle.eval.proofs.pipeline.count_members.Tie as tie
-use Rattle.eval.proofs.pipeline.count_members.Reads as reads
-use Rattle.eval.proofs.pipeline.count_members.Lts as lts
-use Rattle.eval.proofs.walk.walk.Reads as walk-reads
 
 mul-last : tie.Need-mul-last
 mul-last c = search needs

@@ -1,107 +1,82 @@
+-- `eval_count_compare` judges the left side, then the integer, then counts and compares. Assumes nothing.
+use Rattle.eval.proofs.PipelineLaws.{calls-room, compare-none, compare-refused, compare-boolean, compare-large, compare-given}
+use Rattle.eval.proofs.PlanLaws.{source-at}
+use Rattle.eval.specs.Ready.{Plans}
+use native.Mathlib.Omega.{arith}
+use mathlib.Core.Path.{subst}
+use denote.Ref.{now}
 use borrow.Author.Needs.{needs}
 use Rattle.eval.proofs.pipeline.eval_count_compare.Statement.{statement}
 use Rattle.eval.proofs.pipeline.eval_count_compare.Tie as tie
-use Rattle.eval.proofs.pipeline.eval_count_compare.Reads as reads
-use Rattle.eval.proofs.pipeline.eval_count_compare.Lts as lts
-use Rattle.calls.proofs.compare.compares.Reads as compares-reads
-use Rattle.calls.proofs.compare.integer.Reads as compare-integer-reads
-use Rattle.eval.proofs.pipeline.count_members.Reads as count-members-reads
-use Rattle.eval.proofs.pipeline.operator.Reads as operator-reads
-use Rattle.eval.proofs.ready.plan.Reads as plan-reads
-use Rattle.predicate.proofs.node.first_child.Reads as first-child-reads
-use Rattle.predicate.proofs.node.integer.Reads as node-integer-reads
 
--- src/pipeline.rt:87:9
 first-child-requires : tie.Need-first-child-requires
 first-child-requires c κs = search needs
 
--- src/pipeline.rt:88:19
 enum-known-found : tie.Need-enum-known-found
 enum-known-found c = search needs
 
--- src/pipeline.rt:89:33
 enum-told : tie.Need-enum-told
 enum-told c = search needs
 
--- src/pipeline.rt:89:9
 returns : tie.Need-returns
-returns c = ?
+returns c = compare-none (now (c .before .before .before .before .before .before .before .before .args .rule)) (now (c .before .before .before .before .before .before .before .before .args .image)) (now (c .before .before .before .before .before .before .before .before .args .tree)) (c .before .before .before .before .before .before .before .before .args .at) (c .before .before .first-child .ensures) (c .enum-told .given .1)
 
--- src/pipeline.rt:91:11
 plan-requires : tie.Need-plan-requires
-plan-requires c κs = ?
+plan-requires c κs = ((source-at (now (c .before .before .before .before .before .before .before .before .before .before .args .rule)) (now (c .before .before .before .before .before .before .before .before .before .before .args .tree)) (c .before .before .before .before .before .before .before .before .before .before .args .at) (c .before .before .before .before .first-child .ensures) (c .before .before .found .given .1)) .whole, omega (arith, c .before .before .before .before .before .before .before .before .before .before .pre .1), omega (arith, calls-room (now (c .before .before .before .before .before .before .before .before .before .before .args .rule)) (now (c .before .before .before .before .before .before .before .before .before .before .args .tree)) (now (c .before .before .before .before .before .before .before .before .before .before .args .calls)) (c .before .before .found .given .0 .0) (c .before .before .before .before .before .before .before .before .before .before .pre .1) (c .before .before .before .before .before .before .before .before .before .before .pre .2)))
 
--- src/pipeline.rt:92:26
 enum-known-r : tie.Need-enum-known-r
 enum-known-r c = search needs
 
--- src/pipeline.rt:94:13
 enum-known-source : tie.Need-enum-known-source
 enum-known-source c = search needs
 
--- src/pipeline.rt:99:17
 same-length : tie.Need-same-length
 same-length c = search needs
 
--- src/pipeline.rt:99:17
 returns-2 : tie.Need-returns-2
-returns-2 c = ?
+returns-2 c = compare-boolean (now (c .before .before .before .before .before .before .before .before .before .before .before .before .before .before .before .before .before .args .rule)) (now (c .before .before .before .before .before .before .before .before .before .before .before .before .before .before .before .before .before .args .image)) (now (c .before .before .before .before .before .before .before .before .before .before .before .before .before .before .before .before .before .args .tree)) (c .before .before .before .before .before .before .before .before .before .before .before .before .before .before .before .before .before .args .at) (source-at (now (c .before .before .before .before .before .before .before .before .before .before .before .before .before .before .before .before .before .args .rule)) (now (c .before .before .before .before .before .before .before .before .before .before .before .before .before .before .before .before .before .args .tree)) (c .before .before .before .before .before .before .before .before .before .before .before .before .before .before .before .before .before .args .at) (c .before .before .before .before .before .before .before .before .before .before .before .first-child .ensures) (c .before .before .before .before .before .before .before .before .before .found .given .1)) (subst (Plans _ _ _ _) (c .before .before .source .given .1) (c .before .before .before .before .before .before .plan .ensures)) (c .if1 .taken)
 
--- src/pipeline.rt:101:44
 integer-requires : tie.Need-integer-requires
 integer-requires c κs = search needs
 
--- src/pipeline.rt:101:17
 integer-requires-2 : tie.Need-integer-requires-2
 integer-requires-2 c κs = search needs
 
--- src/pipeline.rt:102:31
 enum-known-integer : tie.Need-enum-known-integer
 enum-known-integer c = search needs
 
--- src/pipeline.rt:103:41
 enum-told-2 : tie.Need-enum-told-2
 enum-told-2 c = search needs
 
--- src/pipeline.rt:103:17
 same-length-2 : tie.Need-same-length-2
 same-length-2 c = search needs
 
--- src/pipeline.rt:103:17
 returns-3 : tie.Need-returns-3
-returns-3 c = ?
+returns-3 c = compare-large (now (c .before .before .before .before .before .before .before .before .before .before .before .before .before .before .before .before .before .before .before .before .before .args .rule)) (now (c .before .before .before .before .before .before .before .before .before .before .before .before .before .before .before .before .before .before .before .before .before .args .image)) (now (c .before .before .before .before .before .before .before .before .before .before .before .before .before .before .before .before .before .before .before .before .before .args .tree)) (c .before .before .before .before .before .before .before .before .before .before .before .before .before .before .before .before .before .before .before .before .before .args .at) (source-at (now (c .before .before .before .before .before .before .before .before .before .before .before .before .before .before .before .before .before .before .before .before .before .args .rule)) (now (c .before .before .before .before .before .before .before .before .before .before .before .before .before .before .before .before .before .before .before .before .before .args .tree)) (c .before .before .before .before .before .before .before .before .before .before .before .before .before .before .before .before .before .before .before .before .before .args .at) (c .before .before .before .before .before .before .before .before .before .before .before .before .before .before .before .first-child .ensures) (c .before .before .before .before .before .before .before .before .before .before .before .before .before .found .given .1)) (subst (Plans _ _ _ _) (c .before .before .before .before .before .before .source .given .1) (c .before .before .before .before .before .before .before .before .before .before .plan .ensures)) (c .before .before .before .before .if1 .left) (c .before .before .before .integer .ensures) (c .before .before .integer2 .ensures) (c .enum-told2 .given .1)
 
--- src/pipeline.rt:105:24
 count-members-requires : tie.Need-count-members-requires
-count-members-requires c κs = ?
+count-members-requires c κs = ((subst (Plans _ _ _ _) (c .before .before .before .before .before .before .before .before .before .source .given .1) (c .before .before .before .before .before .before .before .before .before .before .before .before .before .plan .ensures)) .found .whole, omega (arith, calls-room (now (c .before .before .before .before .before .before .before .before .before .before .before .before .before .before .before .before .before .before .before .before .before .before .before .before .args .rule)) (now (c .before .before .before .before .before .before .before .before .before .before .before .before .before .before .before .before .before .before .before .before .before .before .before .before .args .tree)) (now (c .before .before .before .before .before .before .before .before .before .before .before .before .before .before .before .before .before .before .before .before .before .before .before .before .args .calls)) (c .before .before .before .before .before .before .before .before .before .before .before .before .before .before .before .before .found .given .0 .0) (c .before .before .before .before .before .before .before .before .before .before .before .before .before .before .before .before .before .before .before .before .before .before .before .before .pre .1) (c .before .before .before .before .before .before .before .before .before .before .before .before .before .before .before .before .before .before .before .before .before .before .before .before .pre .2), (subst (Plans _ _ _ _) (c .before .before .before .before .before .before .before .before .before .source .given .1) (c .before .before .before .before .before .before .before .before .before .before .before .before .before .plan .ensures)) .holds .number), c .before .before .before .before .before .before .before .before .before .before .before .before .before .before .before .before .before .before .before .before .before .before .before .before .pre .3)
 
--- src/pipeline.rt:106:58
 operator-requires : tie.Need-operator-requires
-operator-requires c κs = ?
+operator-requires c κs = c .before .before .before .before .before .before .before .before .before .before .before .before .before .before .before .before .before .before .before .before .before .before .before .before .before .before .before .before .before .pre .0
 
--- src/pipeline.rt:106:40
 compares-requires : tie.Need-compares-requires
 compares-requires c κs = search needs
 
--- src/pipeline.rt:76:1
 same-length-3 : tie.Need-same-length-3
 same-length-3 c = search needs
 
--- src/pipeline.rt:76:1
 returns-4 : tie.Need-returns-4
-returns-4 c = ?
+returns-4 c = compare-refused (now (c .before .before .before .before .before .before .before .before .before .before .before .before .before .before .before .before .args .rule)) (now (c .before .before .before .before .before .before .before .before .before .before .before .before .before .before .before .before .args .image)) (now (c .before .before .before .before .before .before .before .before .before .before .before .before .before .before .before .before .args .tree)) (c .before .before .before .before .before .before .before .before .before .before .before .before .before .before .before .before .args .at) (source-at (now (c .before .before .before .before .before .before .before .before .before .before .before .before .before .before .before .before .args .rule)) (now (c .before .before .before .before .before .before .before .before .before .before .before .before .before .before .before .before .args .tree)) (c .before .before .before .before .before .before .before .before .before .before .before .before .before .before .before .before .args .at) (c .before .before .before .before .before .before .before .before .before .before .first-child .ensures) (c .before .before .before .before .before .before .before .before .found .given .1)) (subst (Plans _ _ _ _) (c .before .r .given .1) (c .before .before .before .before .before .plan .ensures))
 
--- src/pipeline.rt:76:1
 same-length-4 : tie.Need-same-length-4
 same-length-4 c = search needs
 
--- src/pipeline.rt:76:1
 same-length-5 : tie.Need-same-length-5
 same-length-5 c = search needs
 
--- src/pipeline.rt:76:1
 returns-5 : tie.Need-returns-5
-returns-5 c = ?
+returns-5 c = compare-given (now (c .before .before .before .before .before .before .before .before .before .before .before .before .before .before .before .before .before .before .before .before .before .before .before .before .before .before .before .before .before .before .before .args .rule)) (now (c .before .before .before .before .before .before .before .before .before .before .before .before .before .before .before .before .before .before .before .before .before .before .before .before .before .before .before .before .before .before .before .args .image)) (now (c .before .before .before .before .before .before .before .before .before .before .before .before .before .before .before .before .before .before .before .before .before .before .before .before .before .before .before .before .before .before .before .args .tree)) (c .before .before .before .before .before .before .before .before .before .before .before .before .before .before .before .before .before .before .before .before .before .before .before .before .before .before .before .before .before .before .before .args .at) (source-at (now (c .before .before .before .before .before .before .before .before .before .before .before .before .before .before .before .before .before .before .before .before .before .before .before .before .before .before .before .before .before .before .before .args .rule)) (now (c .before .before .before .before .before .before .before .before .before .before .before .before .before .before .before .before .before .before .before .before .before .before .before .before .before .before .before .before .before .before .before .args .tree)) (c .before .before .before .before .before .before .before .before .before .before .before .before .before .before .before .before .before .before .before .before .before .before .before .before .before .before .before .before .before .before .before .args .at) (c .before .before .before .before .before .before .before .before .before .before .before .before .before .before .before .before .before .before .before .before .before .before .before .before .before .first-child .ensures) (c .before .before .before .before .before .before .before .before .before .before .before .before .before .before .before .before .before .before .before .before .before .before .before .found .given .1)) (subst (Plans _ _ _ _) (c .before .before .before .before .before .before .before .before .before .before .before .before .before .before .before .before .source .given .1) (c .before .before .before .before .before .before .before .before .before .before .before .before .before .before .before .before .before .before .before .before .plan .ensures)) (c .before .before .before .before .before .before .before .before .before .before .before .before .before .before .if1 .left) (c .before .before .before .before .before .before .before .before .before .before .before .before .before .integer .ensures) (c .before .before .before .before .before .before .before .before .before .before .before .before .integer2 .ensures) (c .before .before .before .before .before .before .before .before .before .before .integer3 .given .1) (c .before .operator .ensures) (c .before .before .before .before .before .before .count-members .ensures) (c .compares .ensures)
 
 pub eval-count-compare-spec : {M : Type 1} → statement M
 eval-count-compare-spec =

@@ -1,67 +1,53 @@
+-- `eval_node` goes by the kind of the first node in the root. Assumes nothing.
+use Rattle.eval.proofs.PipelineLaws.{node-empty, node-compare, node-pipeline}
+use Rattle.eval.proofs.PlanLaws.{source-at}
+use native.Mathlib.Omega.{arith}
+use denote.Ref.{now}
 use borrow.Author.Needs.{needs}
 use Rattle.eval.proofs.pipeline.eval_node.Statement.{statement}
 use Rattle.eval.proofs.pipeline.eval_node.Tie as tie
-use Rattle.eval.proofs.pipeline.eval_node.Reads as reads
-use Rattle.eval.proofs.pipeline.eval_node.Lts as lts
-use Rattle.eval.proofs.pipeline.eval_count_compare.Reads as eval-count-compare-reads
-use Rattle.eval.proofs.pipeline.eval_pipeline.Reads as eval-pipeline-reads
-use Rattle.predicate.proofs.node.first_child.Reads as first-child-reads
 
--- src/pipeline.rt:37:9
 first-child-requires : tie.Need-first-child-requires
 first-child-requires c κs = search needs
 
--- src/pipeline.rt:38:19
 enum-known-found : tie.Need-enum-known-found
 enum-known-found c = search needs
 
--- src/pipeline.rt:39:33
 enum-told : tie.Need-enum-told
 enum-told c = search needs
 
--- src/pipeline.rt:39:9
 returns : tie.Need-returns
-returns c = ?
+returns c = node-empty (now (c .before .before .before .before .before .before .before .args .rule)) (now (c .before .before .before .before .before .before .before .args .image)) (now (c .before .before .before .before .before .before .before .args .tree)) (c .before .before .first-child .ensures) (c .enum-told .given .1)
 
--- src/pipeline.rt:42:8
 mul-if1 : tie.Need-mul-if1
-mul-if1 c = ?
+mul-if1 c = omega (arith, (source-at (now (c .before .before .before .before .before .before .before .before .args .rule)) (now (c .before .before .before .before .before .before .before .before .args .tree)) 0 (c .before .before .before .first-child .ensures) (c .before .found .given .1)) .whole, c .before .before .before .before .before .before .before .before .pre .0)
 
--- src/pipeline.rt:42:8
 shared-slice-read-if1 : tie.Need-shared-slice-read-if1
-shared-slice-read-if1 c = ?
+shared-slice-read-if1 c = omega (arith, (source-at (now (c .before .before .before .before .before .before .before .before .before .args .rule)) (now (c .before .before .before .before .before .before .before .before .before .args .tree)) 0 (c .before .before .before .before .first-child .ensures) (c .before .before .found .given .1)) .whole)
 
--- src/pipeline.rt:43:58
 slice-aggregate-eval-count-compare : tie.Need-slice-aggregate-eval-count-compare
 slice-aggregate-eval-count-compare c = search needs
 
--- src/pipeline.rt:43:9
 eval-count-compare-requires : tie.Need-eval-count-compare-requires
-eval-count-compare-requires c κs = ?
+eval-count-compare-requires c κs = ((source-at (now (c .before .before .before .before .before .before .before .before .before .before .before .before .args .rule)) (now (c .before .before .before .before .before .before .before .before .before .before .before .before .args .tree)) 0 (c .before .before .before .before .before .before .before .first-child .ensures) (c .before .before .before .before .before .found .given .1)) .whole, c .before .before .before .before .before .before .before .before .before .before .before .before .pre .0, omega arith, c .before .before .before .before .before .before .before .before .before .before .before .before .pre .1)
 
--- src/pipeline.rt:43:9
 same-length : tie.Need-same-length
 same-length c = search needs
 
--- src/pipeline.rt:43:9
 returns-2 : tie.Need-returns-2
-returns-2 c = ?
+returns-2 c = node-compare (now (c .before .before .before .before .before .before .before .before .before .before .before .before .before .before .before .before .args .rule)) (now (c .before .before .before .before .before .before .before .before .before .before .before .before .before .before .before .before .args .image)) (now (c .before .before .before .before .before .before .before .before .before .before .before .before .before .before .before .before .args .tree)) (source-at (now (c .before .before .before .before .before .before .before .before .before .before .before .before .before .before .before .before .args .rule)) (now (c .before .before .before .before .before .before .before .before .before .before .before .before .before .before .before .before .args .tree)) 0 (c .before .before .before .before .before .before .before .before .before .before .before .first-child .ensures) (c .before .before .before .before .before .before .before .before .before .found .given .1)) (c .before .before .before .before .before .before .if1 .taken) (c .before .before .before .eval-count-compare .ensures)
 
--- src/pipeline.rt:45:42
 slice-aggregate-eval-pipeline : tie.Need-slice-aggregate-eval-pipeline
 slice-aggregate-eval-pipeline c = search needs
 
--- src/pipeline.rt:45:5
 eval-pipeline-requires : tie.Need-eval-pipeline-requires
-eval-pipeline-requires c κs = ?
+eval-pipeline-requires c κs = ((source-at (now (c .before .before .before .before .before .before .before .before .before .before .before .before .args .rule)) (now (c .before .before .before .before .before .before .before .before .before .before .before .before .args .tree)) 0 (c .before .before .before .before .before .before .before .first-child .ensures) (c .before .before .before .before .before .found .given .1)) .whole, c .before .before .before .before .before .before .before .before .before .before .before .before .pre .0, omega arith, c .before .before .before .before .before .before .before .before .before .before .before .before .pre .1)
 
--- src/pipeline.rt:33:1
 same-length-2 : tie.Need-same-length-2
 same-length-2 c = search needs
 
--- src/pipeline.rt:33:1
 returns-3 : tie.Need-returns-3
-returns-3 c = ?
+returns-3 c = node-pipeline (now (c .before .before .before .before .before .before .before .before .before .before .before .before .before .before .before .before .args .rule)) (now (c .before .before .before .before .before .before .before .before .before .before .before .before .before .before .before .before .args .image)) (now (c .before .before .before .before .before .before .before .before .before .before .before .before .before .before .before .before .args .tree)) (source-at (now (c .before .before .before .before .before .before .before .before .before .before .before .before .before .before .before .before .args .rule)) (now (c .before .before .before .before .before .before .before .before .before .before .before .before .before .before .before .before .args .tree)) 0 (c .before .before .before .before .before .before .before .before .before .before .before .first-child .ensures) (c .before .before .before .before .before .before .before .before .before .found .given .1)) (c .before .before .before .before .before .before .if1 .left) (c .before .before .before .eval-pipeline .ensures)
 
 pub eval-node-spec : {M : Type 1} → statement M
 eval-node-spec =

@@ -8,12 +8,6 @@ use denote.Ref.{now}
 use borrow.Author.Needs.{needs}
 use Rattle.eval.proofs.pipeline.eval_pipeline.Statement.{statement}
 use Rattle.eval.proofs.pipeline.eval_pipeline.Tie as tie
-use Rattle.eval.proofs.pipeline.eval_pipeline.Reads as reads
-use Rattle.eval.proofs.pipeline.eval_pipeline.Lts as lts
-use Rattle.eval.proofs.pipeline.value.Reads as value-reads
-use Rattle.eval.proofs.ready.last_method.Reads as last-method-reads
-use Rattle.eval.proofs.ready.plan.Reads as plan-reads
-use Rattle.eval.proofs.walk.walk.Reads as walk-reads
 
 plan-requires : tie.Need-plan-requires
 plan-requires c κs = (c .before .before .before .before .before .before .pre .0, omega (arith, c .before .before .before .before .before .before .pre .1), omega (arith, calls-room (now (c .before .before .before .before .before .before .args .rule)) (now (c .before .before .before .before .before .before .args .tree)) (now (c .before .before .before .before .before .before .args .calls)) (c .before .before .before .before .before .before .args .at) (c .before .before .before .before .before .before .pre .1) (c .before .before .before .before .before .before .pre .2)))

@@ -3,9 +3,6 @@ use Rattle.eval.proofs.ValueLaws.{judges-all, judges-any, judges-none, 
 use borrow.Author.Needs.{needs}
 use Rattle.eval.proofs.pipeline.judge.Statement.{statement}
 use Rattle.eval.proofs.pipeline.judge.Tie as tie
-use Rattle.eval.proofs.pipeline.judge.Reads as reads
-use Rattle.eval.proofs.pipeline.judge.Lts as lts
-use Rattle.eval.proofs.pipeline.boolean.Reads as boolean-reads
 
 boolean-requires : tie.Need-boolean-requires
 boolean-requires c κs = search needs

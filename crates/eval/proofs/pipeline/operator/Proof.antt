@@ -9,10 +9,6 @@ use mathlib.Core.Path.{refl, sym, _∙_}
 use denote.Ref.{now}
 use Rattle.eval.proofs.pipeline.operator.Statement.{statement}
 use Rattle.eval.proofs.pipeline.operator.Tie as tie
-use Rattle.eval.proofs.pipeline.operator.Reads as reads
-use Rattle.eval.proofs.pipeline.operator.Lts as lts
-use Rattle.eval.proofs.pipeline.is_operator.Reads as is-operator-reads
-use Rattle.predicate.proofs.rows.is_below.Reads as is-below-reads
 
 abbrev Inv-loop : tie.InvT-loop
 Inv-loop tree at level row₀ row = Seeking tree at level row

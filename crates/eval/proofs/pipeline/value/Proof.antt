@@ -3,9 +3,6 @@ use Rattle.eval.proofs.ValueLaws.{gives-components, gives-features, giv
 use borrow.Author.Needs.{needs}
 use Rattle.eval.proofs.pipeline.value.Statement.{statement}
 use Rattle.eval.proofs.pipeline.value.Tie as tie
-use Rattle.eval.proofs.pipeline.value.Reads as reads
-use Rattle.eval.proofs.pipeline.value.Lts as lts
-use Rattle.eval.proofs.pipeline.judge.Reads as judge-reads
 
 judge-requires : tie.Need-judge-requires
 judge-requires c κs = search needs

@@ -4,9 +4,6 @@ use denote.Ref.{now}
 use borrow.Author.Needs.{needs}
 use Rattle.eval.proofs.ready.args_place.Statement.{statement}
 use Rattle.eval.proofs.ready.args_place.Tie as tie
-use Rattle.eval.proofs.ready.args_place.Reads as reads
-use Rattle.eval.proofs.ready.args_place.Lts as lts
-use Rattle.predicate.proofs.node.child_of_kind.Reads as child-of-kind-reads
 
 child-of-kind-requires : tie.Need-child-of-kind-requires
 child-of-kind-requires c κs = search needs

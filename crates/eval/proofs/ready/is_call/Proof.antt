@@ -9,8 +9,6 @@ use denote.Ref.{now}
 use borrow.Author.Needs.{needs}
 use Rattle.eval.proofs.ready.is_call.Statement.{statement}
 use Rattle.eval.proofs.ready.is_call.Tie as tie
-use Rattle.eval.proofs.ready.is_call.Reads as reads
-use Rattle.eval.proofs.ready.is_call.Lts as lts
 
 add-if1 : tie.Need-add-if1
 add-if1 c = search needs

@@ -2,14 +2,10 @@
 use Rattle.eval.proofs.ReadyLaws.{last-below, last-from}
 use Rattle.eval.proofs.ready.is_last.Statement.{statement}
 use Rattle.eval.proofs.ready.is_last.Tie as tie
-use Rattle.eval.proofs.ready.is_last.Reads as reads
-use Rattle.eval.proofs.ready.is_last.Lts as lts
 
--- src/ready.rt:57:9
 returns : tie.Need-returns
 returns c = last-below _ (c .if1 .taken)
 
--- src/ready.rt:52:1
 returns-2 : tie.Need-returns-2
 returns-2 c = last-from _ (c .if1 .left)
 

@@ -6,9 +6,6 @@ use native.Mathlib.Omega.{arith}
 use Prim.Native.Nat.{_-_, _*_}
 use Rattle.eval.proofs.ready.kind_after.Statement.{statement}
 use Rattle.eval.proofs.ready.kind_after.Tie as tie
-use Rattle.eval.proofs.ready.kind_after.Reads as reads
-use Rattle.eval.proofs.ready.kind_after.Lts as lts
-use Rattle.calls.proofs.table.next_kind.Reads as next-kind-reads
 
 abbrev Inv-loop : tie.InvT-loop
 Inv-loop calls source kind₀ i₀ kind i = Kinds calls source kind i

@@ -7,9 +7,6 @@ use Prim.Native.Nat.{_-_}
 use mathlib.Core.Path.{sym, _∙_}
 use Rattle.eval.proofs.ready.last_method.Statement.{statement}
 use Rattle.eval.proofs.ready.last_method.Tie as tie
-use Rattle.eval.proofs.ready.last_method.Reads as reads
-use Rattle.eval.proofs.ready.last_method.Lts as lts
-use Rattle.eval.proofs.ready.is_last.Reads as is-last-reads
 
 abbrev Inv-loop : tie.InvT-loop
 Inv-loop calls i₀ i = NotYet calls i

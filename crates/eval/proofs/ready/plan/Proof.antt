@@ -6,12 +6,6 @@ use denote.Ref.{now}
 use borrow.Author.Needs.{needs}
 use Rattle.eval.proofs.ready.plan.Statement.{statement}
 use Rattle.eval.proofs.ready.plan.Tie as tie
-use Rattle.eval.proofs.ready.plan.Reads as reads
-use Rattle.eval.proofs.ready.plan.Lts as lts
-use Rattle.eval.proofs.ready.kind_after.Reads as kind-after-reads
-use Rattle.eval.proofs.ready.put_calls.Reads as put-calls-reads
-use Rattle.eval.proofs.ready.source_kind.Reads as source-kind-reads
-use Rattle.predicate.proofs.node.first_child.Reads as first-child-reads
 
 first-child-requires : tie.Need-first-child-requires
 first-child-requires c κs = search needs

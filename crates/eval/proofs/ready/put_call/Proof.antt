@@ -11,11 +11,6 @@ use denote.Ref.{now}
 use borrow.Author.Needs.{needs}
 use Rattle.eval.proofs.ready.put_call.Statement.{statement}
 use Rattle.eval.proofs.ready.put_call.Tie as tie
-use Rattle.eval.proofs.ready.put_call.Reads as reads
-use Rattle.eval.proofs.ready.put_call.Lts as lts
-use Rattle.calls.proofs.method.method_number.Reads as method-number-reads
-use Rattle.eval.proofs.ready.args_place.Reads as args-place-reads
-use Rattle.predicate.proofs.node.ident.Reads as ident-reads
 
 mul-at : tie.Need-mul-at
 mul-at c = search needs

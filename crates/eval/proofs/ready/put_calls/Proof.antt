@@ -9,10 +9,6 @@ use mathlib.Core.Path.{refl, sym, _∙_}
 use denote.Ref.{now}
 use Rattle.eval.proofs.ready.put_calls.Statement.{statement}
 use Rattle.eval.proofs.ready.put_calls.Tie as tie
-use Rattle.eval.proofs.ready.put_calls.Reads as reads
-use Rattle.eval.proofs.ready.put_calls.Lts as lts
-use Rattle.eval.proofs.ready.put_row.Reads as put-row-reads
-use Rattle.predicate.proofs.rows.is_below.Reads as is-below-reads
 
 abbrev Inv-loop : tie.InvT-loop
 Inv-loop rule tree at calls₀ level row₀ count₀ calls row count = Walking rule tree at level row calls₀ calls count

@@ -5,10 +5,6 @@ use denote.Ref.{now}
 use borrow.Author.Needs.{needs}
 use Rattle.eval.proofs.ready.put_row.Statement.{statement}
 use Rattle.eval.proofs.ready.put_row.Tie as tie
-use Rattle.eval.proofs.ready.put_row.Reads as reads
-use Rattle.eval.proofs.ready.put_row.Lts as lts
-use Rattle.eval.proofs.ready.is_call.Reads as is-call-reads
-use Rattle.eval.proofs.ready.put_call.Reads as put-call-reads
 
 is-call-requires : tie.Need-is-call-requires
 is-call-requires c κs = search needs

@@ -8,8 +8,6 @@ use mathlib.Core.Path.{sym, ap}
 use borrow.Author.Needs.{needs}
 use Rattle.eval.proofs.ready.source_kind.Statement.{statement}
 use Rattle.eval.proofs.ready.source_kind.Tie as tie
-use Rattle.eval.proofs.ready.source_kind.Reads as reads
-use Rattle.eval.proofs.ready.source_kind.Lts as lts
 
 mul-if1 : tie.Need-mul-if1
 mul-if1 c = search needs

@@ -4,9 +4,6 @@ use Rattle.eval.proofs.FeedLaws.{arrives-counted, arrives-true, arrives
 use borrow.Author.Needs.{needs}
 use Rattle.eval.proofs.walk.arrive.Statement.{statement}
 use Rattle.eval.proofs.walk.arrive.Tie as tie
-use Rattle.eval.proofs.walk.arrive.Reads as reads
-use Rattle.eval.proofs.walk.arrive.Lts as lts
-use Rattle.predicate.proofs.eval_args.Reads as eval-args-reads
 
 add-t9 : tie.Need-add-t9
 add-t9 c = search needs

@@ -5,8 +5,6 @@ use native.Mathlib.Omega.{arith}
 use Prim.Native.Nat.{_-_}
 use Rattle.eval.proofs.walk.clear.Statement.{statement}
 use Rattle.eval.proofs.walk.clear.Tie as tie
-use Rattle.eval.proofs.walk.clear.Reads as reads
-use Rattle.eval.proofs.walk.clear.Lts as lts
 
 abbrev Inv-loop : tie.InvT-loop
 Inv-loop collection₀ end i₀ collection i = Clearing collection₀ collection end i

@@ -13,10 +13,6 @@ use mathlib.Core.List.{map}
 use denote.Ref.{now}
 use Rattle.eval.proofs.walk.feed_components.Statement.{statement}
 use Rattle.eval.proofs.walk.feed_components.Tie as tie
-use Rattle.eval.proofs.walk.feed_components.Reads as reads
-use Rattle.eval.proofs.walk.feed_components.Lts as lts
-use Rattle.board.proofs.image.record_count.Reads as record-count-reads
-use Rattle.eval.proofs.walk.feed.Reads as feed-reads
 
 abbrev Inv-loop : tie.InvT-loop
 Inv-loop rule image tree calls collection₀ count tally₀ component₀ collection tally component =

@@ -9,10 +9,6 @@ use denote.Ref.{now}
 use borrow.Author.Needs.{needs}
 use Rattle.eval.proofs.walk.feed_diagnostic.Statement.{statement}
 use Rattle.eval.proofs.walk.feed_diagnostic.Tie as tie
-use Rattle.eval.proofs.walk.feed_diagnostic.Reads as reads
-use Rattle.eval.proofs.walk.feed_diagnostic.Lts as lts
-use Rattle.eval.proofs.walk.feed.Reads as feed-reads
-use Rattle.eval.proofs.walk.is_of_analysis.Reads as is-of-analysis-reads
 
 is-of-analysis-requires : tie.Need-is-of-analysis-requires
 is-of-analysis-requires c κs = search needs

@@ -14,10 +14,6 @@ use mathlib.Core.List.{map}
 use denote.Ref.{now}
 use Rattle.eval.proofs.walk.feed_diagnostics.Statement.{statement}
 use Rattle.eval.proofs.walk.feed_diagnostics.Tie as tie
-use Rattle.eval.proofs.walk.feed_diagnostics.Reads as reads
-use Rattle.eval.proofs.walk.feed_diagnostics.Lts as lts
-use Rattle.board.proofs.image.record_count.Reads as record-count-reads
-use Rattle.eval.proofs.walk.feed_diagnostic.Reads as feed-diagnostic-reads
 
 abbrev Inv-loop : tie.InvT-loop
 Inv-loop rule image tree name calls collection₀ count tally₀ diagnostic₀ collection tally diagnostic =

@@ -5,11 +5,6 @@ use denote.Ref.{now}
 use borrow.Author.Needs.{needs}
 use Rattle.eval.proofs.walk.is_of_analysis.Statement.{statement}
 use Rattle.eval.proofs.walk.is_of_analysis.Tie as tie
-use Rattle.eval.proofs.walk.is_of_analysis.Reads as reads
-use Rattle.eval.proofs.walk.is_of_analysis.Lts as lts
-use Rattle.board.proofs.image.field.Reads as field-reads
-use Rattle.board.proofs.image.string.Reads as string-reads
-use Rattle.syntax.proofs.text.same.Reads as same-reads
 
 field-requires : tie.Need-field-requires
 field-requires c κs = search needs

@@ -9,8 +9,6 @@ use native.Mathlib.Omega.{arith}
 use borrow.Author.Needs.{needs}
 use Rattle.eval.proofs.walk.put_member.Statement.{statement}
 use Rattle.eval.proofs.walk.put_member.Tie as tie
-use Rattle.eval.proofs.walk.put_member.Reads as reads
-use Rattle.eval.proofs.walk.put_member.Lts as lts
 
 mul-at : tie.Need-mul-at
 mul-at c = search needs

@@ -6,12 +6,6 @@ use denote.Ref.{now}
 use borrow.Author.Needs.{needs}
 use Rattle.eval.proofs.walk.walk.Statement.{statement}
 use Rattle.eval.proofs.walk.walk.Tie as tie
-use Rattle.eval.proofs.walk.walk.Reads as reads
-use Rattle.eval.proofs.walk.walk.Lts as lts
-use Rattle.eval.proofs.walk.clear.Reads as clear-reads
-use Rattle.eval.proofs.walk.feed_components.Reads as feed-components-reads
-use Rattle.eval.proofs.walk.feed_diagnostics.Reads as feed-diagnostics-reads
-use Rattle.predicate.proofs.node.find_string_literal.Reads as find-string-literal-reads
 
 clear-requires : tie.Need-clear-requires
 clear-requires c κs = search needs
