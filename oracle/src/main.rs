@@ -28,6 +28,7 @@ mod replay;
 mod replay_predicates;
 mod replay_tokens;
 mod replay_trees;
+mod run;
 mod sections;
 mod sequences;
 mod sides;
@@ -42,6 +43,8 @@ use std::process::ExitCode;
 
 use case::Case;
 use compare::Wanted;
+use reading::Reading;
+use run::{RunBoard, RunCase};
 
 const HELP: &str = "\
 oracle: the four Rust files beside the proved code
@@ -67,6 +70,9 @@ oracle: the four Rust files beside the proved code
   tree [FILE]
       reads a rule from FILE or standard input and prints its tree, the number
       of errors and their messages
+  run IMAGE [RULE]
+      runs a rule, from the file RULE or standard input, on a board image and
+      prints what it comes to, its members or its errors, and the verdict
   replay FOLDER
       writes the fixed cases to FOLDER/stdin and their answers, tokens, trees,
       errors and messages, to FOLDER/stdout
@@ -102,6 +108,8 @@ fn main() -> ExitCode {
         ("bench", _) => return bench(words),
         ("tree", []) => tree(&mut io::stdin()),
         ("tree", [file]) => fs::File::open(file).and_then(|mut file| tree(&mut file)),
+        ("run", [image]) => run(image, &mut io::stdin()),
+        ("run", [image, rule]) => fs::File::open(rule).and_then(|mut rule| run(image, &mut rule)),
         ("images", [folder]) => example_boards::write(Path::new(folder)),
         ("replay", [folder]) => replay::write(Path::new(folder)),
         ("replay-predicates", [folder]) => truths::write(Path::new(folder)),
@@ -245,4 +253,21 @@ fn tree(input: &mut dyn Read) -> io::Result<()> {
         writeln!(out, "{message}")?;
     }
     Ok(())
+}
+
+/// Prints what a rule comes to on a board, a line for each member or message, and the verdict.
+fn run(image: &str, input: &mut dyn Read) -> io::Result<()> {
+    let board = RunBoard::new(fs::read(image)?);
+    let mut rule = Vec::new();
+    input.read_to_end(&mut rule)?;
+    let ran = run::run(&board, &RunCase::new(&rule, &board));
+    let mut out = io::stdout().lock();
+    writeln!(out, "{}", ran.outcome)?;
+    for [first, second] in ran.outcome.members() {
+        writeln!(out, "{first} {second}")?;
+    }
+    for message in ran.reading.iter().flat_map(Reading::messages) {
+        writeln!(out, "{message}")?;
+    }
+    writeln!(out, "{}", ran.outcome.verdict().word())
 }
