@@ -168,7 +168,7 @@ pub fn rover() -> Board<'static> {
 }
 
 /// Every category, kind, direction and severity.
-fn words() -> Board<'static> {
+pub fn words() -> Board<'static> {
     let of_kinds = |direction| {
         let of_kind = |kind| feature("port", kind, direction);
         KINDS.into_iter().map(of_kind).collect()
@@ -262,7 +262,7 @@ pub fn names() -> Board<'static> {
 }
 
 /// A drawn board of 65,536 bytes, with records in every section.
-fn largest() -> Vec<u8> {
+pub fn largest() -> Vec<u8> {
     let (mut sections, mut image) = (Sections::default(), Vec::new());
     let mut random = Random::new(1);
     while sections.components.is_empty()

@@ -9,12 +9,14 @@ mod boards;
 mod case;
 mod compare;
 mod compare_images;
+mod controller;
 mod damage;
 mod draw_board;
 mod example_boards;
 mod exhaustive;
 mod generate;
 mod generate_images;
+mod generate_runs;
 mod grammar;
 mod image;
 mod messages;
@@ -26,14 +28,18 @@ mod random;
 mod reading;
 mod replay;
 mod replay_predicates;
+mod replay_runs;
 mod replay_tokens;
 mod replay_trees;
 mod run;
+mod run_rules;
+mod runs;
 mod sections;
 mod sequences;
 mod sides;
 mod tables;
 mod truths;
+mod words;
 
 use std::env;
 use std::fs;
@@ -79,6 +85,9 @@ oracle: the four Rust files beside the proved code
   replay-predicates FOLDER
       writes the fixed cases about predicates to FOLDER/stdin and their answers,
       the members for which each is true, to FOLDER/stdout
+  replay-runs FOLDER
+      writes the fixed runs to FOLDER/stdin and their answers, numbers, digests
+      of the tables and members, to FOLDER/stdout
   help
 
 compare, one and bench need the proved code: build with --features proved for
@@ -113,6 +122,7 @@ fn main() -> ExitCode {
         ("images", [folder]) => example_boards::write(Path::new(folder)),
         ("replay", [folder]) => replay::write(Path::new(folder)),
         ("replay-predicates", [folder]) => truths::write(Path::new(folder)),
+        ("replay-runs", [folder]) => runs::write(Path::new(folder)),
         ("help", []) => io::stdout().write_all(HELP.as_bytes()),
         _ => return usage(),
     };

@@ -39,6 +39,17 @@ impl RunCase {
             collection: board.enough(),
         }
     }
+
+    /// The lengths of tokens, tree, errors and collection.
+    pub fn lengths(&self) -> [usize; 4] {
+        let Case {
+            tokens,
+            tree,
+            errors,
+            ..
+        } = self.read;
+        [tokens, tree, errors, self.collection]
+    }
 }
 
 /// A board image, read once for all rules that are run on it.
