@@ -134,3 +134,41 @@ impl Runs {
         };
     }
 }
+
+#[cfg(test)]
+mod tests {
+    use super::*;
+    use crate::draw_board::{Size, draw};
+    use crate::run::{Outcome, run};
+    use crate::sections::Sections;
+
+    /// Rules that fit a board are mostly accepted, and their predicates are true of some members and
+    /// false of others.
+    #[test]
+    fn fitting_rules_part_the_members() {
+        let (mut sections, mut image) = (Sections::default(), Vec::new());
+        let (mut random, mut runs) = (Random::new(1), Runs::new(1));
+        let mut case = RunCase::default();
+        let (mut refused, mut truths, mut empty, mut some) = (0, [0; 2], 0, 0);
+        for _ in 0..200 {
+            draw(Size::Records(8), &mut sections, &mut random);
+            sections.write(&mut image);
+            let board = RunBoard::new(image.clone());
+            let names = Names::of_image(&image);
+            for _ in 0..20 {
+                runs.fill_fitting(&board, &names, 500, &mut case);
+                match run(&board, &case).outcome {
+                    Outcome::Refused(_) => refused += 1,
+                    Outcome::Boolean { value, .. } => truths[usize::from(value)] += 1,
+                    Outcome::Collection(_, members) if members.is_empty() => empty += 1,
+                    Outcome::Count(0) => empty += 1,
+                    Outcome::Collection(..) | Outcome::Count(_) => some += 1,
+                }
+            }
+        }
+        let all = format!("{refused} {truths:?} {empty} {some}");
+        assert!(refused < 1200, "{all}");
+        assert!(truths.iter().all(|&times| times > 600), "{all}");
+        assert!(empty > 300 && some > 300, "{all}");
+    }
+}
