@@ -6,7 +6,6 @@ use std::io;
 use std::path::{Path, PathBuf};
 
 use crate::compare_images::write_beside_program;
-use crate::controller::{Cut, controller};
 use crate::example_boards;
 use crate::generate_images::{DAMAGED, ImageCase, Images, Kind};
 use crate::generate_runs::Runs;
@@ -143,9 +142,8 @@ impl Boards {
 /// Boards made by hand.
 fn examples() -> Vec<Vec<u8>> {
     let boards = example_boards::boards().into_iter();
-    let controllers =
-        [Cut::Nowhere, Cut::OnlyLine, Cut::OneOfTwo].map(|cut| controller(cut).image());
-    boards.map(|(_, image)| image).chain(controllers).collect()
+    let boards = boards.chain(example_boards::controllers());
+    boards.map(|(_, image)| image).collect()
 }
 
 /// How many runs agreed, by what they came to.

@@ -168,3 +168,69 @@ fn lines() -> Vec<Connection<'static>> {
         line(SAFETY, TRIP),
     ]
 }
+
+#[cfg(test)]
+mod tests {
+    use std::fs;
+    use std::path::{Path, PathBuf};
+
+    use crate::example_boards::controllers;
+    use crate::run::{RunBoard, RunCase, Verdict, run};
+
+    fn examples() -> PathBuf {
+        Path::new(env!("CARGO_MANIFEST_DIR")).join("../examples")
+    }
+
+    #[test]
+    fn the_examples_are_these_boards() {
+        for (name, image) in controllers() {
+            let file = examples().join(name).with_extension("board");
+            assert!(fs::read(&file).unwrap() == image, "{}", file.display());
+        }
+    }
+
+    /// What a rule of the binder says of each board, as its README words it.
+    fn said(rule: &[u8]) -> [String; 3] {
+        controllers().map(|(_, image)| {
+            let board = RunBoard::new(image);
+            let outcome = run(&board, &RunCase::new(rule, &board)).outcome;
+            match outcome.verdict() {
+                Verdict::Refused => outcome.to_string(),
+                verdict => format!("{outcome}, {}", verdict.word()),
+            }
+        })
+    }
+
+    /// Each rule of the binder has a line in its README, which says what the Rust says.
+    #[test]
+    fn the_binder_says_what_its_readme_says() {
+        let folder = examples().join("rules");
+        let readme = fs::read_to_string(folder.join("README.md")).unwrap();
+        let mut rules = 0;
+        for entry in fs::read_dir(&folder).unwrap() {
+            let file = entry.unwrap().path();
+            if file.extension().is_none_or(|extension| extension != "rule") {
+                continue;
+            }
+            rules += 1;
+            let name = file.file_name().unwrap().display().to_string();
+            let start = format!("| `{name}` |");
+            let line = readme.lines().find(|line| line.starts_with(&start));
+            let line = line.unwrap_or_else(|| panic!("{name} has no line"));
+            let said = said(&fs::read(&file).unwrap()).join(" | ");
+            assert!(line.ends_with(&format!("| {said} |")), "{name}: {said}");
+        }
+        assert!((10..=14).contains(&rules), "{rules}");
+    }
+
+    /// The two cuts: `connected` sees the one and not the other, the analysis sees both.
+    #[test]
+    fn what_sees_a_cut() {
+        let [pass, fail] = ["true, pass", "false, fail"];
+        let connected = said(b"components.where(category == 'device').all(connected)");
+        assert_eq!(connected, [pass, fail, pass]);
+        assert_eq!(said(b"components.features.all(connected)"), connected);
+        let analysed = said(b"analysis('connectivity').none(severity == 'error')");
+        assert_eq!(analysed, [pass, fail, fail]);
+    }
+}

@@ -6,10 +6,10 @@ use spar_analysis::Severity;
 
 use crate::board::{Board, board_a, board_b};
 use crate::case::Case;
-use crate::controller::{Cut, controller};
 use crate::draw_board::{Size, draw};
 use crate::example_boards::{
-    diagnostic, ends, largest, names, refused_5, refused_6, refused_7, rings, rover, words,
+    controllers, diagnostic, ends, largest, names, refused_5, refused_6, refused_7, rings, rover,
+    words,
 };
 use crate::generate_images::{DAMAGED, ImageCase, Images};
 use crate::generate_runs::Runs;
@@ -413,8 +413,8 @@ fn boards(list: &mut List) {
         "analysis('connectivity').none(severity == 'error')",
         "analysis('connectivity').where(message.contains('cutout_trip'))",
     ];
-    for cut in [Cut::Nowhere, Cut::OnlyLine, Cut::OneOfTwo] {
-        let board = list.board(controller(cut));
+    for (_, image) in controllers() {
+        let board = list.image(image);
         for rule in rules {
             list.add(board, rule);
         }
