@@ -60,7 +60,7 @@ fn compare_with(entry: Entry, count: usize, seed: u64) -> Result<Agreed, Box<Dif
     let mut sides = RunSides::new(entry);
     let mut boards = Boards::new(seed);
     let mut runs = Runs::new(seed);
-    let mut random = Random::new(seed);
+    let mut random = Random::new(!seed);
     let mut agreed = Agreed::default();
     let mut called = CalledRun::default();
     while agreed.runs < count {
@@ -94,14 +94,14 @@ struct Boards {
 
 impl Boards {
     fn new(seed: u64) -> Self {
-        let is_drawn = |(source, ..): (Source, usize, usize)| match source {
+        let drawn = |(source, ..): (Source, usize, usize)| match source {
             Source::Drawn(kind) => Some((kind, Images::new(kind, seed))),
             _ => None,
         };
         let damaged = DAMAGED.into_iter().map(|(kind, _)| Images::new(kind, seed));
         Self {
             random: Random::new(seed),
-            drawn: BOARDS.into_iter().filter_map(is_drawn).collect(),
+            drawn: BOARDS.into_iter().filter_map(drawn).collect(),
             damaged: damaged.collect(),
             examples: examples(),
             case: ImageCase::default(),
@@ -112,13 +112,13 @@ impl Boards {
     fn next(&mut self) -> (RunBoard, usize) {
         let shares: usize = BOARDS.iter().map(|(_, share, _)| share).sum();
         let mut at = self.random.below(shares);
-        let mut chosen = BOARDS.iter().filter(|(_, share, _)| {
-            let is_here = at < *share;
-            at = at.wrapping_sub(*share);
-            is_here
-        });
-        let &(source, _, rules) = chosen.next().expect("a number below all shares");
-        (RunBoard::new(self.image(source)), rules)
+        for (source, share, rules) in BOARDS {
+            if at < share {
+                return (RunBoard::new(self.image(source)), rules);
+            }
+            at -= share;
+        }
+        unreachable!("a number below all shares")
     }
 
     fn image(&mut self, source: Source) -> Vec<u8> {
