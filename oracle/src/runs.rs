@@ -118,3 +118,19 @@ pub fn write(folder: &Path) -> io::Result<()> {
     let (stdin, stdout) = list.texts()?;
     write_files(folder, list.runs.len(), &stdin, &stdout)
 }
+
+#[cfg(test)]
+mod tests {
+    use std::fs;
+
+    use super::*;
+
+    /// The program's files are what is written now.
+    #[test]
+    fn the_program_has_this_list() {
+        let folder = Path::new(env!("CARGO_MANIFEST_DIR")).join("../crates/runs");
+        let (stdin, stdout) = replay_runs::list().texts().unwrap();
+        assert!(fs::read(folder.join("stdin")).unwrap() == stdin);
+        assert!(fs::read(folder.join("stdout")).unwrap() == stdout);
+    }
+}
