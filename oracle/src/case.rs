@@ -68,19 +68,21 @@ impl Case {
             errors: errors.parse().ok()?,
         })
     }
+
+    /// The words that `from_words` reads.
+    pub fn words(&self) -> String {
+        let hex: String = match self.rule.is_empty() {
+            true => String::from("-"),
+            false => self.rule.iter().map(|byte| format!("{byte:02x}")).collect(),
+        };
+        format!("{hex} {} {} {}", self.tokens, self.tree, self.errors)
+    }
 }
 
 /// The command that runs the case again.
 impl fmt::Display for Case {
     fn fmt(&self, f: &mut fmt::Formatter<'_>) -> fmt::Result {
-        write!(f, "oracle one ")?;
-        if self.rule.is_empty() {
-            write!(f, "-")?;
-        }
-        for byte in &self.rule {
-            write!(f, "{byte:02x}")?;
-        }
-        write!(f, " {} {} {}", self.tokens, self.tree, self.errors)
+        write!(f, "oracle one {}", self.words())
     }
 }
 

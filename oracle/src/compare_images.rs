@@ -9,16 +9,13 @@ use std::path::{Path, PathBuf};
 use crate::example_boards;
 use crate::generate_images::{DAMAGED, ImageCase, Images, Kind, WELL_FORMED};
 use crate::image::{Image, image_refusal};
+use crate::lent::LentBytes;
 use crate::proved;
-use crate::random::Random;
-
-/// Bytes kept before the image, at most, and after it.
-const MARGIN: usize = 64;
 
 /// Compares every small change of the example boards, and generated images: half of them well formed,
 /// half damaged.
 pub fn compare(count: usize, seed: u64) -> Result<(), Box<Difference>> {
-    let mut sides = Sides::new();
+    let mut sides = Sides::default();
     let mut total = every("every collection", every_collection, &mut sides)?;
     total.add(every("every byte", every_byte, &mut sides)?);
     total.add(every("every number", every_number, &mut sides)?);
@@ -42,7 +39,7 @@ pub fn one(file: &Path, collection: usize) -> io::Result<Result<String, String>>
         Some(image) => format!("{}\n", sections(&image)),
         None => String::new(),
     };
-    let checked = Sides::new().check(&case);
+    let checked = Sides::default().check(&case);
     Ok(checked.map(|answer| format!("{sections}{}", told(answer))))
 }
 
@@ -208,35 +205,20 @@ fn check(kind: &'static str, case: &ImageCase, sides: &mut Sides) -> Result<u32,
 }
 
 /// Both sides of one case, over a buffer that is used again.
+#[derive(Default)]
 struct Sides {
-    noise: Vec<u8>,
-    lent: Vec<u8>,
+    lent: LentBytes,
 }
 
 impl Sides {
-    fn new() -> Self {
-        let mut random = Random::new(1);
-        Self {
-            noise: (0..MARGIN).map(|_| random.byte()).collect(),
-            lent: Vec::new(),
-        }
-    }
-
     /// What both sides answer: a refusal's number, or 0. The image is lent at any address among noise,
     /// and nothing of it may be altered. On a difference it tells both sides.
     fn check(&mut self, case: &ImageCase) -> Result<u32, String> {
         let ImageCase { image, collection } = case;
         let expected = image_refusal(image, *collection).unwrap_or(0);
-        let before = &self.noise[..(image.len() + collection % 8) % 8];
-        self.lent.clear();
-        self.lent.extend_from_slice(before);
-        self.lent.extend_from_slice(image);
-        self.lent.extend_from_slice(&self.noise);
-        let (first, end) = (before.len(), before.len() + image.len());
-        let answer = proved::check_image(&mut self.lent[first..end], *collection);
-        let kept = self.lent[..first] == *before
-            && self.lent[first..end] == **image
-            && self.lent[end..] == *self.noise;
+        self.lent.set(image, image.len() + collection % 8);
+        let answer = proved::check_image(self.lent.lend(), *collection);
+        let kept = self.lent.is_kept(image);
         if answer == expected && kept {
             return Ok(answer);
         }
@@ -266,7 +248,7 @@ impl Difference {
 }
 
 /// Writes an image beside the running program, which stands in the target folder.
-fn write_beside_program(image: &[u8]) -> io::Result<PathBuf> {
+pub fn write_beside_program(image: &[u8]) -> io::Result<PathBuf> {
     let file = env::current_exe()?.with_file_name("difference.image");
     fs::write(&file, image)?;
     Ok(file)

@@ -11,20 +11,33 @@ use crate::board::{
     Board, CATEGORIES, Component, Connection, DIRECTIONS, Diagnostic, Feature, KINDS, Property,
     SEVERITIES, board_a, board_b,
 };
+use crate::controller::{Cut, controller};
 use crate::draw_board::{Size, draw};
 use crate::image::LARGEST;
 use crate::random::Random;
 use crate::sections::Sections;
 
-/// Writes all examples to the folder, each as `NAME.image`.
+/// Writes all examples to the folder, each as `NAME.image`; the controllers as `NAME.board`.
 pub fn write(folder: &Path) -> io::Result<()> {
     fs::create_dir_all(folder)?;
-    for (name, image) in boards().into_iter().chain(others()) {
-        let file = format!("{name}.image");
+    let images = boards().into_iter().chain(others());
+    let images = images.map(|(name, image)| (format!("{name}.image"), image));
+    let boards = controllers().map(|(name, image)| (format!("{name}.board"), image));
+    for (file, image) in images.chain(boards) {
         fs::write(folder.join(&file), &image)?;
-        println!("{file:<20} {:>6} bytes", image.len());
+        println!("{file:<28} {:>6} bytes", image.len());
     }
     Ok(())
+}
+
+/// The incubator's controller, whole and with a line cut.
+pub fn controllers() -> [(&'static str, Vec<u8>); 3] {
+    [
+        ("controller", Cut::Nowhere),
+        ("controller-cut", Cut::OnlyLine),
+        ("controller-one-of-two", Cut::OneOfTwo),
+    ]
+    .map(|(name, cut)| (name, controller(cut).image()))
 }
 
 /// Small boards that are not refused.
@@ -168,7 +181,7 @@ pub fn rover() -> Board<'static> {
 }
 
 /// Every category, kind, direction and severity.
-fn words() -> Board<'static> {
+pub fn words() -> Board<'static> {
     let of_kinds = |direction| {
         let of_kind = |kind| feature("port", kind, direction);
         KINDS.into_iter().map(of_kind).collect()
@@ -262,7 +275,7 @@ pub fn names() -> Board<'static> {
 }
 
 /// A drawn board of 65,536 bytes, with records in every section.
-fn largest() -> Vec<u8> {
+pub fn largest() -> Vec<u8> {
     let (mut sections, mut image) = (Sections::default(), Vec::new());
     let mut random = Random::new(1);
     while sections.components.is_empty()

@@ -187,30 +187,7 @@ impl Generator {
 
     fn near_miss(&mut self, rule: &mut Vec<u8>) {
         self.as_grammar().rule();
-        let length = self.pieces.len();
-        let at = self.random.below(length);
-        let spacing = Spacing::draw(true, &mut self.random);
-        let random = &mut self.random;
-        match random.below(3) {
-            0 => {
-                let dropped = (0..length).filter(|&index| index != at);
-                self.pieces.join(dropped, spacing, random, rule);
-            }
-            1 => {
-                let doubled = (0..=at).chain(at..length);
-                self.pieces.join(doubled, spacing, random, rule);
-            }
-            _ => {
-                let next = (at + 1).min(length - 1);
-                let swap = |index| match index {
-                    _ if index == at => next,
-                    _ if index == next => at,
-                    _ => index,
-                };
-                let swapped = (0..length).map(swap);
-                self.pieces.join(swapped, spacing, random, rule);
-            }
-        }
+        self.pieces.join_with_slip(&mut self.random, rule);
     }
 
     /// Tokens in any order; half of the time after the beginning of a predicate.

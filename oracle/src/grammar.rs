@@ -4,8 +4,8 @@ use crate::pieces::Pieces;
 use crate::random::Random;
 
 const FIELDS: [&str; 5] = ["category", "kind", "direction", "severity", "message"];
-const OPERATORS: [&str; 6] = [">=", ">", "<=", "<", "==", "!="];
-const INTEGERS: [&str; 6] = [
+pub const OPERATORS: [&str; 6] = [">=", ">", "<=", "<", "==", "!="];
+pub const INTEGERS: [&str; 6] = [
     "0",
     "2",
     "42",
@@ -13,7 +13,7 @@ const INTEGERS: [&str; 6] = [
     "18446744073709551615",
     "18446744073709551616",
 ];
-const STRINGS: [&str; 20] = [
+pub const STRINGS: [&str; 20] = [
     "''",
     "'device'",
     "'devce'",

@@ -1,6 +1,9 @@
 //! Document 01's board image, read from its bytes: the sections, and refusals 5 to 8, written from
 //! document 01 apart from the proved code.
 
+/// Numbers in a row of the collection table.
+pub const COLLECTION_ROW: usize = 2;
+
 /// Bytes of the seven pairs, which open an image.
 pub const OPENING: usize = 56;
 
@@ -22,9 +25,7 @@ pub fn image_refusal(image: &[u8], collection_len: usize) -> Option<u32> {
     if !image.records_hold() {
         return Some(7);
     }
-    let rows = collection_len / 2;
-    let members = image.components.len() + image.features.len();
-    if rows < members || rows < image.diagnostics.len() {
+    if collection_len / COLLECTION_ROW < image.collection_rows() {
         return Some(8);
     }
     None
@@ -73,6 +74,12 @@ impl<'a> Image<'a> {
             properties: Records::of(sections[5]),
             diagnostics: Records::of(sections[6]),
         })
+    }
+
+    /// The rows that a collection table must have.
+    pub fn collection_rows(&self) -> usize {
+        let members = self.components.len() + self.features.len();
+        members.max(self.diagnostics.len())
     }
 
     /// The bytes of a string whose pair lies within the letters.

@@ -9,14 +9,18 @@ mod boards;
 mod case;
 mod compare;
 mod compare_images;
+mod compare_runs;
+mod controller;
 mod damage;
 mod draw_board;
 mod example_boards;
 mod exhaustive;
 mod generate;
 mod generate_images;
+mod generate_runs;
 mod grammar;
 mod image;
+mod lent;
 mod messages;
 mod model;
 mod pieces;
@@ -26,15 +30,22 @@ mod random;
 mod reading;
 mod replay;
 mod replay_predicates;
+mod replay_runs;
 mod replay_tokens;
 mod replay_trees;
+mod run;
+mod run_rules;
+mod run_sides;
+mod runs;
 mod sections;
 mod sequences;
 mod sides;
 mod tables;
 mod truths;
+mod words;
 
 use std::env;
+use std::fmt::Display;
 use std::fs;
 use std::io::{self, Read, Write};
 use std::path::Path;
@@ -42,6 +53,9 @@ use std::process::ExitCode;
 
 use case::Case;
 use compare::Wanted;
+use reading::Reading;
+use run::{RunBoard, RunCase};
+use run_sides::CalledRun;
 
 const HELP: &str = "\
 oracle: the four Rust files beside the proved code
@@ -60,6 +74,12 @@ oracle: the four Rust files beside the proved code
   one-image FILE COLLECTION
       checks one image and a collection of so many numbers, and prints what
       both sides say
+  compare-runs [--count N] [--seed S]
+      compares N runs of rules on boards (2000000), drawn from the seed S (1);
+      stops at the first difference
+  one-run FILE HEX TOKENS TREE ERRORS COLLECTION ANSWER
+      runs a rule in hex (- for none) on an image, with tables and an answer of
+      so many numbers, and prints what both sides say
   images FOLDER
       writes boards A and B and other example boards to FOLDER
   bench [--rounds N]
@@ -67,17 +87,24 @@ oracle: the four Rust files beside the proved code
   tree [FILE]
       reads a rule from FILE or standard input and prints its tree, the number
       of errors and their messages
+  run IMAGE [RULE]
+      runs a rule, from the file RULE or standard input, on a board image and
+      prints what it comes to, its members or its errors, and the verdict
   replay FOLDER
       writes the fixed cases to FOLDER/stdin and their answers, tokens, trees,
       errors and messages, to FOLDER/stdout
   replay-predicates FOLDER
       writes the fixed cases about predicates to FOLDER/stdin and their answers,
       the members for which each is true, to FOLDER/stdout
+  replay-runs FOLDER
+      writes the fixed runs to FOLDER/stdin and their answers, numbers, digests
+      of the tables and members, to FOLDER/stdout
   help
 
 compare, one and bench need the proved code: build with --features proved for
 its tokens, with --features parse for its trees and messages too.
-compare-images and one-image need --features board.
+compare-images and one-image need --features board, compare-runs and one-run
+--features run.
 Exit status: 0 done or agreed; 1 a difference; 2 bad usage or a file's failure.
 ";
 
@@ -95,16 +122,25 @@ fn main() -> ExitCode {
             eprintln!("{command} needs the proved code: build with --features board");
             return ExitCode::from(2);
         }
+        ("compare-runs" | "one-run", _) if !proved::RUNS => {
+            eprintln!("{command} needs the proved code: build with --features run");
+            return ExitCode::from(2);
+        }
         ("compare", _) => return compare(words),
         ("one", _) => return one(words),
         ("compare-images", _) => return compare_images(words),
         ("one-image", [file, collection]) => return one_image(file, collection),
+        ("compare-runs", _) => return compare_runs(words),
+        ("one-run", [file, words @ ..]) => return one_run(file, words),
         ("bench", _) => return bench(words),
         ("tree", []) => tree(&mut io::stdin()),
         ("tree", [file]) => fs::File::open(file).and_then(|mut file| tree(&mut file)),
+        ("run", [image]) => run(image, &mut io::stdin()),
+        ("run", [image, rule]) => fs::File::open(rule).and_then(|mut rule| run(image, &mut rule)),
         ("images", [folder]) => example_boards::write(Path::new(folder)),
         ("replay", [folder]) => replay::write(Path::new(folder)),
         ("replay-predicates", [folder]) => truths::write(Path::new(folder)),
+        ("replay-runs", [folder]) => runs::write(Path::new(folder)),
         ("help", []) => io::stdout().write_all(HELP.as_bytes()),
         _ => return usage(),
     };
@@ -126,13 +162,7 @@ fn compare(words: &[String]) -> ExitCode {
     let Some(wanted) = wanted(words) else {
         return usage();
     };
-    match compare::compare(&wanted) {
-        Ok(()) => ExitCode::SUCCESS,
-        Err(difference) => {
-            println!("{difference}");
-            ExitCode::FAILURE
-        }
-    }
+    ended(compare::compare(&wanted))
 }
 
 /// The values after `--count`, `--seed` and `--sequences`.
@@ -157,31 +187,39 @@ fn one(words: &[String]) -> ExitCode {
     let Some(case) = Case::from_words(words) else {
         return usage();
     };
-    match compare::one(&case) {
-        Ok(said) => {
-            println!("{said}\nagreed");
-            ExitCode::SUCCESS
-        }
-        Err(difference) => {
-            println!("{difference}");
-            ExitCode::FAILURE
-        }
-    }
+    ended(compare::one(&case).map(|said| println!("{said}\nagreed")))
 }
 
 fn compare_images(words: &[String]) -> ExitCode {
-    let (mut count, mut seed) = (Some(1_000_000), Some(1));
-    for pair in words.chunks(2) {
-        match pair {
-            [name, value] if name == "--count" => count = value.parse().ok(),
-            [name, value] if name == "--seed" => seed = value.parse().ok(),
-            _ => return usage(),
-        }
-    }
-    let (Some(count), Some(seed)) = (count, seed) else {
+    let Some((count, seed)) = count_and_seed(words, 1_000_000) else {
         return usage();
     };
-    match compare_images::compare(count, seed) {
+    ended(compare_images::compare(count, seed))
+}
+
+fn compare_runs(words: &[String]) -> ExitCode {
+    let Some((count, seed)) = count_and_seed(words, 2_000_000) else {
+        return usage();
+    };
+    ended(compare_runs::compare(count, seed))
+}
+
+/// The values after `--count` and `--seed`.
+fn count_and_seed(words: &[String], count: usize) -> Option<(usize, u64)> {
+    let (mut count, mut seed) = (count, 1);
+    for pair in words.chunks(2) {
+        match pair {
+            [name, value] if name == "--count" => count = value.parse().ok()?,
+            [name, value] if name == "--seed" => seed = value.parse().ok()?,
+            _ => return None,
+        }
+    }
+    Some((count, seed))
+}
+
+/// How a comparison ended; a difference is printed.
+fn ended(compared: Result<(), impl Display>) -> ExitCode {
+    match compared {
         Ok(()) => ExitCode::SUCCESS,
         Err(difference) => {
             println!("{difference}");
@@ -194,15 +232,20 @@ fn one_image(file: &str, collection: &str) -> ExitCode {
     let Ok(collection) = collection.parse() else {
         return usage();
     };
-    match compare_images::one(Path::new(file), collection) {
-        Ok(Ok(said)) => {
-            println!("{said}\nagreed");
-            ExitCode::SUCCESS
-        }
-        Ok(Err(difference)) => {
-            println!("{difference}");
-            ExitCode::FAILURE
-        }
+    one_of_file(file, compare_images::one(Path::new(file), collection))
+}
+
+fn one_run(file: &str, words: &[String]) -> ExitCode {
+    let Some(called) = CalledRun::from_words(words) else {
+        return usage();
+    };
+    one_of_file(file, compare_runs::one(Path::new(file), &called))
+}
+
+/// What both sides say of a case whose image stands in a file, or how they differ.
+fn one_of_file(file: &str, said: io::Result<Result<String, String>>) -> ExitCode {
+    match said {
+        Ok(said) => ended(said.map(|said| println!("{said}\nagreed"))),
         Err(error) => {
             eprintln!("{file}: {error}");
             ExitCode::from(2)
@@ -219,13 +262,7 @@ fn bench(words: &[String]) -> ExitCode {
     let Some(rounds @ 1..) = rounds else {
         return usage();
     };
-    match bench::bench(rounds) {
-        Ok(()) => ExitCode::SUCCESS,
-        Err(difference) => {
-            println!("{difference}");
-            ExitCode::FAILURE
-        }
-    }
+    ended(bench::bench(rounds))
 }
 
 /// Prints a rule's tree rows, the number of its errors and their messages, or its refusal.
@@ -245,4 +282,21 @@ fn tree(input: &mut dyn Read) -> io::Result<()> {
         writeln!(out, "{message}")?;
     }
     Ok(())
+}
+
+/// Prints what a rule comes to on a board, a line for each member or message, and the verdict.
+fn run(image: &str, input: &mut dyn Read) -> io::Result<()> {
+    let board = RunBoard::new(fs::read(image)?);
+    let mut rule = Vec::new();
+    input.read_to_end(&mut rule)?;
+    let ran = run::run(&board, &RunCase::new(&rule, &board));
+    let mut out = io::stdout().lock();
+    writeln!(out, "{}", ran.outcome)?;
+    for [first, second] in ran.outcome.members() {
+        writeln!(out, "{first} {second}")?;
+    }
+    for message in ran.reading.iter().flat_map(Reading::messages) {
+        writeln!(out, "{message}")?;
+    }
+    writeln!(out, "{}", ran.outcome.verdict().word())
 }

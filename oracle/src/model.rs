@@ -92,12 +92,17 @@ impl<'a> Texts<'a> {
     }
 
     fn diagnostics(&self) -> Vec<AnalysisDiagnostic> {
-        let diagnostic = |[analysis, severity, message]: [u32; 3]| AnalysisDiagnostic {
-            analysis: self.text(analysis),
-            severity: SEVERITIES[severity as usize],
-            message: self.text(message),
+        let diagnostic = |(place, record): (usize, [u32; 3])| {
+            let [analysis, severity, message] = record;
+            AnalysisDiagnostic {
+                analysis: self.text(analysis),
+                severity: SEVERITIES[severity as usize],
+                message: self.text(message),
+                place,
+            }
         };
-        self.image.diagnostics.iter().map(diagnostic).collect()
+        let records = self.image.diagnostics.iter().enumerate();
+        records.map(diagnostic).collect()
     }
 }
 

@@ -53,6 +53,33 @@ impl Pieces {
         }
         spacing.put(b"", random, rule);
     }
+
+    /// Sets all pieces one after another, with one dropped, doubled or swapped with the next.
+    pub fn join_with_slip(&self, random: &mut Random, rule: &mut Vec<u8>) {
+        let length = self.len();
+        let at = random.below(length);
+        let spacing = Spacing::draw(true, random);
+        match random.below(3) {
+            0 => {
+                let dropped = (0..length).filter(|&index| index != at);
+                self.join(dropped, spacing, random, rule);
+            }
+            1 => {
+                let doubled = (0..=at).chain(at..length);
+                self.join(doubled, spacing, random, rule);
+            }
+            _ => {
+                let next = (at + 1).min(length - 1);
+                let swap = |index| match index {
+                    _ if index == at => next,
+                    _ if index == next => at,
+                    _ => index,
+                };
+                let swapped = (0..length).map(swap);
+                self.join(swapped, spacing, random, rule);
+            }
+        }
+    }
 }
 
 /// What stands between the pieces.

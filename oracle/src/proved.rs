@@ -1,12 +1,14 @@
 //! The proved code, called through the C interface of its static library.
 
 use crate::case::ERROR_ROW;
+use crate::run_sides::Lent;
 
-/// Whether the proved code is part of this build, whether it has the parser and its messages, and
-/// whether it has the check of board images.
+/// Whether the proved code is part of this build, whether it has the parser and its messages, whether
+/// it has the check of board images, and whether it runs rules.
 pub const LINKED: bool = cfg!(feature = "proved");
 pub const PARSES: bool = cfg!(feature = "parse");
 pub const CHECKS_IMAGES: bool = cfg!(feature = "board");
+pub const RUNS: bool = cfg!(feature = "run");
 
 #[cfg(feature = "proved")]
 unsafe extern "C" {
@@ -53,6 +55,26 @@ unsafe extern "C" {
 #[cfg(feature = "board")]
 unsafe extern "C" {
     fn assertion_check_image(image: *const u8, image_len: usize, collection_len: usize) -> u32;
+}
+
+#[cfg(feature = "run")]
+unsafe extern "C" {
+    fn spar_run(
+        rule: *const u8,
+        rule_len: usize,
+        image: *const u8,
+        image_len: usize,
+        tokens: *mut u32,
+        tokens_len: usize,
+        tree: *mut u32,
+        tree_len: usize,
+        errors: *mut u32,
+        errors_len: usize,
+        collection: *mut u32,
+        collection_len: usize,
+        answer: *mut u32,
+        answer_len: usize,
+    ) -> u32;
 }
 
 /// Returns 0 with the token rows at the front of the table and their number in `count`, or the
@@ -137,6 +159,33 @@ pub fn check_image(image: &mut [u8], collection_len: usize) -> u32 {
     unsafe { assertion_check_image(image.as_mut_ptr(), image.len(), collection_len) }
 }
 
+/// Returns 1 with the answer's eight numbers at the front of the last slice and the tables as document
+/// 01 says, or 0 with all as found where there is no room for the answer. No byte of rule and image may
+/// be altered; they are lent as if they might be, so that it can be seen.
+#[cfg(feature = "run")]
+pub fn run(rule: &mut [u8], image: &mut [u8], lent: Lent) -> u32 {
+    let [tokens, tree, errors, collection, answer] = lent;
+    // SAFETY: each pointer is valid for the length beside it, and nothing lent overlaps.
+    unsafe {
+        spar_run(
+            rule.as_mut_ptr(),
+            rule.len(),
+            image.as_mut_ptr(),
+            image.len(),
+            tokens.as_mut_ptr(),
+            tokens.len(),
+            tree.as_mut_ptr(),
+            tree.len(),
+            errors.as_mut_ptr(),
+            errors.len(),
+            collection.as_mut_ptr(),
+            collection.len(),
+            answer.as_mut_ptr(),
+            answer.len(),
+        )
+    }
+}
+
 #[cfg(not(feature = "proved"))]
 pub fn read_tokens(_: &[u8], _: &mut [u32], _: usize, _: usize, _: &mut u32) -> u32 {
     unreachable!("whoever calls this asks LINKED first")
@@ -155,4 +204,9 @@ pub fn message(_: &[u8], _: [u32; ERROR_ROW], _: &mut [u8], _: &mut usize) -> u3
 #[cfg(not(feature = "board"))]
 pub fn check_image(_: &mut [u8], _: usize) -> u32 {
     unreachable!("whoever calls this asks CHECKS_IMAGES first")
+}
+
+#[cfg(not(feature = "run"))]
+pub fn run(_: &mut [u8], _: &mut [u8], _: Lent) -> u32 {
+    unreachable!("whoever calls this asks RUNS first")
 }

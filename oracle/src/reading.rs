@@ -3,7 +3,7 @@
 use rowan::Element;
 
 use crate::assertion::lexer::lex;
-use crate::assertion::syntax::ExprSyntaxKind;
+use crate::assertion::syntax::{ExprSyntaxKind, SyntaxNode};
 use crate::assertion::{parser, placed_parser};
 use crate::case::{Case, ERROR_ROW, TOKEN_ROW, TREE_ROW};
 use crate::places::{self, Place};
@@ -26,6 +26,11 @@ impl Reading {
     /// The message of each error.
     pub fn messages(&self) -> &[String] {
         self.parsed.errors()
+    }
+
+    /// The tree's root, as `eval_node` takes it.
+    pub fn root(&self) -> SyntaxNode {
+        self.parsed.syntax_node()
     }
 
     /// The rows of the three tables, number after number.

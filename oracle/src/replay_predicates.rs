@@ -12,51 +12,7 @@ use crate::example_boards::{
     rings,
 };
 use crate::truths::{Sort, TruthCase};
-
-/// The words of each field, in the order of `eval.rs`.
-const CATEGORY_WORDS: [&str; 18] = [
-    "system",
-    "process",
-    "thread",
-    "thread_group",
-    "threadgroup",
-    "processor",
-    "virtual_processor",
-    "virtualprocessor",
-    "memory",
-    "bus",
-    "virtual_bus",
-    "virtualbus",
-    "device",
-    "subprogram",
-    "subprogram_group",
-    "subprogramgroup",
-    "data",
-    "abstract",
-];
-const KIND_WORDS: [&str; 19] = [
-    "data_port",
-    "dataport",
-    "event_port",
-    "eventport",
-    "event_data_port",
-    "eventdataport",
-    "parameter",
-    "data_access",
-    "dataaccess",
-    "bus_access",
-    "busaccess",
-    "subprogram_access",
-    "subprogramaccess",
-    "subprogram_group_access",
-    "subprogramgroupaccess",
-    "feature_group",
-    "featuregroup",
-    "abstract_feature",
-    "abstractfeature",
-];
-const DIRECTION_WORDS: [&str; 5] = ["in", "out", "in_out", "inout", "none"];
-const SEVERITY_WORDS: [&str; 3] = ["error", "warning", "info"];
+use crate::words::{CATEGORY_WORDS, DIRECTION_WORDS, KIND_WORDS, SEVERITY_WORDS};
 
 /// All cases, each once.
 pub fn cases() -> Vec<TruthCase> {
@@ -161,7 +117,7 @@ fn of_features(features: Vec<Feature>) -> Board {
     )])
 }
 
-fn of_diagnostics(diagnostics: Vec<Diagnostic>) -> Board {
+pub fn of_diagnostics(diagnostics: Vec<Diagnostic>) -> Board {
     Board {
         diagnostics,
         ..Board::default()
@@ -334,7 +290,7 @@ fn fields(list: &mut List) {
 }
 
 /// Components with features of several kinds, and diagnostics.
-fn mixed() -> Board<'static> {
+pub fn mixed() -> Board<'static> {
     use ComponentCategory as C;
     use Direction::{In, Out};
     use FeatureKind as F;
@@ -399,7 +355,7 @@ fn properties(list: &mut List) {
 
 /// Components with a property each, then such with features of those names, one with both, and one
 /// with neither.
-fn named() -> Board<'static> {
+pub fn named() -> Board<'static> {
     let sets_and_names = [
         ("a", "b::c"),
         ("a::b", "c"),
@@ -462,7 +418,7 @@ fn connections(list: &mut List) {
 
 /// Marks that reach one step down and no further, up or across; components that are their own parents;
 /// rings.
-fn parents() -> Board<'static> {
+pub fn parents() -> Board<'static> {
     let components = [
         // A chain.
         (None, false),
@@ -495,7 +451,7 @@ fn parents() -> Board<'static> {
 
 /// Connections at either end, both or none, owned by a component, its parent or another; no component
 /// is wired.
-fn joined() -> Board<'static> {
+pub fn joined() -> Board<'static> {
     let device = |parent, names: &[&'static str]| {
         let port = |&name| feature(name, FeatureKind::EventPort, Some(Direction::InOut));
         let features = names.iter().map(port).collect();
@@ -624,7 +580,7 @@ fn eight() -> impl Iterator<Item = [bool; 3]> {
 }
 
 /// With features `a`, `b` and `c`, or without.
-fn eight_components() -> Board<'static> {
+pub fn eight_components() -> Board<'static> {
     let with = |truths: [bool; 3]| {
         let port = |name| feature(name, FeatureKind::DataPort, None);
         let named = ["a", "b", "c"].into_iter().zip(truths);
@@ -635,7 +591,7 @@ fn eight_components() -> Board<'static> {
 }
 
 /// Data ports of devices that go in, or not.
-fn eight_features() -> Board<'static> {
+pub fn eight_features() -> Board<'static> {
     let with = |[device, data, goes_in]: [bool; 3]| {
         let category = match device {
             true => ComponentCategory::Device,
@@ -652,7 +608,7 @@ fn eight_features() -> Board<'static> {
 }
 
 /// Infos that say `a` and `b`, or not.
-fn eight_diagnostics() -> Board<'static> {
+pub fn eight_diagnostics() -> Board<'static> {
     let with = |[a, b, info]: [bool; 3]| {
         let message = match (a, b) {
             (true, true) => "a b",

@@ -6,7 +6,10 @@ use crate::messages::{Messages, Said};
 use crate::proved;
 use crate::random::Random;
 use crate::reading::{self, Reading};
-use crate::tables::{NAMES, Tables};
+use crate::tables::Tables;
+
+/// The tables, in the order in which they are lent.
+const NAMES: [&str; 3] = ["tokens", "tree", "errors"];
 
 /// Numbers in a row of each table.
 const ROWS: [usize; 3] = [TOKEN_ROW, TREE_ROW, ERROR_ROW];
@@ -45,7 +48,7 @@ impl Entry {
     }
 
     /// What it returns; the numbers of rows go to `counts`.
-    fn call(self, rule: &[u8], tables: &mut Tables, counts: &mut [u32; 3]) -> u32 {
+    fn call(self, rule: &[u8], tables: &mut Tables<3>, counts: &mut [u32; 3]) -> u32 {
         let [tokens, tree, errors] = tables.lend();
         match self {
             Entry::ReadTokens => {
@@ -68,7 +71,7 @@ fn length_alone(table: &[u32]) -> usize {
 /// Both sides, over tables that are used again.
 #[derive(Default)]
 pub struct Sides {
-    tables: Tables,
+    tables: Tables<3>,
     pub messages: Messages,
 }
 
@@ -113,7 +116,7 @@ fn check_entry(
     entry: Entry,
     case: &Case,
     rust: &Rust,
-    tables: &mut Tables,
+    tables: &mut Tables<3>,
     counts: [u32; 3],
 ) -> Result<(), String> {
     let rows = rust.as_ref().map_or([&[][..]; 3], Reading::rows);
@@ -154,7 +157,7 @@ impl Left {
         Self { returned, counts }
     }
 
-    fn by_call(entry: Entry, case: &Case, tables: &mut Tables, mut counts: [u32; 3]) -> Self {
+    fn by_call(entry: Entry, case: &Case, tables: &mut Tables<3>, mut counts: [u32; 3]) -> Self {
         let returned = entry.call(&case.rule, tables, &mut counts);
         Self { returned, counts }
     }
@@ -163,7 +166,7 @@ impl Left {
 /// A call that left something else than the Rust, with the counts as they were before it.
 struct Difference<'a> {
     entry: Entry,
-    tables: &'a Tables,
+    tables: &'a Tables<3>,
     counts: [u32; 3],
 }
 

@@ -1,4 +1,4 @@
-//! The three tables lent to the proved code, full of noise before each call.
+//! Tables lent to the proved code, full of noise before each call.
 
 use crate::random::Random;
 
@@ -8,40 +8,37 @@ const MARGIN: usize = 64;
 /// From how many places of the pool the noise of a table may be taken.
 const FIRSTS: usize = 4096;
 
-/// The names of the tables, in the order in which they are lent.
-pub const NAMES: [&str; 3] = ["tokens", "tree", "errors"];
-
-/// Tables with the margins after them. A table's noise is a part of a pool, so that it need not be
+/// N tables with the margins after them. A table's noise is a part of a pool, so that it need not be
 /// drawn number by number.
-pub struct Tables {
+pub struct Tables<const N: usize> {
     /// One of any numbers, one of numbers as rows have them.
     pools: [Pool; 2],
     pool: usize,
     /// Where each table's noise begins in the pool.
-    firsts: [usize; 3],
-    lengths: [usize; 3],
-    numbers: [Vec<u32>; 3],
+    firsts: [usize; N],
+    lengths: [usize; N],
+    numbers: [Vec<u32>; N],
 }
 
-impl Default for Tables {
+impl<const N: usize> Default for Tables<N> {
     fn default() -> Self {
         Self {
             pools: [Pool::new(1 << 32), Pool::new(32)],
             pool: 0,
-            firsts: [0; 3],
-            lengths: [0; 3],
-            numbers: [const { Vec::new() }; 3],
+            firsts: [0; N],
+            lengths: [0; N],
+            numbers: [const { Vec::new() }; N],
         }
     }
 }
 
-impl Tables {
+impl<const N: usize> Tables<N> {
     /// Sets the lengths of the tables, draws noise for them and fills them with it.
-    pub fn prepare(&mut self, lengths: [usize; 3], noise: &mut Random) {
+    pub fn prepare(&mut self, lengths: [usize; N], noise: &mut Random) {
         self.lengths = lengths;
         self.pool = noise.below(self.pools.len());
         self.firsts = lengths.map(|_| noise.below(FIRSTS));
-        for table in 0..3 {
+        for table in 0..N {
             let length = self.lengths[table] + MARGIN;
             self.pools[self.pool].grow(FIRSTS + length);
             if self.numbers[table].len() < length {
@@ -52,13 +49,12 @@ impl Tables {
     }
 
     /// The tables, to be lent.
-    pub fn lend(&mut self) -> [&mut [u32]; 3] {
-        let [tokens, tree, errors] = &mut self.numbers;
-        [
-            &mut tokens[..self.lengths[0]],
-            &mut tree[..self.lengths[1]],
-            &mut errors[..self.lengths[2]],
-        ]
+    pub fn lend(&mut self) -> [&mut [u32]; N] {
+        let mut lengths = self.lengths.into_iter();
+        self.numbers.each_mut().map(|numbers| {
+            let length = lengths.next().unwrap_or(0);
+            &mut numbers[..length]
+        })
     }
 
     /// Whether a table holds these rows and then, up to the end of the margin, its noise.

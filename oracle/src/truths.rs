@@ -4,8 +4,6 @@
 use std::io::{self, Write};
 use std::path::Path;
 
-use spar_analysis::AnalysisDiagnostic;
-
 use crate::assertion::eval::{Value, eval_node};
 use crate::assertion::parser::parse_expr;
 use crate::case::Case;
@@ -92,25 +90,12 @@ impl TruthCase {
                 .map(|feature| held.contains(&feature))
                 .collect(),
             (Sort::Diagnostics, Ok(Value::Diagnostics(held))) => {
-                diagnostic_truths(&model.diagnostics, held)
+                let is_held = |place| held.iter().any(|diagnostic| diagnostic.place == place);
+                (0..model.diagnostics.len()).map(is_held).collect()
             }
             (sort, held) => panic!("{rule:?} gives no {sort:?}: {held:?}"),
         }
     }
-}
-
-/// Which diagnostics are held, by their order: those that are held are copies.
-fn diagnostic_truths(all: &[AnalysisDiagnostic], held: Vec<AnalysisDiagnostic>) -> Vec<bool> {
-    let is_copy = |copy: &AnalysisDiagnostic, diagnostic: &AnalysisDiagnostic| {
-        copy.analysis == diagnostic.analysis
-            && copy.severity == diagnostic.severity
-            && copy.message == diagnostic.message
-    };
-    let mut held = held.into_iter().peekable();
-    let mut is_held = |diagnostic| held.next_if(|copy| is_copy(copy, diagnostic)).is_some();
-    let truths = all.iter().map(&mut is_held).collect();
-    assert!(held.next().is_none(), "each one held is of the board");
-    truths
 }
 
 /// The cases and their answers, one after the other.

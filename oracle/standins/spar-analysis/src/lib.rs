@@ -13,4 +13,6 @@ pub struct AnalysisDiagnostic {
     pub analysis: String,
     pub severity: Severity,
     pub message: String,
+    /// Its place among the model's diagnostics. Not spar's: the oracle asks which ones are held.
+    pub place: usize,
 }
