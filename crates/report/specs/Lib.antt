@@ -1,0 +1,5 @@
+pub mod Append
+pub mod Text
+pub mod Items
+pub mod Words
+pub mod Answer
