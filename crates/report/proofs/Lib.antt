@@ -1,3 +1,2 @@
-pub mod AppendLaws
-pub mod NumberLaws
-pub mod ItemLaws
+pub mod WordLaws
+pub mod ErrorLaws

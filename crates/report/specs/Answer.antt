@@ -6,11 +6,11 @@ use lib.Dec.{eqb}
 use Rattle.syntax.specs.Text.{ascii}
 use Rattle.syntax.specs.Refusal.{refusalNumber}
 use Rattle.syntax.specs.declared.refusal.Refusal.{Refusal}
+use Rattle.texts.specs.Text.{numberText, line}
 use Rattle.calls.specs.Answer.{verdictOfAnswer}
 use Rattle.calls.specs.declared.value.Value.{Value}
 use Rattle.calls.specs.declared.value.Outcome.{Outcome}
 use Rattle.calls.specs.declared.value.Verdict.{Verdict}
-use Rattle.report.specs.Text.{line, numberText}
 use Rattle.report.specs.Words.{reasonText}
 
 abbrev pub verdictText : Verdict → List ℕ
@@ -21,22 +21,19 @@ verdictText Verdict.Open = ascii "open"
 
 -- a number of things: `0 features`, `1 feature`, `2 features`
 abbrev pub counted : ℕ → List ℕ → List ℕ
-counted n thing = numberText n ++ ascii " " ++ thing ++ cond (eqb n 1) [] (ascii "s")
+counted n thing = numberText n ++ thing ++ cond (eqb n 1) [] (ascii "s")
 
 abbrev pub truthText : Bool → List ℕ
 truthText true = ascii "true"
 truthText false = ascii "false"
 
--- "`all` and `none` on an empty collection give a warned true"
-abbrev pub warnedText : Bool → List ℕ
-warnedText holds = truthText holds ++ ascii ", of an empty collection: no member was there to be looked at"
-
+-- what a rule comes to; "`all` and `none` on an empty collection give a warned true"
 abbrev pub valueText : Value → List ℕ
-valueText (Value.Components n) = counted n (ascii "component")
-valueText (Value.Features n) = counted n (ascii "feature")
-valueText (Value.Diagnostics n) = counted n (ascii "diagnostic")
+valueText (Value.Components n) = counted n (ascii " component")
+valueText (Value.Features n) = counted n (ascii " feature")
+valueText (Value.Diagnostics n) = counted n (ascii " diagnostic")
 valueText (Value.Bool holds) = truthText holds
-valueText (Value.BoolWithWarning holds) = warnedText holds
+valueText (Value.BoolWithWarning holds) = truthText holds ++ ascii ", of an empty collection: no member was there to be looked at"
 valueText (Value.Count n) = ascii "count: " ++ numberText n
 
 -- a refusal's number, and why
@@ -47,6 +44,6 @@ abbrev pub outcomeText : Outcome → List ℕ
 outcomeText (Outcome.Given value) = valueText value
 outcomeText (Outcome.Refused refusal) = refusalText refusal
 
--- the first two lines of a report
+-- the first two lines
 abbrev pub headText : Outcome → List ℕ
 headText outcome = line (verdictText (verdictOfAnswer outcome)) ++ line (outcomeText outcome)

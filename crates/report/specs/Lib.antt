@@ -1,5 +1,4 @@
-pub mod Append
-pub mod Text
-pub mod Items
 pub mod Words
 pub mod Answer
+pub mod Member
+pub mod Error

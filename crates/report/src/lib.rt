@@ -1,5 +1,5 @@
-// The words of an answer for the one who asked: the verdict, what a rule comes to, its members, and each parse error with its place.
-// Each writer appends a text to a lent place and gives the place past it; where the lent place ends, the text is cut.
+// What is printed for the one who asked: the verdict, what a rule comes to, its members, and each parse error with its place. Each
+// writer appends whole lines to a lent place, or a part of one, and gives the place past them.
 pub mod answer;
-pub mod text;
-mod words;
+pub mod error;
+pub mod member;

@@ -1,5 +1,5 @@
 -- `write_head` appends two lines. Assumes nothing.
-use Rattle.report.proofs.AppendLaws.{appends-then}
+use Rattle.texts.proofs.AppendLaws.{appends-then}
 use borrow.Author.Needs.{needs}
 use Rattle.report.proofs.answer.write_head.Statement.{statement}
 use Rattle.report.proofs.answer.write_head.Tie as tie
