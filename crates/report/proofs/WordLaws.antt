@@ -1,28 +1,18 @@
--- The words of a board's numbers, of refusals and of booleans as items of one text. Assumes nothing.
-use mathlib.Core.Path.{_≡_, refl, ap, _∙_}
+-- The words of refusals and of booleans as items of one text. Assumes nothing.
+use mathlib.Core.Path.{_≡_, refl, _∙_}
 use mathlib.Core.Bool.{Bool, true, false}
 use mathlib.Core.List.{List, [], _∷_, map}
 use Prim.Native.Nat.{ℕ}
 use mir.Val.{boolByte}
-use lib.ListN.{getD, List·getD-map}
+use lib.ListN.{getD}
 use Rattle.syntax.specs.Text.{ascii}
 use Rattle.syntax.specs.Refusal.{refusalNumber}
 use Rattle.syntax.specs.declared.refusal.Refusal.{Refusal}
 use Rattle.syntax.specs.declared.refusal.Refusal.the-variants.{RuleTooLong, RuleNotUtf8, TableTooShort, TooManyOpeners, ImageBadSections, ImageBadStrings, ImageBadRecords, CollectionTooShort, ParseErrors, WhereOnNoCollection, QuantifierOnNoCollection, CountOnNoCollection, FeaturesOnNoComponents, DiagnosticsOnNoDiagnostics, ComparisonNotCountable, IntegerTooLarge}
 use Rattle.texts.specs.Append.{Appends}
 use Rattle.texts.specs.Items.{item}
-use Rattle.texts.proofs.ItemLaws.{itemsOf, item-at}
-use Rattle.report.specs.Words.{reasonText, firstWord}
-use Rattle.report.specs.Answer.{truthText}
-
--- an item of a text whose items are known
-item-of : (n : ℕ) (s : List ℕ) {texts : List (List ℕ)} → itemsOf s ≡ texts → item n s ≡ getD texts n (ascii "?")
-item-of n s same = item-at n s ∙ ap (λ (xs : List (List ℕ)). getD xs n (ascii "?")) same
-
-module _ {out after : List ℕ} {at next : ℕ} (s : List ℕ) (n : ℕ) where
-  -- a number's word, from the first words of all numbers
-  pub word-appended : (words : List (List (List ℕ))) → itemsOf s ≡ map firstWord words → Appends (item n s) out at after next → Appends (firstWord (getD words n [])) out at after next
-  word-appended words same p = rw (item-of n s same ∙ List·getD-map firstWord words n []) at p
+use Rattle.texts.proofs.ItemLaws.{itemsOf, item-of}
+use Rattle.report.specs.Answer.{reasonText, truthText}
 
 -- the refusals in the order of their numbers, and their reasons behind an empty text
 abbrev pub reasons : List (List ℕ)

@@ -1,4 +1,2 @@
-pub mod Words
 pub mod Answer
-pub mod Member
 pub mod Error

@@ -2,4 +2,3 @@
 // writer appends whole lines to a lent place, or a part of one, and gives the place past them.
 pub mod answer;
 pub mod error;
-pub mod member;

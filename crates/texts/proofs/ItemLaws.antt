@@ -106,6 +106,10 @@ item-from (suc n) (b ∷ s) =
     let skip = item-from (suc n) s in
     whether (is "|" b) (λ e. rw (e, item, itemsFrom) next) (λ e. rw (e, item, itemsFrom) skip)
 
-pub item-at : (n : ℕ) (s : List ℕ) → item n s ≡ getD (itemsOf s) n (ascii "?")
+item-at : (n : ℕ) (s : List ℕ) → item n s ≡ getD (itemsOf s) n (ascii "?")
 unfolding itemsOf
 item-at n s = item-from n s
+
+-- an item of a text whose items are known
+pub item-of : (n : ℕ) (s : List ℕ) {texts : List (List ℕ)} → itemsOf s ≡ texts → item n s ≡ getD texts n (ascii "?")
+item-of n s same = item-at n s ∙ ap (λ (xs : List (List ℕ)). getD xs n (ascii "?")) same

@@ -3,12 +3,12 @@ use mathlib.Core.Path.{refl}
 use Rattle.matching.specs.Words.{severityWords}
 use Rattle.texts.proofs.AppendLaws.{appends-then}
 use Rattle.texts.proofs.ItemLaws.{itemsOf}
-use Rattle.report.specs.Words.{severityText}
-use Rattle.report.specs.Member.{diagnosticText}
-use Rattle.report.proofs.WordLaws.{word-appended}
+use Rattle.members.specs.Words.{severityText}
+use Rattle.members.specs.Member.{diagnosticText}
+use Rattle.members.proofs.WordLaws.{word-appended}
 use borrow.Author.Needs.{needs}
-use Rattle.report.proofs.member.write_diagnostic.Statement.{statement}
-use Rattle.report.proofs.member.write_diagnostic.Tie as tie
+use Rattle.members.proofs.write_diagnostic.Statement.{statement}
+use Rattle.members.proofs.write_diagnostic.Tie as tie
 
 field-requires : tie.Need-field-requires
 field-requires c κs = search needs

@@ -3,7 +3,7 @@ use board::image;
 use board::image::Section;
 use calls::value::Value;
 ghost use Rattle.texts.specs.Append.{Appends};
-ghost use Rattle.report.specs.Member.{componentText, featureText, portText, diagnosticText, memberText};
+ghost use Rattle.members.specs.Member.{componentText, featureText, portText, diagnosticText, memberText};
 
 // The line of a member of a value, from the two numbers of its row. A value that is no collection has no members, and no line.
 pub fn write_member(

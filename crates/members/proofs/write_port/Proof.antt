@@ -4,12 +4,12 @@ use borrow.Author.Tests.{eq-eqb, ne-eqb}
 use Rattle.matching.specs.Words.{featureKindWords, directionWords}
 use Rattle.texts.proofs.AppendLaws.{appends-then, appends-none}
 use Rattle.texts.proofs.ItemLaws.{itemsOf}
-use Rattle.report.specs.Words.{featureKindText, directionPart, directionText}
-use Rattle.report.specs.Member.{portText}
-use Rattle.report.proofs.WordLaws.{word-appended}
+use Rattle.members.specs.Words.{featureKindText, directionPart, directionText}
+use Rattle.members.specs.Member.{portText}
+use Rattle.members.proofs.WordLaws.{word-appended}
 use borrow.Author.Needs.{needs}
-use Rattle.report.proofs.member.write_port.Statement.{statement}
-use Rattle.report.proofs.member.write_port.Tie as tie
+use Rattle.members.proofs.write_port.Statement.{statement}
+use Rattle.members.proofs.write_port.Tie as tie
 
 field-requires : tie.Need-field-requires
 field-requires c κs = search needs

@@ -2,10 +2,10 @@
 use mathlib.Core.Path.{ap, _∙_}
 use Rattle.board.specs.Image.{text}
 use Rattle.texts.proofs.AppendLaws.{appends-then}
-use Rattle.report.specs.Member.{featureText}
+use Rattle.members.specs.Member.{featureText}
 use borrow.Author.Needs.{needs}
-use Rattle.report.proofs.member.write_feature.Statement.{statement}
-use Rattle.report.proofs.member.write_feature.Tie as tie
+use Rattle.members.proofs.write_feature.Statement.{statement}
+use Rattle.members.proofs.write_feature.Tie as tie
 
 field-requires : tie.Need-field-requires
 field-requires c κs = search needs

@@ -5,7 +5,7 @@ use Rattle.syntax.specs.Text.{ascii}
 use Rattle.texts.specs.Text.{numberText, shown, indented, line}
 use Rattle.board.specs.Image.{category, featureName, featureKind, direction, severity, message, text}
 use Rattle.calls.specs.declared.value.Value.{Value}
-use Rattle.report.specs.Words.{categoryText, featureKindText, directionPart, severityText}
+use Rattle.members.specs.Words.{categoryText, featureKindText, directionPart, severityText}
 
 -- a component: its index and its category
 unfoldable pub componentText : (image : List ℕ) (component : ℕ) → List ℕ

@@ -4,12 +4,12 @@ use mathlib.Core.Path.{refl}
 use Rattle.matching.specs.Words.{categoryWords}
 use Rattle.texts.proofs.AppendLaws.{appends-then}
 use Rattle.texts.proofs.ItemLaws.{itemsOf}
-use Rattle.report.specs.Words.{categoryText}
-use Rattle.report.specs.Member.{componentText}
-use Rattle.report.proofs.WordLaws.{word-appended}
+use Rattle.members.specs.Words.{categoryText}
+use Rattle.members.specs.Member.{componentText}
+use Rattle.members.proofs.WordLaws.{word-appended}
 use borrow.Author.Needs.{needs}
-use Rattle.report.proofs.member.write_component.Statement.{statement}
-use Rattle.report.proofs.member.write_component.Tie as tie
+use Rattle.members.proofs.write_component.Statement.{statement}
+use Rattle.members.proofs.write_component.Tie as tie
 
 field-requires : tie.Need-field-requires
 field-requires c κs = search needs

@@ -1,8 +1,8 @@
 -- `write_member` appends the line of each kind of member. Assumes nothing.
 use Rattle.texts.proofs.AppendLaws.{appends-none}
 use borrow.Author.Needs.{needs}
-use Rattle.report.proofs.member.write_member.Statement.{statement}
-use Rattle.report.proofs.member.write_member.Tie as tie
+use Rattle.members.proofs.write_member.Statement.{statement}
+use Rattle.members.proofs.write_member.Tie as tie
 
 enum-told : tie.Need-enum-told
 enum-told c = search needs
