@@ -1,0 +1,4 @@
+pub mod Append
+pub mod Text
+pub mod Items
+pub mod Place
