@@ -1,14 +1,19 @@
 -- eval.rs, "Matching helpers": the words for each value of a field, and when a word typed in a rule is one of them.
 -- Assumes nothing: these are definitions.
-use Prim.Native.Nat.{ℕ, _+_}
+use Prim.Native.Nat.{ℕ, _+_, _-_}
+use Prim.Native.Char.{code}
 use mathlib.Core.Bool.{Bool, false, _||_, cond}
 use mathlib.Core.List.{List, [], _∷_}
 use lib.ListN.{getD}
 use Rattle.syntax.specs.Text.{ascii, is, between, same}
 
+-- how far a small letter stands behind its capital
+abbrev pub TO-LOWER : ℕ
+TO-LOWER = code "a" - code "A"
+
 -- "lowered and `-` becomes `_` before comparing; ASCII lowering is enough"
 unfoldable pub fold : ℕ → ℕ
-fold b = cond (between "A" "Z" b) (b + 32) (cond (is "-" b) 95 b)
+fold b = cond (between "A" "Z" b) (b + TO-LOWER) (cond (is "-" b) (code "_") b)
 
 unfoldable pub folded : List ℕ → List ℕ
 unfolding fold
