@@ -8,7 +8,7 @@ use lib.ListN.{length}
 use lib.Seq.{sets}
 use Rattle.syntax.specs.Table.{withRows}
 use Rattle.syntax.specs.declared.refusal.Check.{Check}
-use Rattle.lexer.specs.Read.{tokenTable}
+use Rattle.lexer.specs.Read.{checkRule, tokenTable}
 use Rattle.parser.specs.Read.{rowsRead, treeTable, errorTable}
 use Rattle.parser.specs.declared.Reading.{Reading}
 use Rattle.meaning.specs.Value.{collectionTable}
@@ -45,6 +45,18 @@ runNumbers rule image l =
     outcomeNumbers (answerOf (meant.run rule image l)) (verdictFor (meant.verdictOf (meant.run rule image l)))
     ++ rowNumbers (rowsRead (meant.checkRun rule image l) rule)
 
+-- the first part of a reading's answer: 6, where the rule was read, and the verdict open; else the refusal
+abbrev pub READ : ℕ
+READ = 6
+
+abbrev pub readingNumbers : Reading → List ℕ
+readingNumbers (Reading.Rows a b c) = READ ∷ 0 ∷ 0 ∷ verdictNumber Verdict.Open ∷ []
+readingNumbers (Reading.Refused r) = outcomeNumbers (Outcome.Refused r) Verdict.Refused
+
+-- the eight numbers of a reading, after a check
+abbrev pub readNumbers : Check → List ℕ → List ℕ
+readNumbers check rule = readingNumbers (rowsRead check rule) ++ rowNumbers (rowsRead check rule)
+
 -- an answer with room for fewer than eight numbers: nothing is done, and 0 is given
 abbrev pub isShort : List ℕ → Bool
 isShort answer = ltb (length answer) ANSWER
@@ -61,6 +73,14 @@ pub record RunAnswer (rule image tokens₀ tokens₁ tree₀ tree₁ errors₀ e
   pub tree : tree₁ ≡ unlessShort answer₀ tree₀ (treeTable (meant.checkRun rule image (lent tokens₀ tree₀ errors₀ collection₀)) rule tree₀)
   pub errors : errors₁ ≡ unlessShort answer₀ errors₀ (errorTable (meant.checkRun rule image (lent tokens₀ tree₀ errors₀ collection₀)) rule errors₀)
   pub collection : collection₁ ≡ unlessShort answer₀ collection₀ (collectionTable (meant.run rule image (lent tokens₀ tree₀ errors₀ collection₀)) collection₀)
+
+-- what `spar_read` gives, r, and what all that is lent to it then holds
+pub record ReadAnswer (rule tokens₀ tokens₁ tree₀ tree₁ errors₀ errors₁ answer₀ answer₁ : List ℕ) (r : ℕ) : Type 0 where
+  pub result : r ≡ unlessShort answer₀ 0 1
+  pub answer : answer₁ ≡ unlessShort answer₀ answer₀ (withRows (readNumbers (checkRule rule (length tokens₀) (length tree₀) (length errors₀)) rule) answer₀)
+  pub tokens : tokens₁ ≡ unlessShort answer₀ tokens₀ (tokenTable (checkRule rule (length tokens₀) (length tree₀) (length errors₀)) rule tokens₀)
+  pub tree : tree₁ ≡ unlessShort answer₀ tree₀ (treeTable (checkRule rule (length tokens₀) (length tree₀) (length errors₀)) rule tree₀)
+  pub errors : errors₁ ≡ unlessShort answer₀ errors₀ (errorTable (checkRule rule (length tokens₀) (length tree₀) (length errors₀)) rule errors₀)
 
 -- numbers are written into an answer from a place on; no public contract needs this and the next
 pub record Puts (before : List ℕ) (at : ℕ) (numbers after : List ℕ) : Type 0 where

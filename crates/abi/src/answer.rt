@@ -11,7 +11,7 @@ ghost use Prim.Native.Nat.{_+_, _≤_};
 ghost use lib.ListN.{length};
 ghost use Rattle.board.specs.Check.{MAX-IMAGE};
 ghost use Rattle.calls.specs.Numbers.{valueAmount, outcomeAmount, bit, verdictNumber};
-ghost use Rattle.abi.specs.Numbers.{ANSWER, PART, valueNumbers, outcomeNumbers, rowNumbers, Puts, RowsFew};
+ghost use Rattle.abi.specs.Numbers.{ANSWER, PART, valueNumbers, outcomeNumbers, readingNumbers, rowNumbers, Puts, RowsFew};
 
 // The numbers of an answer.
 pub(crate) const ANSWER: usize = 8;
@@ -19,7 +19,10 @@ pub(crate) const ANSWER: usize = 8;
 // Those of its first part, where the second begins.
 const PART: usize = 4;
 
-// Writes the first part: the outcome and the verdict.
+// What a reading that is not refused comes to.
+const READ: u32 = 6;
+
+// Writes the first part of a run's answer: the outcome and the verdict.
 pub(crate) fn put_outcome(answer: &mut [u32], outcome: Outcome, verdict: Verdict)
     requires { ⌜ (ANSWER ≤ length (now answer)) × (outcomeAmount outcome ≤ MAX-IMAGE) ⌝ }
     ensures { λ _. ⌜ Puts (now (answer .entry)) 0 (outcomeNumbers outcome verdict) (now (answer .exit)) ⌝ }
@@ -46,7 +49,25 @@ fn put_value(answer: &mut [u32], value: Value, last: u32)
     }
 }
 
-// Writes the second part: the numbers of rows; 0 where nothing was read.
+// Writes the first part of a reading's answer: that the rule was read, or the refusal.
+pub(crate) fn put_reading(answer: &mut [u32], reading: Reading)
+    requires { ⌜ ANSWER ≤ length (now answer) ⌝ }
+    ensures { λ _. ⌜ Puts (now (answer .entry)) 0 (readingNumbers reading) (now (answer .exit)) ⌝ }
+{
+    match reading {
+        Reading::Rows { .. } => put_part(answer, 0, READ, 0, 0, verdict_number(Verdict::Open)),
+        Reading::Refused(r) => put_part(
+            answer,
+            0,
+            0,
+            refusal::number(r),
+            0,
+            verdict_number(Verdict::Refused),
+        ),
+    }
+}
+
+// Writes the second part of either: the numbers of rows; 0 where nothing was read.
 pub(crate) fn put_rows(answer: &mut [u32], reading: Reading)
     requires { ⌜ (ANSWER ≤ length (now answer)) × RowsFew reading ⌝ }
     ensures { λ _. ⌜ Puts (now (answer .entry)) PART (rowNumbers reading) (now (answer .exit)) ⌝ }

@@ -14,7 +14,7 @@ use Rattle.syntax.specs.declared.refusal.Refusal.the-variants.{RuleTooLong, Rul
 use Rattle.syntax.proofs.BoolLaws.{whether}
 use Rattle.lexer.specs.Read.{checkRule}
 use Rattle.parser.specs.Green.{Forest, nil, leaf, node}
-use Rattle.parser.specs.Parse.{Parsed, parseExpr}
+use Rattle.parser.specs.Parse.{parseExpr}
 use Rattle.parser.specs.Read.{rowsRead}
 use Rattle.parser.specs.declared.Reading.{Reading}
 use Rattle.parser.proofs.ReadLaws.{rows-few}
@@ -33,7 +33,7 @@ use Rattle.meaning.specs.Outcome.{Lent, firstKind, firstInner, evalCountCompare
 use Rattle.meaning.specs.Walk.{planOf, arrivals, lastMethod, lastTest, howMany, judged, settled}
 use Rattle.meaning.proofs.WalkLaws.{calls-refused, calls-settled, components-fit, diagnostics-fit}
 use Rattle.calls.specs.Answer.{answerOf, booleanOf}
-use Rattle.calls.specs.Numbers.{bit, valueAmount, outcomeAmount}
+use Rattle.calls.specs.Numbers.{valueAmount, outcomeAmount}
 
 -- ---- a board has few members
 

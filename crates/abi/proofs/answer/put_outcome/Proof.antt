@@ -14,7 +14,7 @@ enum-known-outcome : tie.Need-enum-known-outcome
 enum-known-outcome c = search needs
 
 put-value-requires : tie.Need-put-value-requires
-put-value-requires c κs = (c .before .before .before .before .before .before .pre .0, omega (arith, c .before .before .before .before .before .before .pre .1, ap outcomeAmount (c .before .before .outcome .given .1)))
+put-value-requires c κs = (c .before .before .before .before .before .before .pre .0, omega (arith, ap outcomeAmount (c .before .before .outcome .given .1)))
 
 enum-known-outcome-2 : tie.Need-enum-known-outcome-2
 enum-known-outcome-2 c = search needs

@@ -11,7 +11,7 @@ enum-known-value : tie.Need-enum-known-value
 enum-known-value c = search needs
 
 cast-put-part : tie.Need-cast-put-part
-cast-put-part c = omega (arith, c .before .before .before .before .before .pre .1, ap valueAmount (c .before .before .value .given .1))
+cast-put-part c = omega (arith, ap valueAmount (c .before .before .value .given .1))
 
 put-part-requires : tie.Need-put-part-requires
 put-part-requires c κs = search needs
@@ -20,7 +20,7 @@ enum-known-value-2 : tie.Need-enum-known-value-2
 enum-known-value-2 c = search needs
 
 cast-put-part-2 : tie.Need-cast-put-part-2
-cast-put-part-2 c = omega (arith, c .before .before .before .before .before .pre .1, ap valueAmount (c .before .before .value2 .given .1))
+cast-put-part-2 c = omega (arith, ap valueAmount (c .before .before .value2 .given .1))
 
 put-part-requires-2 : tie.Need-put-part-requires-2
 put-part-requires-2 c κs = search needs
@@ -29,7 +29,7 @@ enum-known-value-3 : tie.Need-enum-known-value-3
 enum-known-value-3 c = search needs
 
 cast-put-part-3 : tie.Need-cast-put-part-3
-cast-put-part-3 c = omega (arith, c .before .before .before .before .before .pre .1, ap valueAmount (c .before .before .value3 .given .1))
+cast-put-part-3 c = omega (arith, ap valueAmount (c .before .before .value3 .given .1))
 
 put-part-requires-3 : tie.Need-put-part-requires-3
 put-part-requires-3 c κs = search needs
@@ -56,7 +56,7 @@ enum-known-value-6 : tie.Need-enum-known-value-6
 enum-known-value-6 c = search needs
 
 cast-put-part-4 : tie.Need-cast-put-part-4
-cast-put-part-4 c = omega (arith, c .before .before .before .before .before .pre .1, ap valueAmount (c .before .before .value6 .given .1))
+cast-put-part-4 c = omega (arith, ap valueAmount (c .before .before .value6 .given .1))
 
 put-part-requires-6 : tie.Need-put-part-requires-6
 put-part-requires-6 c κs = search needs
