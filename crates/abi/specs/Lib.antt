@@ -1,1 +1,2 @@
 pub mod Abi
+pub mod Numbers

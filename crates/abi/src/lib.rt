@@ -1,4 +1,6 @@
 // The static library for C and Rust: what the crates below do, over plain numbers and slices. A slice passes as a pointer and a length.
+mod answer;
+
 use lexer::Lexed;
 use message::Message;
 use parser::Reading;
@@ -10,6 +12,54 @@ ghost use Rattle.board.specs.Check.{checkImage};
 ghost use Rattle.lexer.specs.Read.{checkRule};
 ghost use Rattle.message.specs.Message.{messageOf};
 ghost use Rattle.abi.specs.Abi.{Answers, RowsAnswer, Tables, MessageAnswer, checkNumber};
+ghost use Rattle.abi.specs.Numbers.{ReadAnswer, RunAnswer};
+
+// Reads a rule into any three tables. It gives 1, and the eight numbers of the reading at the front of `answer`; or 0, with all tables as
+// they were, where `answer` has fewer than eight numbers.
+#[no_mangle]
+pub extern "C" fn spar_read(
+    rule: &[u8],
+    tokens: &mut [u32],
+    tree: &mut [u32],
+    errors: &mut [u32],
+    answer: &mut [u32],
+) -> u32
+    ensures { λ r. ⌜ ReadAnswer (now (rule .entry)) (now (tokens .entry)) (now (tokens .exit)) (now (tree .entry)) (now (tree .exit)) (now (errors .entry)) (now (errors .exit)) (now (answer .entry)) (now (answer .exit)) r ⌝ }
+{
+    if answer.len() < answer::ANSWER {
+        return 0;
+    }
+    let reading = parser::parse_expr(rule, tokens, tree, errors);
+    answer::put_reading(answer, reading);
+    answer::put_rows(answer, reading);
+    1
+}
+
+// Runs a rule on a board image with any four tables. It gives 1, and the eight numbers of what the rule comes to at the front of `answer`;
+// or 0, with all tables as they were, where `answer` has fewer than eight numbers.
+#[no_mangle]
+pub extern "C" fn spar_run(
+    rule: &[u8],
+    image: &[u8],
+    tokens: &mut [u32],
+    tree: &mut [u32],
+    errors: &mut [u32],
+    collection: &mut [u32],
+    answer: &mut [u32],
+) -> u32
+    ensures { λ r. ⌜ RunAnswer (now (rule .entry)) (now (image .entry)) (now (tokens .entry)) (now (tokens .exit)) (now (tree .entry)) (now (tree .exit)) (now (errors .entry)) (now (errors .exit)) (now (collection .entry)) (now (collection .exit)) (now (answer .entry)) (now (answer .exit)) r ⌝ }
+{
+    if answer.len() < answer::ANSWER {
+        return 0;
+    }
+    let given = eval::run(rule, image, tokens, tree, errors, collection);
+    let outcome = given.outcome;
+    let verdict = given.verdict;
+    let reading = given.reading;
+    answer::put_outcome(answer, outcome, verdict);
+    answer::put_rows(answer, reading);
+    1
+}
 
 // Reads a rule's tokens into a table. `tree` and `errors` are the lengths of the other two tables. It gives 0, and the number of
 // tokens in `count`; or the number of a refusal from 1 to 4, with table and count as they were.

@@ -7,3 +7,4 @@ pub mod PlanLaws
 pub mod ValueLaws
 pub mod PipelineLaws
 pub mod RunLaws
+pub mod AmountLaws
