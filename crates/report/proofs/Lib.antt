@@ -1,2 +1,5 @@
 pub mod WordLaws
 pub mod ErrorLaws
+pub mod NumberLaws
+pub mod LengthLaws
+pub mod Examples

@@ -11,11 +11,11 @@ use Rattle.texts.specs.Append.{Appends}
 use Rattle.texts.specs.Text.{digit, digits, numberText}
 use Rattle.texts.proofs.AppendLaws.{appends-then}
 
-digits-one : (most n : ℕ) → n < 10 → digits (suc most) n ≡ digit n ∷ []
+pub digits-one : (most n : ℕ) → n < 10 → digits (suc most) n ≡ digit n ∷ []
 unfolding digits
 digits-one most n few = rw (lt-ltb n 10 few)
 
-digits-more : (most n : ℕ) → 10 ≤ n → digits (suc most) n ≡ digits most (n / 10) ++ (digit (n % 10) ∷ [])
+pub digits-more : (most n : ℕ) → 10 ≤ n → digits (suc most) n ≡ digits most (n / 10) ++ (digit (n % 10) ∷ [])
 unfolding digits
 digits-more most n many = rw (le-ltb n 10 many)
 

@@ -12,7 +12,7 @@ use Rattle.syntax.proofs.BoolLaws.{whether}
 use Rattle.syntax.proofs.TextLaws.{from}
 use Rattle.texts.specs.Append.{Appends}
 use Rattle.texts.specs.Text.{BLANK, part, shown, indented, line}
-use Rattle.texts.specs.Place.{LINE-FEED, CARET, behindLast, markPlace, lineStart, lineLength, lineEnd, columns, placeText}
+use Rattle.texts.specs.Place.{LINE-FEED, CARET, behindLast, markPlace, lineStart, lineLength, lineEnd, markEnd, columns, placeText}
 use Rattle.texts.proofs.AppendLaws.{appends-then}
 
 -- the place behind the last byte that passes, one byte back at a time
@@ -57,9 +57,9 @@ pub mark-found : (rule : List ℕ) (first : ℕ) → first < length rule → fir
 unfolding markPlace
 mark-found rule first h = rw (lt-ltb _ _ h)
 
-pub mark-end : (rule : List ℕ) (first : ℕ) {r : ℕ} → length rule ≤ first → r ≡ behindLast (λ b. ltb 0x20 b) rule (length rule) → r ≡ markPlace rule first
+pub mark-behind : (rule : List ℕ) (first : ℕ) {r : ℕ} → length rule ≤ first → r ≡ behindLast (λ b. ltb 0x20 b) rule (length rule) → r ≡ markPlace rule first
 unfolding markPlace
-mark-end rule first h e = rw (le-ltb _ _ h) e
+mark-behind rule first h e = rw (le-ltb _ _ h) e
 
 pub mark-within : (rule : List ℕ) (first : ℕ) → markPlace rule first ≤ length rule
 unfolding markPlace
@@ -128,8 +128,14 @@ module _ (rule : List ℕ) (first : ℕ) {mark start stop : ℕ} (m : mark ≡ m
   pub stop-inside : stop ≤ length rule
   stop-inside = omega (arith, t, end-within rule mark mark-inside)
 
+  pub marks-inside : (end : ℕ) {past : ℕ} → past ≡ markEnd rule first end stop → past ≤ length rule
+  unfolding markEnd
+  marks-inside end e =
+      whether (ltb first (length rule)) (λ u. omega (arith, rw u at e, stop-inside))
+      (λ u. omega (arith, rw u at e))
+
   -- its two lines appended
-  pub place-appended : (end : ℕ) {past at next last : ℕ} {out between after : List ℕ} → past ≡ min end stop → Appends (line (indented (shown (part start stop rule)))) out at between next
+  pub place-appended : (end : ℕ) {past at next last : ℕ} {out between after : List ℕ} → past ≡ markEnd rule first end stop → Appends (line (indented (shown (part start stop rule)))) out at between next
       → Appends (line (indented (columns BLANK (part start mark rule) ++ ascii "^" ++ columns CARET (part (mark + 1) past rule)))) between next after last
       → Appends (placeText rule first end) out at after last
   unfolding placeText

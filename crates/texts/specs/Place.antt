@@ -37,6 +37,10 @@ unfoldable pub lineEnd : List ℕ → ℕ → ℕ
 unfolding lineLength
 lineEnd s at = at + lineLength (drop at s)
 
+-- where the marks end: with the token, or with its line; at the end of text there is no token
+unfoldable pub markEnd : (rule : List ℕ) (first end stop : ℕ) → ℕ
+markEnd rule first end stop = cond (ltb first (length rule)) (min end stop) 0
+
 -- what stands under a byte: a tab under a tab, nothing under a byte that goes on a character of UTF-8, and else the mark
 unfoldable pub column : (mark b : ℕ) → List ℕ
 column mark b = cond (eqb b TAB) (TAB ∷ []) (cond (leb 0x80 b && ltb b 0xc0) [] (mark ∷ []))
@@ -45,12 +49,12 @@ unfoldable pub columns : (mark : ℕ) → List ℕ → List ℕ
 unfolding each column
 columns mark s = each (column mark) s
 
--- the line that holds a place, and below it blanks up to there and a `^` under each character up to `end`, one at least
+-- the line that holds a place, and below it blanks up to there and a `^` under each character of the token, one at least
 unfoldable pub placeText : (rule : List ℕ) (first end : ℕ) → List ℕ
-unfolding markPlace lineStart lineEnd shown columns
+unfolding markPlace lineStart lineEnd markEnd shown columns
 placeText rule first end =
     let mark = markPlace rule first in
     let start = lineStart rule mark in
     let stop = lineEnd rule mark in
     line (indented (shown (part start stop rule)))
-    ++ line (indented (columns BLANK (part start mark rule) ++ ascii "^" ++ columns CARET (part (mark + 1) (min end stop) rule)))
+    ++ line (indented (columns BLANK (part start mark rule) ++ ascii "^" ++ columns CARET (part (mark + 1) (markEnd rule first end stop) rule)))

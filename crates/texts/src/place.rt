@@ -4,15 +4,15 @@ use crate::append_byte;
 use crate::write_shown;
 ghost use mathlib.Core.Path.{_≡_};
 ghost use mathlib.Core.List.{_++_};
-ghost use Prim.Native.Nat.{_+_, _≤_, min};
+ghost use Prim.Native.Nat.{_+_, _≤_};
 ghost use lib.ListN.{length};
 ghost use Rattle.syntax.specs.Text.{ascii};
 ghost use Rattle.texts.specs.Append.{Appends};
 ghost use Rattle.texts.specs.Text.{BLANK, part, shown, indented, line};
-ghost use Rattle.texts.specs.Place.{CARET, markPlace, lineStart, lineEnd, column, columns, placeText};
+ghost use Rattle.texts.specs.Place.{CARET, markPlace, lineStart, lineEnd, markEnd, column, columns, placeText};
 
 // The line of the rule that holds byte `first`, and below it blanks up to there and a `^` under each character of the token found, as
-// far as that line has it. At the end of text the mark stands behind the last character that is no blank.
+// far as that line has it. At the end of text one mark stands behind the last character that is no blank.
 pub fn write_place(rule: &[u8], first: u32, end: u32, out: &mut [u8], at: usize) -> usize
     ensures { λ r. ⌜ Appends (placeText (now (rule .entry)) first end) (now (out .entry)) at (now (out .exit)) r ⌝ }
 {
@@ -20,7 +20,8 @@ pub fn write_place(rule: &[u8], first: u32, end: u32, out: &mut [u8], at: usize)
     let start = line_start(rule, mark);
     let stop = line_end(rule, mark);
     let below = write_line(&rule[start..stop], out, at);
-    write_mark(rule, start, mark, least(end as usize, stop), out, below)
+    let past = mark_end(rule, first as usize, end as usize, stop);
+    write_mark(rule, start, mark, past, out, below)
 }
 
 // Where the mark begins.
@@ -70,13 +71,17 @@ fn line_end(rule: &[u8], at: usize) -> usize
     end
 }
 
-fn least(a: usize, b: usize) -> usize
-    ensures { λ r. ⌜ r ≡ min a b ⌝ }
+// Where the marks end: with the token, or with its line; at the end of text there is no token.
+fn mark_end(rule: &[u8], first: usize, end: usize, stop: usize) -> usize
+    ensures { λ r. ⌜ r ≡ markEnd (now (rule .entry)) first end stop ⌝ }
 {
-    if a < b {
-        return a;
+    if rule.len() <= first {
+        return 0;
     }
-    b
+    if end < stop {
+        return end;
+    }
+    stop
 }
 
 // A line of the rule, set in.

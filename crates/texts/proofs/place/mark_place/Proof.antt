@@ -3,7 +3,7 @@ use native.Mathlib.Omega.{arith}
 use lib.ListN.{length}
 use borrow.Author.Tests.{lt-ltb, le-ltb}
 use lib.Dec.{ltb}
-use Rattle.texts.proofs.PlaceLaws.{Backs, backs-start, backs-on, backs-found, backs-none, mark-found, mark-end}
+use Rattle.texts.proofs.PlaceLaws.{Backs, backs-start, backs-on, backs-found, backs-none, mark-found, mark-behind}
 use borrow.Author.Needs.{needs}
 use Rattle.texts.proofs.place.mark_place.Statement.{statement}
 use Rattle.texts.proofs.place.mark_place.Tie as tie
@@ -27,7 +27,7 @@ shared-slice-read-if2 : tie.Need-shared-slice-read-if2 Inv-loop μ-loop
 shared-slice-read-if2 c = search needs
 
 returns-2 : tie.Need-returns-2 Inv-loop μ-loop
-returns-2 c = mark-end _ _ (c .before .before .before .before .if1 .left) (backs-found (c .before .before .before .loop .inv) (c .before .before .loop-test .taken) (lt-ltb 0x20 _ (c .if2 .taken)))
+returns-2 c = mark-behind _ _ (c .before .before .before .before .if1 .left) (backs-found (c .before .before .before .loop .inv) (c .before .before .loop-test .taken) (lt-ltb 0x20 _ (c .if2 .taken)))
 
 sub-end : tie.Need-sub-end Inv-loop μ-loop
 sub-end c = search needs
@@ -39,7 +39,7 @@ loop-again : tie.Need-loop-again Inv-loop μ-loop
 loop-again c = backs-on (c .before .before .before .loop .inv) (c .before .before .loop-test .taken) (le-ltb 0x20 _ (c .if2 .left))
 
 returns-3 : tie.Need-returns-3 Inv-loop μ-loop
-returns-3 c = mark-end _ _ (c .before .before .if1 .left) (backs-none (c .before .loop .inv) (c .loop-test .left))
+returns-3 c = mark-behind _ _ (c .before .before .if1 .left) (backs-none (c .before .loop .inv) (c .loop-test .left))
 
 pub mark-place-spec : {M : Type 1} → statement M
 mark-place-spec =

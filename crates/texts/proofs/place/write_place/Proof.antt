@@ -1,10 +1,7 @@
 -- `write_place` finds the line and appends it, and the line below it. Assumes nothing.
 use denote.Ref.{now}
 use native.Mathlib.Omega.{arith}
-use Rattle.texts.proofs.PlaceLaws.{mark-within, mark-inside, start-before, stop-inside, place-appended}
-use Rattle.texts.specs.Place.{placeText}
-use Rattle.texts.proofs.AppendLaws.{appends-then}
-use Rattle.texts.proofs.PlaceLaws.{mark-within, start-within, end-within}
+use Rattle.texts.proofs.PlaceLaws.{mark-within, mark-inside, start-before, stop-inside, marks-inside, place-appended}
 use borrow.Author.Needs.{needs}
 use Rattle.texts.proofs.place.write_place.Statement.{statement}
 use Rattle.texts.proofs.place.write_place.Tie as tie
@@ -30,17 +27,17 @@ part-write-line-end c = stop-inside _ (c .before .before .before .before .before
 write-line-requires : tie.Need-write-line-requires
 write-line-requires c κs = search needs
 
-least-requires : tie.Need-least-requires
-least-requires c κs = search needs
+mark-end-requires : tie.Need-mark-end-requires
+mark-end-requires c κs = search needs
 
 write-mark-requires : tie.Need-write-mark-requires
-write-mark-requires c κs = (mark-inside _ (c .before .before .before .before .before .before .before .before .before .before .before .before .args .first) (c .before .before .before .before .before .before .before .before .before .mark-place .ensures) (c .before .before .before .before .before .before .before .before .line-start .ensures) (c .before .before .before .before .before .before .before .line-end .ensures), omega (arith, c .before .least .ensures, stop-inside _ (c .before .before .before .before .before .before .before .before .before .before .before .before .args .first) (c .before .before .before .before .before .before .before .before .before .mark-place .ensures) (c .before .before .before .before .before .before .before .before .line-start .ensures) (c .before .before .before .before .before .before .before .line-end .ensures)))
+write-mark-requires c κs = (mark-inside _ (c .before .before .before .before .before .before .before .before .before .before .before .before .args .first) (c .before .before .before .before .before .before .before .before .before .mark-place .ensures) (c .before .before .before .before .before .before .before .before .line-start .ensures) (c .before .before .before .before .before .before .before .line-end .ensures), marks-inside _ (c .before .before .before .before .before .before .before .before .before .before .before .before .args .first) (c .before .before .before .before .before .before .before .before .before .mark-place .ensures) (c .before .before .before .before .before .before .before .before .line-start .ensures) (c .before .before .before .before .before .before .before .line-end .ensures) (c .before .before .before .before .before .before .before .before .before .before .before .before .args .end) (c .before .mark-end .ensures))
 
 same-length : tie.Need-same-length
 same-length c = search needs
 
 returns : tie.Need-returns
-returns c = place-appended _ (c .before .before .before .before .before .before .before .before .before .before .before .before .before .before .before .args .first) (c .before .before .before .before .before .before .before .before .before .before .before .before .mark-place .ensures) (c .before .before .before .before .before .before .before .before .before .before .before .line-start .ensures) (c .before .before .before .before .before .before .before .before .before .before .line-end .ensures) (c .before .before .before .before .before .before .before .before .before .before .before .before .before .before .before .args .end) (c .before .before .before .before .least .ensures) (c .before .before .before .before .before .before .before .write-line .ensures) (c .before .before .write-mark .ensures)
+returns c = place-appended _ (c .before .before .before .before .before .before .before .before .before .before .before .before .before .before .before .args .first) (c .before .before .before .before .before .before .before .before .before .before .before .before .mark-place .ensures) (c .before .before .before .before .before .before .before .before .before .before .before .line-start .ensures) (c .before .before .before .before .before .before .before .before .before .before .line-end .ensures) (c .before .before .before .before .before .before .before .before .before .before .before .before .before .before .before .args .end) (c .before .before .before .before .mark-end .ensures) (c .before .before .before .before .before .before .before .write-line .ensures) (c .before .before .write-mark .ensures)
 
 pub write-place-spec : {M : Type 1} → statement M
 write-place-spec =
@@ -53,7 +50,7 @@ write-place-spec =
     part-write-line-start
     part-write-line-end
     write-line-requires
-    least-requires
+    mark-end-requires
     write-mark-requires
     same-length
     returns)

@@ -1,0 +1,56 @@
+-- `write_words` stays within the numbers. Assumes nothing.
+use Prim.Native.Nat.{_-_, _≤_}
+use mathlib.Core.Path.{_≡_}
+use lib.ListN.{length}
+use borrow.Author.Needs.{needs}
+use Rattle.words.proofs.write_words.Statement.{statement}
+use Rattle.words.proofs.write_words.Tie as tie
+
+abbrev Inv-loop : tie.InvT-loop
+Inv-loop numbers out₀ at next₀ i₀ out next i = (i ≤ length numbers) × (length out ≡ length out₀)
+
+abbrev μ-loop : tie.MeasureT-loop
+μ-loop numbers out₀ at next₀ i₀ out next i = length numbers - i
+
+loop-holds : tie.Need-loop-holds Inv-loop μ-loop
+loop-holds c = search needs
+
+mul-write-word : tie.Need-mul-write-word Inv-loop μ-loop
+mul-write-word c = search needs
+
+shared-slice-read-write-word : tie.Need-shared-slice-read-write-word Inv-loop μ-loop
+shared-slice-read-write-word c = search needs
+
+write-word-requires : tie.Need-write-word-requires Inv-loop μ-loop
+write-word-requires c κs = search needs
+
+add-i : tie.Need-add-i Inv-loop μ-loop
+add-i c = search needs
+
+loop-less : tie.Need-loop-less Inv-loop μ-loop
+loop-less c = search needs
+
+loop-again : tie.Need-loop-again Inv-loop μ-loop
+loop-again c = search needs
+
+same-length : tie.Need-same-length Inv-loop μ-loop
+same-length c = search needs
+
+returns : tie.Need-returns Inv-loop μ-loop
+returns c = search needs
+
+pub write-words-spec : {M : Type 1} → statement M
+write-words-spec =
+    tie.close
+    (tie.spec
+    Inv-loop
+    μ-loop
+    loop-holds
+    mul-write-word
+    shared-slice-read-write-word
+    write-word-requires
+    add-i
+    loop-less
+    loop-again
+    same-length
+    returns)
