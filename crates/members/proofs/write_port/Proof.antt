@@ -34,7 +34,7 @@ same-length c = search needs
 
 returns : tie.Need-returns
 unfolding portText featureKindText featureKindWords directionPart itemsOf
-returns c = rw (eq-eqb _ _ (sym (c .before .before .before .before .before .before .before .before .before .before .before .field2 .ensures) ∙ c .if1 .taken)) (appends-then (appends-then (c .before .before .before .before .before .before .before .before .append .ensures) (word-appended _ _ featureKindWords refl (rw (c .before .before .before .before .before .before .before .before .before .before .before .before .field .ensures) at (c .before .before .before .write-item .ensures)))) appends-none)
+returns c = rw (eq-eqb _ 0 (sym (c .before .before .before .before .before .before .before .before .before .before .before .field2 .ensures) ∙ c .if1 .taken)) (appends-then (appends-then (c .before .before .before .before .before .before .before .before .append .ensures) (word-appended _ _ featureKindWords refl (rw (c .before .before .before .before .before .before .before .before .before .before .before .before .field .ensures) at (c .before .before .before .write-item .ensures)))) appends-none)
 
 slice-aggregate-append-2 : tie.Need-slice-aggregate-append-2
 slice-aggregate-append-2 c = search needs
@@ -53,7 +53,7 @@ same-length-2 c = search needs
 
 returns-2 : tie.Need-returns-2
 unfolding portText featureKindText featureKindWords directionPart directionText directionWords itemsOf
-returns-2 c = rw (ne-eqb _ _ (λ e. c .before .before .before .before .before .before .before .before .before .before .if1 .left (c .before .before .before .before .before .before .before .before .before .before .before .before .before .before .before .before .before .before .before .before .before .field2 .ensures ∙ e))) (appends-then (appends-then (c .before .before .before .before .before .before .before .before .before .before .before .before .before .before .before .before .before .before .append .ensures) (word-appended _ _ featureKindWords refl (rw (c .before .before .before .before .before .before .before .before .before .before .before .before .before .before .before .before .before .before .before .before .before .before .field .ensures) at (c .before .before .before .before .before .before .before .before .before .before .before .before .before .write-item .ensures)))) (appends-then (c .before .before .before .before .before .before .before .append2 .ensures) (word-appended _ _ directionWords refl (rw (c .before .before .before .before .before .before .before .before .before .before .before .before .before .before .before .before .before .before .before .before .before .field2 .ensures) at (c .before .before .write-item2 .ensures)))))
+returns-2 c = rw (ne-eqb _ 0 (λ e. c .before .before .before .before .before .before .before .before .before .before .if1 .left (c .before .before .before .before .before .before .before .before .before .before .before .before .before .before .before .before .before .before .before .before .before .field2 .ensures ∙ e))) (appends-then (appends-then (c .before .before .before .before .before .before .before .before .before .before .before .before .before .before .before .before .before .before .append .ensures) (word-appended _ _ featureKindWords refl (rw (c .before .before .before .before .before .before .before .before .before .before .before .before .before .before .before .before .before .before .before .before .before .before .field .ensures) at (c .before .before .before .before .before .before .before .before .before .before .before .before .before .write-item .ensures)))) (appends-then (c .before .before .before .before .before .before .before .append2 .ensures) (word-appended _ _ directionWords refl (rw (c .before .before .before .before .before .before .before .before .before .before .before .before .before .before .before .before .before .before .before .before .before .field2 .ensures) at (c .before .before .write-item2 .ensures)))))
 
 pub write-port-spec : {M : Type 1} → statement M
 write-port-spec =
