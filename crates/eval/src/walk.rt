@@ -13,7 +13,7 @@ use syntax::text;
 ghost use mathlib.Core.Path.{_≡_};
 ghost use mathlib.Core.Bool.{true};
 ghost use mathlib.Core.List.{[], _∷_, _++_, map};
-ghost use Prim.Native.Nat.{_+_, _*_, _≤_};
+ghost use Prim.Native.Nat.{_+_, _*_, _^_, _≤_, _<_};
 ghost use lib.ListN.{length, drop, replicate};
 ghost use lib.Seq.{sets};
 ghost use Rattle.board.specs.Image.{componentCount, diagnosticCount};
@@ -242,7 +242,7 @@ fn arrive(
     member: Member,
     tally: Tally,
 ) -> Tally
-    requires { ⌜ (isLast (methodAt method) ≡ true) × (tally .arrived + 1 ≤ 18446744073709551615) × (tally .passed ≤ tally .arrived) ⌝ }
+    requires { ⌜ (isLast (methodAt method) ≡ true) × (tally .arrived + 1 < 2 ^ 64) × (tally .passed ≤ tally .arrived) ⌝ }
     ensures { λ r. ⌜ Arrives (now (rule .entry)) (now (image .entry)) (now (tree .entry)) method args member tally r ⌝ }
 {
     if method == method::COUNT {
