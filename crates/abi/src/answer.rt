@@ -3,7 +3,7 @@
 use calls::value::Outcome;
 use calls::value::Value;
 use calls::value::Verdict;
-use parser::Reading;
+use reading::Reading;
 use syntax::refusal;
 ghost use mathlib.Core.Path.{_≡_};
 ghost use mathlib.Core.List.{[], _∷_};

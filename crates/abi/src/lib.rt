@@ -3,7 +3,7 @@ mod answer;
 
 use lexer::Lexed;
 use message::Message;
-use parser::Reading;
+use reading::Reading;
 use syntax::refusal;
 use syntax::refusal::Check;
 ghost use mathlib.Core.Path.{_≡_};

@@ -4,11 +4,11 @@ use Prim.Native.Nat.{ℕ, _*_, _≤_}
 use mathlib.Core.Path.{_≡_}
 use mathlib.Core.List.{List}
 use lib.ListN.{length, take}
-use Rattle.parser.specs.Green.{size}
-use Rattle.parser.specs.Parse.{parseExpr}
-use Rattle.parser.specs.Rows.{treeRows}
-use Rattle.parser.specs.Read.{Reads}
-use Rattle.parser.specs.declared.Reading.{Reading}
+use Rattle.reading.specs.Green.{size}
+use Rattle.reading.specs.Parse.{parseExpr}
+use Rattle.reading.specs.Rows.{treeRows}
+use Rattle.reading.specs.Read.{Reads}
+use Rattle.reading.specs.declared.Reading.{Reading}
 use Rattle.lexer.specs.Read.{TREE-ROW}
 use Rattle.meaning.specs.Value.{collectionTable}
 use Rattle.meaning.specs.Outcome as meant

@@ -7,7 +7,7 @@ pub mod walk;
 use calls::value::Outcome;
 use calls::value::Verdict;
 use calls::verdict;
-use parser::Reading;
+use reading::Reading;
 use syntax::refusal::Check;
 use syntax::refusal::Refusal;
 ghost use mathlib.Core.Path.{_≡_};

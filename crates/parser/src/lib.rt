@@ -1,5 +1,7 @@
 // parser.rs: the green tree of a rule, as rows of a lent table, and the parse errors, as rows of another.
 use lexer::Lexed;
+use reading::Cursor;
+use reading::Reading;
 use syntax::form;
 use syntax::kind;
 use syntax::refusal::Check;
@@ -12,21 +14,11 @@ ghost use lib.ListN.{length, drop};
 ghost use lib.Seq.{sets};
 ghost use Rattle.syntax.specs.Text.{ascii, same};
 ghost use Rattle.lexer.specs.Lex.{lex};
-ghost use Rattle.parser.specs.Look.{headKind, headText, currentKind, atKind, atText, atIdent, peekKind, atMessageDot, atField, atPredicateMethod, atPlainMethod, isComparison, hasCountCompareAhead, hasBinaryOpAtLevel};
-ghost use Rattle.parser.specs.Parse.{next, nextIsIdent, fails, failsAhead, eatWs, bump, expect, expectIdent, literal, callExpr, identExpr, containsExpr, compareExpr, simpleAtom, predicateArgs, noArgs, noMethod, parseMethod, parseDotCall, parse, OrExpr, OrRest, AndExpr, AndRest, Atom, Calls, parseSource, parsePipeline, parsePipelineOrCountCompare, remaining, leftOver, parseRoot};
+ghost use Rattle.reading.specs.Look.{headKind, headText, currentKind, atKind, atText, atIdent, peekKind, atMessageDot, atField, atPredicateMethod, atPlainMethod, isComparison, hasCountCompareAhead, hasBinaryOpAtLevel};
+ghost use Rattle.reading.specs.Parse.{next, nextIsIdent, fails, failsAhead, eatWs, bump, expect, expectIdent, literal, callExpr, identExpr, containsExpr, compareExpr, simpleAtom, predicateArgs, noArgs, noMethod, parseMethod, parseDotCall, parse, OrExpr, OrRest, AndExpr, AndRest, Atom, Calls, parseSource, parsePipeline, parsePipelineOrCountCompare, remaining, leftOver, parseRoot};
 ghost use Rattle.lexer.specs.Read.{checkRule};
-ghost use Rattle.parser.specs.Read.{checkTables, Reads};
-ghost use Rattle.parser.specs.Writing.{Ready, Past, Skipped, Fits, Asks, Did, Started, Finished};
-
-// What reading a rule gives: the numbers of its rows in the three tables, or the refusal.
-pub enum Reading {
-    Rows {
-        tokens: usize,
-        tree: usize,
-        errors: usize,
-    },
-    Refused(Refusal),
-}
+ghost use Rattle.reading.specs.Read.{checkTables, Reads};
+ghost use Rattle.reading.specs.Writing.{Ready, Past, Skipped, Fits, Asks, Did, Started, Finished};
 
 // Reads a rule that passes refusals 1 to 4 into the three tables; a refusal leaves them as they are.
 pub fn parse_expr(rule: &[u8], tokens: &mut [u32], tree: &mut [u32], errors: &mut [u32]) -> Reading
@@ -66,14 +58,6 @@ pub fn parse_rule(rule: &[u8], tokens: &mut [u32], tree: &mut [u32], errors: &mu
             }
         }
     }
-}
-
-// Where the parser stands: the next token and its first byte, and the next places of the tree and the error table.
-struct Cursor {
-    token: usize,
-    byte: u32,
-    row: usize,
-    error: usize,
 }
 
 // The whole rule: a pipeline or a comparison, and what is left over.

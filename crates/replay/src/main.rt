@@ -3,7 +3,7 @@
 // a line feed: the lengths of the three tables in numbers, and of the rule in bytes.
 use libc::STDOUT_FILENO;
 use message::Message;
-use parser::Reading;
+use reading::Reading;
 use syntax::refusal;
 ghost use mathlib.Core.Path.{_≡_};
 ghost use Prim.Native.Nat.{_≤_};

@@ -6,7 +6,7 @@ use calls::value::Verdict;
 use calls::verdict;
 use libc::STDERR_FILENO;
 use libc::STDOUT_FILENO;
-use parser::Reading;
+use reading::Reading;
 use report::answer;
 use report::error;
 use syntax::text;

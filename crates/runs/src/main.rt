@@ -6,7 +6,7 @@ use calls::value::Outcome;
 use calls::value::Value;
 use calls::value::Verdict;
 use libc::STDOUT_FILENO;
-use parser::Reading;
+use reading::Reading;
 use syntax::refusal;
 ghost use mathlib.Core.Path.{_≡_};
 ghost use Prim.Native.Nat.{_≤_};

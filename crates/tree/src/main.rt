@@ -1,7 +1,7 @@
 // Reads a rule from standard input and prints its tree rows, the number of parse errors and their messages, or why it is refused.
 use libc::STDOUT_FILENO;
 use message::Message;
-use parser::Reading;
+use reading::Reading;
 use syntax::refusal;
 ghost use mathlib.Core.Path.{_≡_};
 ghost use lib.ListN.{length};

@@ -5,7 +5,7 @@
 use board::image;
 use board::image::Section;
 use libc::STDOUT_FILENO;
-use parser::Reading;
+use reading::Reading;
 use predicate::atom::Member;
 use syntax::kind;
 use syntax::refusal;

@@ -5,7 +5,7 @@ use calls::value::Outcome;
 use calls::value::Value;
 use calls::value::Verdict;
 use libc::STDOUT_FILENO;
-use parser::Reading;
+use reading::Reading;
 use report::answer;
 use report::error;
 use syntax::refusal::Check;

@@ -4,13 +4,13 @@ use mathlib.Core.Path.{sym, _∙_}
 use mathlib.Core.List.{[]}
 use native.Mathlib.Omega.{arith}
 use lib.ListN.{length}
-use Rattle.parser.specs.Parse.{Calls}
-use Rattle.parser.proofs.TokenLaws.{table-length}
-use Rattle.parser.proofs.WritingLaws.{did-done, did-then, asks-first, asks-then, tree-long, errors-long, ready-then, asks-true, asks-false, did-true, did-false, asks-is, did-is}
-use Rattle.parser.proofs.ParseLaws.{step-calls-is}
-use Rattle.parser.proofs.LookLaws.{at-yes, at-no}
-use Rattle.parser.proofs.StepLaws.{asks-step, did-step}
-use Rattle.parser.proofs.CycleLaws.{dot-ahead}
+use Rattle.reading.specs.Parse.{Calls}
+use Rattle.reading.proofs.TokenLaws.{table-length}
+use Rattle.reading.proofs.WritingLaws.{did-done, did-then, asks-first, asks-then, tree-long, errors-long, ready-then, asks-true, asks-false, did-true, did-false, asks-is, did-is}
+use Rattle.reading.proofs.ParseLaws.{step-calls-is}
+use Rattle.reading.proofs.LookLaws.{at-yes, at-no}
+use Rattle.reading.proofs.StepLaws.{asks-step, did-step}
+use Rattle.reading.proofs.CycleLaws.{dot-ahead}
 use Prim.Native.Nat.{ℕ, _+_, _*_, _-_, _<_}
 use borrow.Fn.Kinds.{In}
 use borrow.Fn.PlainCycle.{Measures, is, falls, and}
