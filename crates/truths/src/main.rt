@@ -5,8 +5,8 @@
 use board::image;
 use board::image::Section;
 use libc::STDOUT_FILENO;
-use reading::Reading;
 use predicate::atom::Member;
+use reading::Reading;
 use syntax::kind;
 use syntax::refusal;
 use syntax::refusal::Check;
