@@ -12,9 +12,9 @@ use Rattle.syntax.specs.Table.{withRows}
 use Rattle.syntax.specs.declared.refusal.Refusal.{Refusal}
 use Rattle.syntax.proofs.TableLaws.{sets-append, sets-front}
 use Rattle.lexer.specs.Read.{checkRule}
-use Rattle.reading.specs.Read.{Reads}
-use Rattle.reading.specs.declared.Reading.{Reading}
-use Rattle.reading.proofs.ReadLaws.{rows-few}
+use Rattle.trees.specs.Read.{Reads}
+use Rattle.trees.specs.declared.Reading.{Reading}
+use Rattle.trees.proofs.ReadLaws.{rows-few}
 use Rattle.board.specs.Check.{MAX-IMAGE}
 use Rattle.calls.specs.declared.value.Value.{Value}
 use Rattle.calls.specs.declared.value.Outcome.{Outcome}

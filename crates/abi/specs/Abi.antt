@@ -6,8 +6,8 @@ use Rattle.syntax.specs.Refusal.{refusalNumber}
 use Rattle.lexer.specs.Read.{tokensRead, tokenTable}
 use Rattle.syntax.specs.declared.refusal.Check.{Check}
 use Rattle.lexer.specs.declared.Lexed.{Lexed}
-use Rattle.reading.specs.Read.{rowsRead, treeTable, errorTable}
-use Rattle.reading.specs.declared.Reading.{Reading}
+use Rattle.trees.specs.Read.{rowsRead, treeTable, errorTable}
+use Rattle.trees.specs.declared.Reading.{Reading}
 use Rattle.message.specs.Write.{written, outAfter}
 use Rattle.message.specs.declared.Message.{Message}
 

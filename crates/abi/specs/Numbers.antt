@@ -9,8 +9,8 @@ use lib.Seq.{sets}
 use Rattle.syntax.specs.Table.{withRows}
 use Rattle.syntax.specs.declared.refusal.Check.{Check}
 use Rattle.lexer.specs.Read.{checkRule, tokenTable}
-use Rattle.reading.specs.Read.{rowsRead, treeTable, errorTable}
-use Rattle.reading.specs.declared.Reading.{Reading}
+use Rattle.trees.specs.Read.{rowsRead, treeTable, errorTable}
+use Rattle.trees.specs.declared.Reading.{Reading}
 use Rattle.meaning.specs.Value.{collectionTable}
 use Rattle.meaning.specs.Outcome as meant
 use Rattle.calls.specs.declared.value.Value.{Value}

@@ -3,8 +3,8 @@
 use calls::value::Outcome;
 use calls::value::Value;
 use calls::value::Verdict;
-use reading::Reading;
 use syntax::refusal;
+use trees::Reading;
 ghost use mathlib.Core.Path.{_≡_};
 ghost use mathlib.Core.List.{[], _∷_};
 ghost use Prim.Native.Nat.{_+_, _≤_};

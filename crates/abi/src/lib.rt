@@ -3,9 +3,9 @@ mod answer;
 
 use lexer::Lexed;
 use message::Message;
-use reading::Reading;
 use syntax::refusal;
 use syntax::refusal::Check;
+use trees::Reading;
 ghost use mathlib.Core.Path.{_≡_};
 ghost use lib.ListN.{length};
 ghost use Rattle.board.specs.Check.{checkImage};

@@ -13,11 +13,11 @@ use Rattle.syntax.specs.declared.refusal.Refusal.{Refusal}
 use Rattle.syntax.specs.declared.refusal.Refusal.the-variants.{RuleTooLong, RuleNotUtf8, TableTooShort, TooManyOpeners, ImageBadSections, ImageBadStrings, ImageBadRecords, CollectionTooShort, ParseErrors, WhereOnNoCollection, QuantifierOnNoCollection, CountOnNoCollection, FeaturesOnNoComponents, DiagnosticsOnNoDiagnostics, ComparisonNotCountable, IntegerTooLarge}
 use Rattle.syntax.proofs.BoolLaws.{whether}
 use Rattle.lexer.specs.Read.{checkRule}
-use Rattle.reading.specs.Green.{Forest, nil, leaf, node}
-use Rattle.reading.specs.Parse.{parseExpr}
-use Rattle.reading.specs.Read.{rowsRead}
-use Rattle.reading.specs.declared.Reading.{Reading}
-use Rattle.reading.proofs.ReadLaws.{rows-few}
+use Rattle.trees.specs.Green.{Forest, nil, leaf, node}
+use Rattle.trees.specs.Parse.{parseExpr}
+use Rattle.trees.specs.Read.{rowsRead}
+use Rattle.trees.specs.declared.Reading.{Reading}
+use Rattle.trees.proofs.ReadLaws.{rows-few}
 use Rattle.board.specs.declared.image.Section.the-variants.{Components, Features, Diagnostics}
 use Rattle.board.specs.Image.{componentCount, featureCount, diagnosticCount}
 use Rattle.board.specs.Check.{MAX-IMAGE, checkImage}

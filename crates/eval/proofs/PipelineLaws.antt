@@ -13,7 +13,7 @@ use Rattle.syntax.specs.Kind.{INT-LIT, DOT-CALL, COUNT-COMPARE-EXPR}
 use Rattle.syntax.specs.declared.refusal.Refusal.{Refusal}
 use Rattle.syntax.specs.declared.refusal.Refusal.the-variants.{ParseErrors, ComparisonNotCountable, IntegerTooLarge}
 use Rattle.syntax.proofs.BoolLaws.{whether}
-use Rattle.reading.specs.Green.{Forest}
+use Rattle.trees.specs.Green.{Forest}
 use Rattle.matching.specs.declared.search.Found.{Found}
 use Rattle.predicate.specs.declared.atom.Member.{Member}
 use Rattle.predicate.specs.Truth.{firstText}

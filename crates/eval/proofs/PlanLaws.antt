@@ -12,7 +12,7 @@ use Rattle.syntax.specs.declared.refusal.Refusal.{Refusal}
 use Rattle.syntax.specs.declared.refusal.Refusal.the-variants.{ParseErrors}
 use Rattle.syntax.proofs.BoolLaws.{whether}
 use Rattle.lexer.specs.Lex.{Token}
-use Rattle.reading.specs.Green.{Forest, nil, leaf, node}
+use Rattle.trees.specs.Green.{Forest, nil, leaf, node}
 use Rattle.matching.specs.declared.search.Found.{Found}
 use Rattle.predicate.specs.Rows.{ROW, kindAt, levelAt, forestFrom, childrenAt, ofNode, firstRow}
 use Rattle.predicate.specs.Eval.{FoundAt, FoundNowhere}

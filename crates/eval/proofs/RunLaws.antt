@@ -13,14 +13,14 @@ use Rattle.syntax.specs.declared.refusal.Refusal.{Refusal}
 use Rattle.syntax.specs.declared.refusal.Refusal.the-variants.{ParseErrors}
 use Rattle.lexer.specs.Read.{MAX-RULE, TREE-ROW, checkRule}
 use Rattle.lexer.proofs.ReadLaws.{passed-lengths}
-use Rattle.reading.specs.Green.{size}
-use Rattle.reading.specs.Parse.{Error, parseRoot, parseExpr, inNode}
-use Rattle.reading.specs.Rows.{treeRows}
-use Rattle.reading.specs.Read.{Reads, checkTables, rowsRead, treeTable}
-use Rattle.reading.specs.declared.Reading.{Reading}
-use Rattle.reading.proofs.GreenLaws.{treeRows-length}
-use Rattle.reading.proofs.BoundLaws.{rows-bound}
-use Rattle.reading.proofs.ReadLaws.{passed-reads, refused-reads, passed-has-room}
+use Rattle.trees.specs.Green.{size}
+use Rattle.trees.specs.Parse.{Error, parseRoot, parseExpr, inNode}
+use Rattle.trees.specs.Rows.{treeRows}
+use Rattle.trees.specs.Read.{Reads, checkTables, rowsRead, treeTable}
+use Rattle.trees.specs.declared.Reading.{Reading}
+use Rattle.trees.proofs.GreenLaws.{treeRows-length}
+use Rattle.trees.proofs.BoundLaws.{rows-bound}
+use Rattle.trees.proofs.ReadLaws.{passed-reads, refused-reads, passed-has-room}
 use Rattle.board.specs.Check.{checkImage}
 use Rattle.board.proofs.BoardLaws.{passed-well-formed, passed-room}
 use Rattle.predicate.specs.Rows.{placeOf, forest, forestFrom, childrenAt}

@@ -9,7 +9,7 @@ use lib.ListN.{length}
 use lib.Seq.{sets}
 use borrow.Author.Tests.{eq-eqb, ne-eqb}
 use Rattle.syntax.specs.Kind.{IDENT-EXPR}
-use Rattle.reading.specs.Green.{Forest}
+use Rattle.trees.specs.Green.{Forest}
 use Rattle.board.specs.Image.{componentCount, diagnosticCount}
 use Rattle.board.specs.WellFormed.{WellFormed, Room}
 use Rattle.predicate.specs.declared.atom.Member.{Member}

@@ -9,7 +9,7 @@ use lib.ListN.{length}
 use borrow.Author.Tests.{ne-eqb, eqb-true, eqb-false, leb-true, leb-false}
 use Rattle.syntax.specs.Kind.{ROOT, EQ-EQ, NEQ, GE, GT, LE, LT, NONE}
 use Rattle.syntax.proofs.BoolLaws.{whether, both}
-use Rattle.reading.specs.Look.{isComparison}
+use Rattle.trees.specs.Look.{isComparison}
 use Rattle.predicate.specs.declared.atom.Member.{Member}
 use Rattle.predicate.specs.Rows.{ROW, kindAt as treeKind, levelAt, forestFrom, childrenAt, isBelow, rowPasses}
 use Rattle.predicate.proofs.ForestLaws.{forest-below, forest-token, forest-node, forest-ends}

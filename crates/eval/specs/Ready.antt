@@ -10,7 +10,7 @@ use lib.Seq.{sets}
 use Rattle.syntax.specs.Kind.{IDENT, CALL-ARGS, IDENT-EXPR}
 use Rattle.syntax.specs.declared.refusal.Refusal.{Refusal}
 use Rattle.matching.specs.declared.search.Found.{Found}
-use Rattle.reading.specs.Green.{Forest}
+use Rattle.trees.specs.Green.{Forest}
 use Rattle.board.specs.Image.{componentCount, diagnosticCount}
 use Rattle.predicate.specs.declared.atom.Member.{Member}
 use Rattle.predicate.specs.declared.atom.Member.the-variants.{Component, Diagnostic}

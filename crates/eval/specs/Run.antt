@@ -4,11 +4,11 @@ use Prim.Native.Nat.{ℕ, _*_, _≤_}
 use mathlib.Core.Path.{_≡_}
 use mathlib.Core.List.{List}
 use lib.ListN.{length, take}
-use Rattle.reading.specs.Green.{size}
-use Rattle.reading.specs.Parse.{parseExpr}
-use Rattle.reading.specs.Rows.{treeRows}
-use Rattle.reading.specs.Read.{Reads}
-use Rattle.reading.specs.declared.Reading.{Reading}
+use Rattle.trees.specs.Green.{size}
+use Rattle.trees.specs.Parse.{parseExpr}
+use Rattle.trees.specs.Rows.{treeRows}
+use Rattle.trees.specs.Read.{Reads}
+use Rattle.trees.specs.declared.Reading.{Reading}
 use Rattle.lexer.specs.Read.{TREE-ROW}
 use Rattle.meaning.specs.Value.{collectionTable}
 use Rattle.meaning.specs.Outcome as meant

@@ -18,7 +18,7 @@ use syntax::refusal::Refusal;
 ghost use mathlib.Core.Path.{_≡_};
 ghost use Prim.Native.Nat.{_+_, _*_, _≤_};
 ghost use lib.ListN.{length};
-ghost use Rattle.reading.specs.Look.{isComparison};
+ghost use Rattle.trees.specs.Look.{isComparison};
 ghost use Rattle.predicate.specs.Rows.{ROW, childrenAt, rowPasses};
 ghost use Rattle.meaning.specs.Pipeline.{evalPipeline};
 ghost use Rattle.meaning.specs.Outcome.{evalCountCompare, evalNode};

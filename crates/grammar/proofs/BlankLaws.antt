@@ -11,11 +11,11 @@ use Rattle.syntax.specs.Kind.{L-PAREN, R-PAREN, NONE}
 use Rattle.syntax.specs.Text.{ascii, same}
 use Rattle.syntax.proofs.BoolLaws.{whether}
 use Rattle.lexer.specs.Lex.{Token}
-use Rattle.reading.specs.Green.{Forest, nil, leaf, node, _⊹_}
-use Rattle.reading.specs.Look.{isBlank, skipWs, headKind, headText, tailOf, atKind, atText, atIdent, peekKind, atMessageDot, atField, atPredicateMethod, atPlainMethod, endsInComparison, hasCountCompareAhead, opAhead, hasBinaryOpAtLevel}
-use Rattle.reading.specs.Parse.{Error, Parsed, Parser, done, next, fails, failsAhead, join, _▹_, inNode, choose, eatWs, bump, nextIs, expect, nextIsIdent, expectIdent, Mode, OrExpr, OrRest, AndExpr, AndRest, Atom, Calls, step, parse, parsePipeline, remaining, parseRoot}
-use Rattle.reading.proofs.TreeLaws.{eat-rest}
-use Rattle.reading.proofs.StepLaws.{stepsFrom, parse-steps}
+use Rattle.trees.specs.Green.{Forest, nil, leaf, node, _⊹_}
+use Rattle.trees.specs.Look.{isBlank, skipWs, headKind, headText, tailOf, atKind, atText, atIdent, peekKind, atMessageDot, atField, atPredicateMethod, atPlainMethod, endsInComparison, hasCountCompareAhead, opAhead, hasBinaryOpAtLevel}
+use Rattle.trees.specs.Parse.{Error, Parsed, Parser, done, next, fails, failsAhead, join, _▹_, inNode, choose, eatWs, bump, nextIs, expect, nextIsIdent, expectIdent, Mode, OrExpr, OrRest, AndExpr, AndRest, Atom, Calls, step, parse, parsePipeline, remaining, parseRoot}
+use Rattle.trees.proofs.TreeLaws.{eat-rest}
+use Rattle.trees.proofs.StepLaws.{stepsFrom, parse-steps}
 use Rattle.grammar.specs.Grammar.{solid}
 use Rattle.grammar.specs.Blanks.{noBlanks, solidErrors, strip}
 

@@ -10,11 +10,11 @@ use lib.Dec.{eqb}
 use Rattle.syntax.specs.Kind.{WHITESPACE, IDENT, DOT, L-PAREN, R-PAREN, AND-KW, OR-KW, NONE, DOT-CALL, CALL-ARGS, BINARY-EXPR, UNARY-EXPR, PAREN-EXPR}
 use Rattle.syntax.proofs.BoolLaws.{whether}
 use Rattle.lexer.specs.Lex.{Token}
-use Rattle.reading.specs.Green.{Forest, nil, leaf, node, _⊹_}
-use Rattle.reading.specs.Look.{isBlank, atKind, opAhead, hasBinaryOpAtLevel, atPredicateMethod}
-use Rattle.reading.specs.Parse.{Parsed, Parser, join, _▹_, inNode, choose, eatWs, bump, expect, predicateArgs, parseMethod, parseDotCall, parseSource, Mode, OrExpr, OrRest, AndExpr, AndRest, Atom as AtomMode, Calls, step, parse, parsePipeline}
-use Rattle.reading.proofs.ParseLaws.{parse-pipeline-is}
-use Rattle.reading.proofs.StepLaws.{parse-step}
+use Rattle.trees.specs.Green.{Forest, nil, leaf, node, _⊹_}
+use Rattle.trees.specs.Look.{isBlank, atKind, opAhead, hasBinaryOpAtLevel, atPredicateMethod}
+use Rattle.trees.specs.Parse.{Parsed, Parser, join, _▹_, inNode, choose, eatWs, bump, expect, predicateArgs, parseMethod, parseDotCall, parseSource, Mode, OrExpr, OrRest, AndExpr, AndRest, Atom as AtomMode, Calls, step, parse, parsePipeline}
+use Rattle.trees.proofs.ParseLaws.{parse-pipeline-is}
+use Rattle.trees.proofs.StepLaws.{parse-step}
 use Rattle.grammar.specs.Grammar.{word, quoted, dot, opening, closing, equals, andWord, orWord, notWord, Field, category, kind, direction, severity, message, fieldWord, Part, OrGroup, AndGroup, Atom, Predicate, lastGroup, orThen, lastAtom, andThen, negated, bracketed, hasText, isConnected, messageHas, fieldIs, tokensOf, Source, components, analysis, Call, where-call, all-call, any-call, none-call, count-call, features-call, diagnostics-call, sourceTokens, withPredicate, callTokens, callsTokens}
 use Rattle.grammar.specs.Trees.{among, binary, operands, predicateTree, withPredicateTree, callTree, callsTree, sourceTree, read, first, pipelineThen}
 

@@ -10,7 +10,7 @@ use Rattle.syntax.specs.Text.{ascii, is}
 use Rattle.syntax.proofs.BoolLaws.{whether, true→T}
 use Rattle.lexer.specs.Lex.{Token, lex, hasQuote, isClosed, closed}
 use Rattle.lexer.proofs.LexLaws.{Joint, joint-kind, lex-joint, lex-nil, lex-joint-first, closed-append}
-use Rattle.reading.specs.Look.{isBlank}
+use Rattle.trees.specs.Look.{isBlank}
 use Rattle.grammar.specs.Grammar.{solid, word, quoted, dot, opening, closing, andWord, orWord, notWord, category, kind, direction, severity, message, Part, OrGroup, Predicate, lastGroup, orThen, lastAtom, andThen, negated, bracketed, hasText, isConnected, messageHas, fieldIs, tokensOf, ReadWhole, Source, components, analysis, Call, where-call, all-call, any-call, none-call, count-call, features-call, diagnostics-call, sourceTokens, withPredicate, callTokens, callsTokens, ReadPipeline}
 use Rattle.grammar.specs.Texts.{Method, where-method, all-method, any-method, none-method, methodName, methodCall, methodText, callText, bracketText, andText, orText, notText, andPredicate, orPredicate, notPredicate}
 use Rattle.grammar.proofs.BlankLaws.{solid-append}

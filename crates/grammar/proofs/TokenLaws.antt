@@ -13,7 +13,7 @@ use Rattle.syntax.proofs.BoolLaws.{whether, true→T, T→true, and-left, and-r
 use Rattle.lexer.specs.Bytes.{isBlank as blankByte, isAsciiDigit, isIdentStart, isIdentContinue, shapeOf}
 use Rattle.lexer.specs.Lex.{Token, run, quoted as quotedLength, equals as equalsLength, more, wordKind, kindOf, past, token, lexFrom, lex, hasQuote, isClosed, closed}
 use Rattle.lexer.proofs.LexLaws.{quoted-true, quoted-false}
-use Rattle.reading.specs.Look.{isBlank}
+use Rattle.trees.specs.Look.{isBlank}
 use Rattle.grammar.specs.Grammar.{solid, quoted}
 
 -- two texts with the same bytes

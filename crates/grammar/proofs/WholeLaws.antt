@@ -15,11 +15,11 @@ use Rattle.syntax.specs.Text.{ascii, same}
 use Rattle.syntax.proofs.BoolLaws.{whether, true→T, T→true, and-left, and-right}
 use Rattle.lexer.specs.Lex.{Token, lex, isClosed, closed}
 use Rattle.lexer.proofs.LexLaws.{closed-append}
-use Rattle.reading.specs.Green.{nil}
-use Rattle.reading.specs.Look.{isBlank, skipWs, peekKind, atKind, atText, atIdent, atMessageDot, atField, atPredicateMethod, atPlainMethod, hasBinaryOpAtLevel}
-use Rattle.reading.specs.Parse.{Error, Parsed, Parser, done, next, nextIs, nextIsIdent, fails, failsAhead, join, _▹_, inNode, choose, eatWs, bump, expect, expectIdent, literal, callExpr, identExpr, containsExpr, compareExpr, simpleAtom, noMethod, parseMethod, parseDotCall, Mode, OrExpr, OrRest, AndExpr, AndRest, Atom as AtomMode, Calls, step, parse, parseSource, parsePipeline}
-use Rattle.reading.proofs.ParseLaws.{parse-pipeline-is}
-use Rattle.reading.proofs.StepLaws.{always, parse-step, stepsFrom, parse-steps}
+use Rattle.trees.specs.Green.{nil}
+use Rattle.trees.specs.Look.{isBlank, skipWs, peekKind, atKind, atText, atIdent, atMessageDot, atField, atPredicateMethod, atPlainMethod, hasBinaryOpAtLevel}
+use Rattle.trees.specs.Parse.{Error, Parsed, Parser, done, next, nextIs, nextIsIdent, fails, failsAhead, join, _▹_, inNode, choose, eatWs, bump, expect, expectIdent, literal, callExpr, identExpr, containsExpr, compareExpr, simpleAtom, noMethod, parseMethod, parseDotCall, Mode, OrExpr, OrRest, AndExpr, AndRest, Atom as AtomMode, Calls, step, parse, parseSource, parsePipeline}
+use Rattle.trees.proofs.ParseLaws.{parse-pipeline-is}
+use Rattle.trees.proofs.StepLaws.{always, parse-step, stepsFrom, parse-steps}
 use Rattle.grammar.specs.Grammar.{solid, word, dot, opening, closing, equals, andWord, orWord, notWord, Field, category, kind, direction, severity, message, fieldWord, Part, OrGroup, AndGroup, Atom, Predicate, lastGroup, orThen, lastAtom, andThen, negated, bracketed, hasText, isConnected, messageHas, fieldIs, tokensOf, ReadWhole, Source, components, analysis, Call, count-call, features-call, diagnostics-call, sourceTokens, callTokens, callsTokens, ReadPipeline}
 use Rattle.grammar.specs.Blanks.{strip}
 use Rattle.grammar.specs.Trees.{predicateTree, read, pipelineThen}

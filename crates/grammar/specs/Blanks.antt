@@ -1,9 +1,9 @@
 -- What the parser gives, without blanks. Assumes nothing: these are definitions.
 use mathlib.Core.Bool.{true, false}
 use mathlib.Core.List.{List, [], _∷_}
-use Rattle.reading.specs.Green.{Forest, nil, leaf, node}
-use Rattle.reading.specs.Look.{isBlank}
-use Rattle.reading.specs.Parse.{Error, Parsed}
+use Rattle.trees.specs.Green.{Forest, nil, leaf, node}
+use Rattle.trees.specs.Look.{isBlank}
+use Rattle.trees.specs.Parse.{Error, Parsed}
 use Rattle.grammar.specs.Grammar.{solid}
 
 -- a forest without the tokens that are blanks

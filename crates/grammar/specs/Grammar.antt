@@ -8,7 +8,7 @@ use mathlib.Core.List.{List, [], _∷_, _++_}
 use Rattle.syntax.specs.Kind.{IDENT, STRING-LIT, DOT, L-PAREN, R-PAREN, EQ-EQ, AND-KW, OR-KW, NOT-KW}
 use Rattle.syntax.specs.Text.{ascii}
 use Rattle.lexer.specs.Lex.{Token, lex}
-use Rattle.reading.specs.Look.{isBlank}
+use Rattle.trees.specs.Look.{isBlank}
 
 -- the tokens that are no blanks
 unfoldable pub solid : List Token → List Token

@@ -6,8 +6,8 @@ use mathlib.Core.List.{List, [], _∷_}
 use lib.Dec.{eqb}
 use Rattle.syntax.specs.Kind.{AND-KW, OR-KW, PIPELINE-EXPR, DOT-CALL, CALL-ARGS, BINARY-EXPR, UNARY-EXPR, COMPARE-EXPR, CALL-EXPR, PAREN-EXPR, LITERAL, IDENT-EXPR, CONTAINS-EXPR}
 use Rattle.lexer.specs.Lex.{Token}
-use Rattle.reading.specs.Green.{Forest, nil, leaf, node, _⊹_}
-use Rattle.reading.specs.Parse.{Parsed}
+use Rattle.trees.specs.Green.{Forest, nil, leaf, node, _⊹_}
+use Rattle.trees.specs.Parse.{Parsed}
 use Rattle.grammar.specs.Grammar.{word, quoted, dot, opening, closing, equals, andWord, orWord, notWord, fieldWord, Part, OrGroup, Predicate, lastGroup, orThen, lastAtom, andThen, negated, bracketed, hasText, isConnected, messageHas, fieldIs, Source, components, analysis, Call, where-call, all-call, any-call, none-call, count-call, features-call, diagnostics-call}
 
 -- whether an operator, `and` or `or`, stands in a predicate outside its brackets

@@ -9,10 +9,10 @@ use Rattle.syntax.specs.Kind.{ROOT, NONE}
 use Rattle.syntax.specs.declared.refusal.Refusal.the-variants.{ParseErrors}
 use Rattle.syntax.proofs.BoolLaws.{whether}
 use Rattle.lexer.specs.Lex.{Token, lex}
-use Rattle.reading.specs.Green.{_⊹_, tokensOf}
-use Rattle.reading.specs.Look.{isBlank, skipWs, atKind, hasCountCompareAhead}
-use Rattle.reading.specs.Parse.{Error, Parsed, choose, bump, eatWs, leftOver, parsePipeline, parseExpr}
-use Rattle.reading.proofs.TreeLaws.{Keeps, keeping, keeps-parse, Kinds, kinds-lex, eat-rest}
+use Rattle.trees.specs.Green.{_⊹_, tokensOf}
+use Rattle.trees.specs.Look.{isBlank, skipWs, atKind, hasCountCompareAhead}
+use Rattle.trees.specs.Parse.{Error, Parsed, choose, bump, eatWs, leftOver, parsePipeline, parseExpr}
+use Rattle.trees.proofs.TreeLaws.{Keeps, keeping, keeps-parse, Kinds, kinds-lex, eat-rest}
 use Rattle.grammar.specs.Grammar.{solid, ReadPipeline}
 use Rattle.grammar.proofs.WholeLaws.{pipeline-whole}
 use Rattle.predicate.specs.declared.atom.Member.{Member}

@@ -8,8 +8,8 @@ use lib.ListN.{length}
 use Rattle.syntax.specs.Text.{ascii}
 use Rattle.syntax.specs.declared.refusal.Check.{Check}
 use Rattle.lexer.specs.Lex.{lex}
-use Rattle.reading.specs.Green.{leaf, nil}
-use Rattle.reading.specs.Parse.{Parsed, parse, OrExpr}
+use Rattle.trees.specs.Green.{leaf, nil}
+use Rattle.trees.specs.Parse.{Parsed, parse, OrExpr}
 use Rattle.grammar.specs.Grammar.{solid, closing, where-call, all-call, any-call, none-call, count-call, ReadWhole, ReadPipeline}
 use Rattle.grammar.specs.Blanks.{strip}
 use Rattle.grammar.specs.Texts.{where-method, all-method, any-method, none-method, andText, orText, notText}

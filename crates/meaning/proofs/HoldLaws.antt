@@ -8,7 +8,7 @@ use lib.ListN.{length, take, length-append}
 use lib.Seq.{take-append-seam}
 use Rattle.syntax.specs.Kind.{IDENT, AND-KW, OR-KW, BINARY-EXPR, UNARY-EXPR, COMPARE-EXPR, CALL-EXPR, PAREN-EXPR, IDENT-EXPR, CONTAINS-EXPR}
 use Rattle.syntax.specs.Text.{ascii}
-use Rattle.reading.specs.Green.{Forest, nil, leaf, node, _⊹_}
+use Rattle.trees.specs.Green.{Forest, nil, leaf, node, _⊹_}
 use Rattle.grammar.specs.Grammar.{quoted, fieldWord, opening, closing, orWord, andWord, notWord, Part, OrGroup, AndGroup, Atom, Predicate, lastGroup, orThen, lastAtom, andThen, negated, bracketed, hasText, isConnected, messageHas, fieldIs, Field, category, kind, direction, severity, message}
 use Rattle.grammar.specs.Trees.{among, binary, operands, predicateTree}
 use Rattle.predicate.specs.declared.atom.Member.{Member}

@@ -10,9 +10,9 @@ use Rattle.syntax.specs.Text.{ascii}
 use Rattle.syntax.specs.declared.refusal.Refusal.the-variants.{ParseErrors, IntegerTooLarge}
 use Rattle.syntax.proofs.BoolLaws.{whether}
 use Rattle.lexer.specs.Lex.{Token, lex}
-use Rattle.reading.specs.Green.{Forest, nil, leaf, node, _⊹_}
-use Rattle.reading.specs.Look.{isBlank, isComparison, endsInComparison, hasCountCompareAhead}
-use Rattle.reading.specs.Parse.{Error, Parsed, Parser, join, _▹_, inNode, choose, bump, eatWs, leftOver, Calls, parse, parsePipeline, parsePipelineOrCountCompare, parseRoot, parseExpr}
+use Rattle.trees.specs.Green.{Forest, nil, leaf, node, _⊹_}
+use Rattle.trees.specs.Look.{isBlank, isComparison, endsInComparison, hasCountCompareAhead}
+use Rattle.trees.specs.Parse.{Error, Parsed, Parser, join, _▹_, inNode, choose, bump, eatWs, leftOver, Calls, parse, parsePipeline, parsePipelineOrCountCompare, parseRoot, parseExpr}
 use Rattle.grammar.specs.Grammar.{solid, dot, word, opening, closing, OrGroup, Predicate, Source, components, analysis, Call as Written, where-call, all-call, any-call, none-call, count-call, features-call, diagnostics-call, sourceTokens, callsTokens, ReadWhole, ReadPipeline}
 use Rattle.grammar.specs.Trees.{predicateTree, callTree, callsTree, sourceTree, pipelineThen}
 use Rattle.grammar.specs.Texts.{Method as Taking, methodName, methodCall, callText}

@@ -8,9 +8,9 @@ use borrow.Author.Tests.{eqb-true, ne-eqb}
 use lib.Dec.{eqb}
 use Rattle.syntax.specs.Kind.{WHITESPACE, IDENT, STRING-LIT, INT-LIT, DOT-CALL, CALL-ARGS, LITERAL}
 use Rattle.syntax.proofs.BoolLaws.{whether}
-use Rattle.reading.specs.Green.{Forest, nil, leaf, node}
-use Rattle.reading.specs.Look.{isBlank, isComparison}
-use Rattle.reading.specs.Parse.{Error, Parsed}
+use Rattle.trees.specs.Green.{Forest, nil, leaf, node}
+use Rattle.trees.specs.Look.{isBlank, isComparison}
+use Rattle.trees.specs.Parse.{Error, Parsed}
 use Rattle.grammar.specs.Blanks.{noBlanks, solidErrors, strip}
 use Rattle.predicate.specs.declared.atom.Member.{Member}
 use Rattle.predicate.specs.Truth.{firstText, literalOf, has, messageContains, orAfter, joinedBy, joined, Sort, binary, unary, paren, ident, call, containing, compare, other, sortOf, settle, truths, firstOf, truth}

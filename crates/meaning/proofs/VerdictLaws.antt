@@ -6,7 +6,7 @@ use mathlib.Core.List.{List, [], _∷_, cons≢nil}
 use Rattle.syntax.specs.declared.refusal.Check.{Check}
 use Rattle.syntax.specs.declared.refusal.Refusal.{Refusal}
 use Rattle.syntax.specs.declared.refusal.Refusal.the-variants.{ParseErrors}
-use Rattle.reading.specs.Parse.{Error, parseExpr}
+use Rattle.trees.specs.Parse.{Error, parseExpr}
 use Rattle.meaning.specs.Value.{Outcome, collection, boolean, refused}
 use Rattle.meaning.specs.Calls.{isEmpty}
 use Rattle.meaning.specs.Outcome.{Lent, checkRun, afterCheck, evalNode, firstInner, outcomeOf, outcome, run, Verdict, Pass, Fail, Refused, Open, verdictOf}

@@ -12,7 +12,7 @@ use lib.Dec.{eqb}
 use lib.ListN.{length, length-append, length-map}
 use borrow.Author.Tests.{ne-eqb}
 use Rattle.syntax.specs.declared.refusal.Refusal.{Refusal}
-use Rattle.reading.specs.Green.{Forest}
+use Rattle.trees.specs.Green.{Forest}
 use Rattle.board.specs.Image.{componentCount, firstFeature, featuresOf as featureNumber, featureCount, diagnosticCount}
 use Rattle.board.specs.Check.{COLLECTION-ROW}
 use Rattle.board.specs.WellFormed.{total, WellFormed, Room}

@@ -7,8 +7,8 @@ use lib.Dec.{eqb, leb, ltb}
 use lib.ListN.{length}
 use Rattle.syntax.specs.Kind.{GE, GT, LE, LT, EQ-EQ, INT-LIT, NONE}
 use Rattle.syntax.specs.declared.refusal.Refusal.the-variants.{ComparisonNotCountable, IntegerTooLarge}
-use Rattle.reading.specs.Green.{Forest, nil, leaf, node}
-use Rattle.reading.specs.Look.{isComparison}
+use Rattle.trees.specs.Green.{Forest, nil, leaf, node}
+use Rattle.trees.specs.Look.{isComparison}
 use Rattle.predicate.specs.Truth.{firstText}
 use Rattle.meaning.specs.Value.{Outcome, collection, boolean, refused}
 

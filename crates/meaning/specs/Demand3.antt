@@ -10,7 +10,7 @@ use lib.ListN.{length}
 use Rattle.syntax.specs.Text.{ascii}
 use Rattle.syntax.specs.declared.refusal.Check.{Check}
 use Rattle.lexer.specs.Lex.{lex}
-use Rattle.reading.specs.Parse.{parse, OrExpr}
+use Rattle.trees.specs.Parse.{parse, OrExpr}
 use Rattle.grammar.specs.Grammar.{ReadWhole}
 use Rattle.grammar.specs.Texts.{where-method, all-method, any-method, none-method, callText, andText, orText, notText}
 use Rattle.predicate.specs.declared.atom.Member.{Member}

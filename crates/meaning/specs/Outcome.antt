@@ -7,8 +7,8 @@ use Rattle.syntax.specs.Kind.{COUNT-COMPARE-EXPR, NONE}
 use Rattle.syntax.specs.declared.refusal.Check.{Check}
 use Rattle.syntax.specs.declared.refusal.Refusal.the-variants.{ParseErrors}
 use Rattle.lexer.specs.Read.{checkRule}
-use Rattle.reading.specs.Green.{Forest, nil, leaf, node}
-use Rattle.reading.specs.Parse.{Parsed, parseExpr}
+use Rattle.trees.specs.Green.{Forest, nil, leaf, node}
+use Rattle.trees.specs.Parse.{Parsed, parseExpr}
 use Rattle.board.specs.Check.{checkImage}
 use Rattle.meaning.specs.Value.{Outcome, collection, boolean, refused}
 use Rattle.meaning.specs.Calls.{isEmpty}

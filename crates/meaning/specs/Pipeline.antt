@@ -7,7 +7,7 @@ use lib.Dec.{eqb}
 use Rattle.syntax.specs.Kind.{IDENT, DOT-CALL, CALL-ARGS, IDENT-EXPR}
 use Rattle.syntax.specs.Text.{ascii, same}
 use Rattle.syntax.specs.declared.refusal.Refusal.the-variants.{ParseErrors}
-use Rattle.reading.specs.Green.{Forest, nil, leaf, node}
+use Rattle.trees.specs.Green.{Forest, nil, leaf, node}
 use Rattle.board.specs.Image.{text, componentCount, diagnosticCount, analysis}
 use Rattle.predicate.specs.declared.atom.Member.{Member}
 use Rattle.predicate.specs.declared.atom.Member.the-variants.{Component, Diagnostic}

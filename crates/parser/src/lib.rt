@@ -1,12 +1,12 @@
 // parser.rs: the green tree of a rule, as rows of a lent table, and the parse errors, as rows of another.
 use lexer::Lexed;
-use reading::Cursor;
-use reading::Reading;
 use syntax::form;
 use syntax::kind;
 use syntax::refusal::Check;
 use syntax::refusal::Refusal;
 use syntax::text;
+use trees::Cursor;
+use trees::Reading;
 ghost use mathlib.Core.Path.{_≡_};
 ghost use mathlib.Core.List.{List, [], _∷_};
 ghost use Prim.Native.Nat.{ℕ, _+_, _*_, _≤_, _<_};
@@ -14,11 +14,11 @@ ghost use lib.ListN.{length, drop};
 ghost use lib.Seq.{sets};
 ghost use Rattle.syntax.specs.Text.{ascii, same};
 ghost use Rattle.lexer.specs.Lex.{lex};
-ghost use Rattle.reading.specs.Look.{headKind, headText, currentKind, atKind, atText, atIdent, peekKind, atMessageDot, atField, atPredicateMethod, atPlainMethod, isComparison, hasCountCompareAhead, hasBinaryOpAtLevel};
-ghost use Rattle.reading.specs.Parse.{next, nextIsIdent, fails, failsAhead, eatWs, bump, expect, expectIdent, literal, callExpr, identExpr, containsExpr, compareExpr, simpleAtom, predicateArgs, noArgs, noMethod, parseMethod, parseDotCall, parse, OrExpr, OrRest, AndExpr, AndRest, Atom, Calls, parseSource, parsePipeline, parsePipelineOrCountCompare, remaining, leftOver, parseRoot};
+ghost use Rattle.trees.specs.Look.{headKind, headText, currentKind, atKind, atText, atIdent, peekKind, atMessageDot, atField, atPredicateMethod, atPlainMethod, isComparison, hasCountCompareAhead, hasBinaryOpAtLevel};
+ghost use Rattle.trees.specs.Parse.{next, nextIsIdent, fails, failsAhead, eatWs, bump, expect, expectIdent, literal, callExpr, identExpr, containsExpr, compareExpr, simpleAtom, predicateArgs, noArgs, noMethod, parseMethod, parseDotCall, parse, OrExpr, OrRest, AndExpr, AndRest, Atom, Calls, parseSource, parsePipeline, parsePipelineOrCountCompare, remaining, leftOver, parseRoot};
 ghost use Rattle.lexer.specs.Read.{checkRule};
-ghost use Rattle.reading.specs.Read.{checkTables, Reads};
-ghost use Rattle.reading.specs.Writing.{Ready, Past, Skipped, Fits, Asks, Did, Started, Finished};
+ghost use Rattle.trees.specs.Read.{checkTables, Reads};
+ghost use Rattle.trees.specs.Writing.{Ready, Past, Skipped, Fits, Asks, Did, Started, Finished};
 
 // Reads a rule that passes refusals 1 to 4 into the three tables; a refusal leaves them as they are.
 pub fn parse_expr(rule: &[u8], tokens: &mut [u32], tree: &mut [u32], errors: &mut [u32]) -> Reading

@@ -9,7 +9,7 @@ use lib.Seq.{take-all}
 use borrow.Author.Tests.{le-leb, ne-eqb}
 use Rattle.syntax.specs.Kind.{BINARY-EXPR, UNARY-EXPR, COMPARE-EXPR, CALL-EXPR, PAREN-EXPR, IDENT-EXPR, CONTAINS-EXPR}
 use Rattle.syntax.specs.Text.{ascii}
-use Rattle.reading.specs.Green.{nil, node}
+use Rattle.trees.specs.Green.{nil, node}
 use Rattle.matching.specs.declared.search.Found.{Found}
 use Rattle.matching.specs.Search.{find, setBefore, nameAfter, propertySetOf, propertyNameOf}
 use Rattle.instance.specs.Instance.{hasProperty}

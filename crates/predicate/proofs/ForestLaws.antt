@@ -10,7 +10,7 @@ use lib.ListN.{length, getD, drop, drop-of-length-le}
 use borrow.Author.Tests.{lt-ltb, le-ltb, eqb-true, eqb-false, ltb-true, ltb-false}
 use Rattle.syntax.specs.Kind.{ROOT}
 use Rattle.syntax.proofs.BoolLaws.{both}
-use Rattle.reading.specs.Green.{Forest, nil, leaf, node}
+use Rattle.trees.specs.Green.{Forest, nil, leaf, node}
 use Rattle.predicate.specs.Rows.{ROW, Place, below, past, token, child, placeOf, grown, bytesBetween, forest, kindAt, levelAt, textAt, forestFrom, childrenAt, isRow, isBelow, rowsFrom, pastBelow}
 use Rattle.predicate.specs.Eval.{FoundAt, FoundNowhere, Skips}
 use Rattle.predicate.proofs.RowLaws.{row-there, row-missing, drop-row, few, short-forest}

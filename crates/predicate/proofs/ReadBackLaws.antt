@@ -10,11 +10,11 @@ use lib.Seq.{take-at, drop-at, drop-drop}
 use Rattle.syntax.specs.Kind.{ROOT}
 use Rattle.lexer.specs.Lex.{Token, lex, joined}
 use Rattle.lexer.proofs.LexLaws.{lex-joined, joined-append}
-use Rattle.reading.specs.Green.{Forest, nil, leaf, node, _⊹_, tokensOf, span}
-use Rattle.reading.specs.Parse.{Parsed, Parser, done, next, fails, failsAhead, join, _▹_, inNode, choose, eatWs, Mode, OrExpr, OrRest, AndExpr, AndRest, Atom, Calls, step, steps, parse, parsePipelineOrCountCompare, remaining, parseRoot, parseExpr}
-use Rattle.reading.specs.Look.{isBlank}
-use Rattle.reading.specs.Rows.{treeRows}
-use Rattle.reading.proofs.TreeLaws.{Kinds, kinds-lex, tree-tokens}
+use Rattle.trees.specs.Green.{Forest, nil, leaf, node, _⊹_, tokensOf, span}
+use Rattle.trees.specs.Parse.{Parsed, Parser, done, next, fails, failsAhead, join, _▹_, inNode, choose, eatWs, Mode, OrExpr, OrRest, AndExpr, AndRest, Atom, Calls, step, steps, parse, parsePipelineOrCountCompare, remaining, parseRoot, parseExpr}
+use Rattle.trees.specs.Look.{isBlank}
+use Rattle.trees.specs.Rows.{treeRows}
+use Rattle.trees.proofs.TreeLaws.{Kinds, kinds-lex, tree-tokens}
 use Rattle.predicate.specs.Rows.{bytesBetween, forest}
 use Rattle.predicate.proofs.ForestLaws.{place-below, place-past, place-token, place-child}
 

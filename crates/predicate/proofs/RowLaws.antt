@@ -8,7 +8,7 @@ use lib.Dec.{ltb, leb}
 use lib.ListN.{length, getD, drop, length-drop}
 use lib.Seq.{drop-cons}
 use borrow.Author.Tests.{lt-ltb, le-ltb, le-leb, lt-leb, eq-eqb, ne-eqb, leb-true, leb-false, ltb-true}
-use Rattle.reading.specs.Green.{nil}
+use Rattle.trees.specs.Green.{nil}
 use Rattle.syntax.proofs.BoolLaws.{both}
 use Rattle.predicate.specs.Rows.{ROW, forest, kindAt, levelAt, isRow, isBelow, rowPasses, rowsFrom, pastBelow}
 use Rattle.predicate.specs.Eval.{FoundAt, FoundNowhere, Skips}

@@ -5,7 +5,7 @@ use mathlib.Core.Bool.{Bool, true, false}
 use mathlib.Core.List.{List, []}
 use lib.ListN.{length, drop}
 use Rattle.matching.specs.declared.search.Found.{Found}
-use Rattle.reading.specs.Green.{Forest}
+use Rattle.trees.specs.Green.{Forest}
 use Rattle.predicate.specs.declared.atom.Member.{Member}
 use Rattle.predicate.specs.declared.Truth.{Truth}
 use Rattle.predicate.specs.declared.Operands.{Operands}

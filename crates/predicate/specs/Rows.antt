@@ -6,7 +6,7 @@ use lib.Dec.{eqb, ltb, leb}
 use lib.ListN.{length, getD, take, drop}
 use Rattle.syntax.specs.Kind.{ROOT}
 use Rattle.matching.specs.declared.search.Found.{Found}
-use Rattle.reading.specs.Green.{Forest, nil, leaf, node}
+use Rattle.trees.specs.Green.{Forest, nil, leaf, node}
 
 -- the numbers of a tree row: kind, level, first byte, end byte
 abbrev pub ROW : ℕ

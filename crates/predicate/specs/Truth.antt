@@ -7,7 +7,7 @@ use lib.Dec.{eqb}
 use lib.ListN.{length, take, drop}
 use Rattle.syntax.specs.Kind.{IDENT, STRING-LIT, AND-KW, OR-KW, BINARY-EXPR, UNARY-EXPR, COMPARE-EXPR, CALL-EXPR, PAREN-EXPR, LITERAL, IDENT-EXPR, CONTAINS-EXPR}
 use Rattle.syntax.specs.Text.{ascii, same}
-use Rattle.reading.specs.Green.{Forest, nil, leaf, node}
+use Rattle.trees.specs.Green.{Forest, nil, leaf, node}
 use Rattle.board.specs.Image.{text, category, featureKind, direction, severity, message}
 use Rattle.matching.specs.Words.{categoryMatches, featureKindMatches, directionMatches, severityMatches}
 use Rattle.matching.specs.Search.{contains, propertySetOf, propertyNameOf}

@@ -3,8 +3,8 @@
 // a line feed: the lengths of the three tables in numbers, and of the rule in bytes.
 use libc::STDOUT_FILENO;
 use message::Message;
-use reading::Reading;
 use syntax::refusal;
+use trees::Reading;
 ghost use mathlib.Core.Path.{_≡_};
 ghost use Prim.Native.Nat.{_≤_};
 ghost use lib.ListN.{length};

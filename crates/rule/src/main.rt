@@ -6,10 +6,10 @@ use calls::value::Verdict;
 use calls::verdict;
 use libc::STDERR_FILENO;
 use libc::STDOUT_FILENO;
-use reading::Reading;
 use report::answer;
 use report::error;
 use syntax::text;
+use trees::Reading;
 ghost use mathlib.Core.Path.{_≡_};
 ghost use lib.ListN.{length};
 

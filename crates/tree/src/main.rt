@@ -1,8 +1,8 @@
 // Reads a rule from standard input and prints its tree rows, the number of parse errors and their messages, or why it is refused.
 use libc::STDOUT_FILENO;
 use message::Message;
-use reading::Reading;
 use syntax::refusal;
+use trees::Reading;
 ghost use mathlib.Core.Path.{_≡_};
 ghost use lib.ListN.{length};
 

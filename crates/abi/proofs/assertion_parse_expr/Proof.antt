@@ -2,7 +2,7 @@
 use denote.Ref.{now}
 use mathlib.Core.Path.{sym, _∙_}
 use lib.ListN.{length}
-use Rattle.reading.proofs.ReadLaws.{rows-few}
+use Rattle.trees.proofs.ReadLaws.{rows-few}
 use native.Mathlib.Omega.{arith}
 use borrow.Author.Needs.{needs}
 use Rattle.abi.proofs.assertion_parse_expr.Statement.{statement}

@@ -4,13 +4,13 @@ use mathlib.Core.Path.{sym, _∙_}
 use mathlib.Core.List.{[]}
 use native.Mathlib.Omega.{arith}
 use lib.ListN.{length}
-use Rattle.reading.specs.Parse.{OrExpr, OrRest, AndExpr, AndRest, Atom}
-use Rattle.reading.proofs.TokenLaws.{table-length}
-use Rattle.reading.proofs.WritingLaws.{did-done, did-then, asks-first, asks-then, tree-long, errors-long, ready-then, node-room, node-level, asks-node, did-node, started-long, finished-long, finish-room, asks-true, asks-false, did-true, did-false, asks-is, did-is}
-use Rattle.reading.proofs.ParseLaws.{step-or-is, step-or-rest-is, step-and-is, step-and-rest-is, step-atom-is, atom-here-is}
-use Rattle.reading.proofs.LookLaws.{at-yes, at-no}
-use Rattle.reading.proofs.StepLaws.{asks-step, did-step, bump-ahead}
-use Rattle.reading.proofs.CycleLaws.{started-token, bump-inside}
+use Rattle.trees.specs.Parse.{OrExpr, OrRest, AndExpr, AndRest, Atom}
+use Rattle.trees.proofs.TokenLaws.{table-length}
+use Rattle.trees.proofs.WritingLaws.{did-done, did-then, asks-first, asks-then, tree-long, errors-long, ready-then, node-room, node-level, asks-node, did-node, started-long, finished-long, finish-room, asks-true, asks-false, did-true, did-false, asks-is, did-is}
+use Rattle.trees.proofs.ParseLaws.{step-or-is, step-or-rest-is, step-and-is, step-and-rest-is, step-atom-is, atom-here-is}
+use Rattle.trees.proofs.LookLaws.{at-yes, at-no}
+use Rattle.trees.proofs.StepLaws.{asks-step, did-step, bump-ahead}
+use Rattle.trees.proofs.CycleLaws.{started-token, bump-inside}
 use Prim.Native.Nat.{ℕ, _+_, _*_, _-_, _<_}
 use borrow.Fn.Kinds.{In}
 use borrow.Fn.PlainCycle.{Measures, is, falls, and}

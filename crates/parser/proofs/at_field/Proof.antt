@@ -1,6 +1,6 @@
 -- `at_field` gives `atField`, word by word. Assumes nothing.
 use mathlib.Core.Path.{sym, _∙_}
-use Rattle.reading.specs.Look.{atField}
+use Rattle.trees.specs.Look.{atField}
 use borrow.Author.Needs.{needs}
 use Rattle.parser.proofs.at_field.Statement.{statement}
 use Rattle.parser.proofs.at_field.Tie as tie

@@ -3,8 +3,8 @@ use denote.Ref.{now}
 use mathlib.Core.Path.{_∙_, ap}
 use mathlib.Core.List.{List}
 use Rattle.lexer.specs.Lex.{Token}
-use Rattle.reading.specs.Look.{atIdent}
-use Rattle.reading.specs.Parse.{nextIsIdent}
+use Rattle.trees.specs.Look.{atIdent}
+use Rattle.trees.specs.Parse.{nextIsIdent}
 use borrow.Author.Needs.{needs}
 use Rattle.parser.proofs.at_ident.Statement.{statement}
 use Rattle.parser.proofs.at_ident.Tie as tie

@@ -2,7 +2,7 @@
 use mathlib.Core.Path.{sym, ap, _∙_}
 use lib.Dec.{eqb}
 use Rattle.syntax.specs.Kind.{DOT}
-use Rattle.reading.specs.Look.{atMessageDot}
+use Rattle.trees.specs.Look.{atMessageDot}
 use borrow.Author.Needs.{needs}
 use Rattle.parser.proofs.at_message_dot.Statement.{statement}
 use Rattle.parser.proofs.at_message_dot.Tie as tie

@@ -1,6 +1,6 @@
 -- `at_plain_method` gives `atPlainMethod`, word by word. Assumes nothing.
 use mathlib.Core.Path.{sym, _∙_}
-use Rattle.reading.specs.Look.{atPlainMethod}
+use Rattle.trees.specs.Look.{atPlainMethod}
 use borrow.Author.Needs.{needs}
 use Rattle.parser.proofs.at_plain_method.Statement.{statement}
 use Rattle.parser.proofs.at_plain_method.Tie as tie

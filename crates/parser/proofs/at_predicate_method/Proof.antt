@@ -1,6 +1,6 @@
 -- `at_predicate_method` gives `atPredicateMethod`, word by word. Assumes nothing.
 use mathlib.Core.Path.{sym, _∙_}
-use Rattle.reading.specs.Look.{atPredicateMethod}
+use Rattle.trees.specs.Look.{atPredicateMethod}
 use borrow.Author.Needs.{needs}
 use Rattle.parser.proofs.at_predicate_method.Statement.{statement}
 use Rattle.parser.proofs.at_predicate_method.Tie as tie

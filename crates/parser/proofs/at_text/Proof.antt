@@ -4,7 +4,7 @@ use mathlib.Core.Path.{_∙_, ap}
 use mathlib.Core.List.{List}
 use Rattle.syntax.specs.Text.{same}
 use Rattle.lexer.specs.Lex.{Token}
-use Rattle.reading.specs.Look.{headText, atText}
+use Rattle.trees.specs.Look.{headText, atText}
 use borrow.Author.Needs.{needs}
 use Rattle.parser.proofs.at_text.Statement.{statement}
 use Rattle.parser.proofs.at_text.Tie as tie

@@ -1,7 +1,7 @@
 -- `bump` eats blanks and then takes a token. Assumes nothing.
 use mathlib.Core.List.{[]}
-use Rattle.reading.proofs.ParseLaws.{bump-is}
-use Rattle.reading.proofs.WritingLaws.{did-then, fits-first, fits-then, tree-long, fits-is, did-is}
+use Rattle.trees.proofs.ParseLaws.{bump-is}
+use Rattle.trees.proofs.WritingLaws.{did-then, fits-first, fits-then, tree-long, fits-is, did-is}
 use Rattle.parser.proofs.bump.Statement.{statement}
 use Rattle.parser.proofs.bump.Tie as tie
 

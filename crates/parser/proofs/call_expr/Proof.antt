@@ -1,7 +1,7 @@
 -- `call_expr` follows `callExpr`. Assumes nothing.
 use mathlib.Core.Path.{_∙_}
-use Rattle.reading.proofs.ParseLaws.{call-expr-is}
-use Rattle.reading.proofs.WritingLaws.{did-then, asks-first, asks-then, tree-long, errors-long, node-room, node-level, asks-node, did-node, started-long, finished-long, finish-room, asks-is, did-is}
+use Rattle.trees.proofs.ParseLaws.{call-expr-is}
+use Rattle.trees.proofs.WritingLaws.{did-then, asks-first, asks-then, tree-long, errors-long, node-room, node-level, asks-node, did-node, started-long, finished-long, finish-room, asks-is, did-is}
 use Rattle.parser.proofs.call_expr.Statement.{statement}
 use Rattle.parser.proofs.call_expr.Tie as tie
 

@@ -1,6 +1,6 @@
 -- `current_kind` looks at the first token that is no blank. Assumes nothing.
 use mathlib.Core.Path.{_∙_, ap}
-use Rattle.reading.specs.Look.{headKind}
+use Rattle.trees.specs.Look.{headKind}
 use borrow.Author.Needs.{needs}
 use Rattle.parser.proofs.current_kind.Statement.{statement}
 use Rattle.parser.proofs.current_kind.Tie as tie

@@ -5,9 +5,9 @@ use mathlib.Core.List.{[]}
 use Prim.Native.Nat.{_-_}
 use lib.ListN.{length, drop}
 use Rattle.lexer.specs.Lex.{lex}
-use Rattle.reading.specs.Parse.{eatWs}
-use Rattle.reading.proofs.TokenLaws.{some-token}
-use Rattle.reading.proofs.LookLaws.{Going, going-start, going-end, going-next, going-fits, eat-blank, eat-stop, next-ahead}
+use Rattle.trees.specs.Parse.{eatWs}
+use Rattle.trees.proofs.TokenLaws.{some-token}
+use Rattle.trees.proofs.LookLaws.{Going, going-start, going-end, going-next, going-fits, eat-blank, eat-stop, next-ahead}
 use native.Mathlib.Omega.{arith}
 use Rattle.parser.proofs.eat_ws.Statement.{statement}
 use Rattle.parser.proofs.eat_ws.Tie as tie

@@ -1,8 +1,8 @@
 -- `expect` follows `expect`. Assumes nothing.
 use mathlib.Core.List.{[]}
-use Rattle.reading.proofs.ParseLaws.{expect-is}
-use Rattle.reading.proofs.WritingLaws.{did-then, asks-first, asks-then, tree-long, errors-long, ready-then, asks-true, asks-false, did-true, did-false, asks-is, did-is}
-use Rattle.reading.proofs.LookLaws.{next-yes, next-no, fail-room}
+use Rattle.trees.proofs.ParseLaws.{expect-is}
+use Rattle.trees.proofs.WritingLaws.{did-then, asks-first, asks-then, tree-long, errors-long, ready-then, asks-true, asks-false, did-true, did-false, asks-is, did-is}
+use Rattle.trees.proofs.LookLaws.{next-yes, next-no, fail-room}
 use Rattle.parser.proofs.expect.Statement.{statement}
 use Rattle.parser.proofs.expect.Tie as tie
 

@@ -1,9 +1,9 @@
 -- `expect_contains` follows `expectIdent`. Assumes nothing.
 use mathlib.Core.Path.{sym, _∙_}
 use mathlib.Core.List.{[]}
-use Rattle.reading.proofs.ParseLaws.{expect-ident-is}
-use Rattle.reading.proofs.WritingLaws.{did-then, asks-first, asks-then, tree-long, errors-long, ready-then, asks-true, asks-false, did-true, did-false, asks-is, did-is}
-use Rattle.reading.proofs.LookLaws.{fail-room}
+use Rattle.trees.proofs.ParseLaws.{expect-ident-is}
+use Rattle.trees.proofs.WritingLaws.{did-then, asks-first, asks-then, tree-long, errors-long, ready-then, asks-true, asks-false, did-true, did-false, asks-is, did-is}
+use Rattle.trees.proofs.LookLaws.{fail-room}
 use borrow.Author.Needs.{needs}
 use Rattle.parser.proofs.expect_contains.Statement.{statement}
 use Rattle.parser.proofs.expect_contains.Tie as tie

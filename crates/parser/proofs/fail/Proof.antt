@@ -1,5 +1,5 @@
 -- `fail` writes an error row at the next token. Assumes nothing.
-use Rattle.reading.proofs.WritingLaws.{did-fail}
+use Rattle.trees.proofs.WritingLaws.{did-fail}
 use borrow.Author.Needs.{needs}
 use Rattle.parser.proofs.fail.Statement.{statement}
 use Rattle.parser.proofs.fail.Tie as tie

@@ -1,6 +1,6 @@
 -- `fail_ahead` writes an error row at the first token that is no blank, and stays where it is. Assumes nothing.
 use mathlib.Core.Path.{_∙_, ap}
-use Rattle.reading.proofs.WritingLaws.{did-fail-ahead}
+use Rattle.trees.proofs.WritingLaws.{did-fail-ahead}
 use native.Mathlib.Omega.{arith}
 use borrow.Author.Needs.{needs}
 use Rattle.parser.proofs.fail_ahead.Statement.{statement}

@@ -1,6 +1,6 @@
 -- `found_end` reads the end of the next token. Assumes nothing.
-use Rattle.reading.proofs.TokenLaws.{table-length}
-use Rattle.reading.proofs.WritingLaws.{found-here, found-end}
+use Rattle.trees.proofs.TokenLaws.{table-length}
+use Rattle.trees.proofs.WritingLaws.{found-here, found-end}
 use native.Mathlib.Omega.{arith}
 use borrow.Author.Needs.{needs}
 use Rattle.parser.proofs.found_end.Statement.{statement}

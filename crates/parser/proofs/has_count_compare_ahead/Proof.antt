@@ -4,9 +4,9 @@ use mathlib.Core.Path.{_≡_, refl, sym, _∙_}
 use Prim.Native.Nat.{_-_, _≤_}
 use lib.ListN.{length, drop}
 use Rattle.lexer.specs.Lex.{lex, tokenRows}
-use Rattle.reading.specs.Look.{endsInComparison, hasCountCompareAhead}
-use Rattle.reading.proofs.TokenLaws.{rows-length, row-in, none-in}
-use Rattle.reading.proofs.LookLaws.{ends-blank, ends-solid, ends-integer, ends-other}
+use Rattle.trees.specs.Look.{endsInComparison, hasCountCompareAhead}
+use Rattle.trees.proofs.TokenLaws.{rows-length, row-in, none-in}
+use Rattle.trees.proofs.LookLaws.{ends-blank, ends-solid, ends-integer, ends-other}
 use borrow.Author.Needs.{needs}
 use native.Mathlib.Omega.{arith}
 use Rattle.parser.proofs.has_count_compare_ahead.Statement.{statement}

@@ -1,8 +1,8 @@
 -- `ident_expr` follows `identExpr`. Assumes nothing.
 use mathlib.Core.Path.{_∙_}
 use mathlib.Core.List.{[]}
-use Rattle.reading.proofs.ParseLaws.{ident-expr-is}
-use Rattle.reading.proofs.WritingLaws.{tree-long, node-room, node-level, asks-node, did-node, started-long, finished-long, finish-room, asks-is, did-is}
+use Rattle.trees.proofs.ParseLaws.{ident-expr-is}
+use Rattle.trees.proofs.WritingLaws.{tree-long, node-room, node-level, asks-node, did-node, started-long, finished-long, finish-room, asks-is, did-is}
 use Rattle.parser.proofs.ident_expr.Statement.{statement}
 use Rattle.parser.proofs.ident_expr.Tie as tie
 

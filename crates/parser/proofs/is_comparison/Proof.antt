@@ -1,6 +1,6 @@
 -- `is_comparison` gives `isComparison`, an arm for each operator. Assumes nothing.
 use borrow.Author.Tests.{ne-eqb}
-use Rattle.reading.specs.Look.{isComparison}
+use Rattle.trees.specs.Look.{isComparison}
 use Rattle.parser.proofs.is_comparison.Statement.{statement}
 use Rattle.parser.proofs.is_comparison.Tie as tie
 

@@ -1,8 +1,8 @@
 -- `left_over` follows `leftOver`. Assumes nothing.
 use mathlib.Core.List.{[]}
-use Rattle.reading.proofs.ParseLaws.{left-over-is}
-use Rattle.reading.proofs.WritingLaws.{did-done, did-then, asks-first, asks-then, tree-long, errors-long, asks-false, did-true, did-false, asks-is, did-is}
-use Rattle.reading.proofs.LookLaws.{at-yes, at-no, fail-room}
+use Rattle.trees.proofs.ParseLaws.{left-over-is}
+use Rattle.trees.proofs.WritingLaws.{did-done, did-then, asks-first, asks-then, tree-long, errors-long, asks-false, did-true, did-false, asks-is, did-is}
+use Rattle.trees.proofs.LookLaws.{at-yes, at-no, fail-room}
 use Rattle.parser.proofs.left_over.Statement.{statement}
 use Rattle.parser.proofs.left_over.Tie as tie
 

@@ -1,7 +1,7 @@
 -- `literal` follows `literal`. Assumes nothing.
 use mathlib.Core.Path.{_∙_}
-use Rattle.reading.proofs.ParseLaws.{literal-is}
-use Rattle.reading.proofs.WritingLaws.{tree-long, errors-long, node-room, node-level, asks-node, did-node, started-long, finished-long, finish-room, asks-is, did-is}
+use Rattle.trees.proofs.ParseLaws.{literal-is}
+use Rattle.trees.proofs.WritingLaws.{tree-long, errors-long, node-room, node-level, asks-node, did-node, started-long, finished-long, finish-room, asks-is, did-is}
 use Rattle.parser.proofs.literal.Statement.{statement}
 use Rattle.parser.proofs.literal.Tie as tie
 

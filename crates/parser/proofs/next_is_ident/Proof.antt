@@ -1,7 +1,7 @@
 -- `next_is_ident` asks for the kind and then the text. Assumes nothing.
 use mathlib.Core.Path.{sym, _∙_}
 use borrow.Author.Tests.{eq-eqb, ne-eqb}
-use Rattle.reading.specs.Parse.{nextIsIdent}
+use Rattle.trees.specs.Parse.{nextIsIdent}
 use borrow.Author.Needs.{needs}
 use Rattle.parser.proofs.next_is_ident.Statement.{statement}
 use Rattle.parser.proofs.next_is_ident.Tie as tie

@@ -6,10 +6,10 @@ use Prim.Native.Nat.{ℕ, _+_, _-_, _*_, _<_, _≤_}
 use lib.ListN.{length, take, drop, getD}
 use Rattle.syntax.specs.Text.{same}
 use Rattle.lexer.specs.Lex.{lex}
-use Rattle.reading.specs.Look.{headText}
-use Rattle.reading.specs.Writing.{Ready}
-use Rattle.reading.specs.declared.Cursor.{Cursor}
-use Rattle.reading.proofs.TokenLaws.{table-length, at-end, Part, part}
+use Rattle.trees.specs.Look.{headText}
+use Rattle.trees.specs.Writing.{Ready}
+use Rattle.trees.specs.declared.Cursor.{Cursor}
+use Rattle.trees.proofs.TokenLaws.{table-length, at-end, Part, part}
 use native.Mathlib.Omega.{arith}
 use borrow.Author.Needs.{needs}
 use Rattle.parser.proofs.next_is_text.Statement.{statement}

@@ -1,5 +1,5 @@
 -- `next_kind` gives what the table has at the cursor. Assumes nothing.
-use Rattle.reading.proofs.TokenLaws.{table-length, head-kind, head-none}
+use Rattle.trees.proofs.TokenLaws.{table-length, head-kind, head-none}
 use native.Mathlib.Omega.{arith}
 use borrow.Author.Needs.{needs}
 use Rattle.parser.proofs.next_kind.Statement.{statement}

@@ -1,7 +1,7 @@
 -- `no_args` follows `noArgs`. Assumes nothing.
 use mathlib.Core.Path.{_∙_}
-use Rattle.reading.proofs.ParseLaws.{no-args-is}
-use Rattle.reading.proofs.WritingLaws.{did-then, asks-first, asks-then, tree-long, errors-long, node-room, node-level, asks-node, did-node, started-long, finished-long, finish-room, asks-is, did-is}
+use Rattle.trees.proofs.ParseLaws.{no-args-is}
+use Rattle.trees.proofs.WritingLaws.{did-then, asks-first, asks-then, tree-long, errors-long, node-room, node-level, asks-node, did-node, started-long, finished-long, finish-room, asks-is, did-is}
 use Rattle.parser.proofs.no_args.Statement.{statement}
 use Rattle.parser.proofs.no_args.Tie as tie
 

@@ -1,8 +1,8 @@
 -- `no_method` follows `noMethod`. Assumes nothing.
 use mathlib.Core.List.{[]}
-use Rattle.reading.proofs.ParseLaws.{no-method-is}
-use Rattle.reading.proofs.WritingLaws.{did-done, did-then, asks-first, asks-then, tree-long, errors-long, ready-then, asks-false, did-true, did-false, asks-is, did-is}
-use Rattle.reading.proofs.LookLaws.{at-yes, at-no, fail-ahead-room}
+use Rattle.trees.proofs.ParseLaws.{no-method-is}
+use Rattle.trees.proofs.WritingLaws.{did-done, did-then, asks-first, asks-then, tree-long, errors-long, ready-then, asks-false, did-true, did-false, asks-is, did-is}
+use Rattle.trees.proofs.LookLaws.{at-yes, at-no, fail-ahead-room}
 use Rattle.parser.proofs.no_method.Statement.{statement}
 use Rattle.parser.proofs.no_method.Tie as tie
 

@@ -2,7 +2,7 @@
 use denote.Ref.{now}
 use mathlib.Core.Path.{sym, _∙_}
 use lib.ListN.{length}
-use Rattle.reading.proofs.ReadLaws.{passed-has-room, passed-reads, refused-reads}
+use Rattle.trees.proofs.ReadLaws.{passed-has-room, passed-reads, refused-reads}
 use borrow.Author.Needs.{needs}
 use Rattle.parser.proofs.parse_expr.Statement.{statement}
 use Rattle.parser.proofs.parse_expr.Tie as tie

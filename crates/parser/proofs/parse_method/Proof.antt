@@ -1,8 +1,8 @@
 -- `parse_method` follows `parseMethod`, test by test. Assumes nothing.
 use mathlib.Core.Path.{sym, _∙_}
 use mathlib.Core.List.{[]}
-use Rattle.reading.proofs.ParseLaws.{parse-method-is}
-use Rattle.reading.proofs.WritingLaws.{did-then, asks-first, asks-then, tree-long, errors-long, asks-true, asks-false, did-true, did-false, asks-is, did-is}
+use Rattle.trees.proofs.ParseLaws.{parse-method-is}
+use Rattle.trees.proofs.WritingLaws.{did-then, asks-first, asks-then, tree-long, errors-long, asks-true, asks-false, did-true, did-false, asks-is, did-is}
 use borrow.Author.Needs.{needs}
 use Rattle.parser.proofs.parse_method.Statement.{statement}
 use Rattle.parser.proofs.parse_method.Tie as tie

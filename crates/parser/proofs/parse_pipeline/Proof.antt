@@ -1,7 +1,7 @@
 -- `parse_pipeline` follows `parsePipeline`. Assumes nothing.
 use mathlib.Core.Path.{_∙_}
-use Rattle.reading.proofs.ParseLaws.{parse-pipeline-is}
-use Rattle.reading.proofs.WritingLaws.{did-then, asks-first, asks-then, tree-long, errors-long, node-room, node-level, asks-node, did-node, started-long, finished-long, finish-room, asks-is, did-is}
+use Rattle.trees.proofs.ParseLaws.{parse-pipeline-is}
+use Rattle.trees.proofs.WritingLaws.{did-then, asks-first, asks-then, tree-long, errors-long, node-room, node-level, asks-node, did-node, started-long, finished-long, finish-room, asks-is, did-is}
 use Rattle.parser.proofs.parse_pipeline.Statement.{statement}
 use Rattle.parser.proofs.parse_pipeline.Tie as tie
 

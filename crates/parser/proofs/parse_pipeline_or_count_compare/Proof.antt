@@ -1,7 +1,7 @@
 -- `parse_pipeline_or_count_compare` follows its definition. Assumes nothing.
 use mathlib.Core.Path.{sym, _∙_}
-use Rattle.reading.proofs.ParseLaws.{parse-compare-is}
-use Rattle.reading.proofs.WritingLaws.{did-then, asks-first, asks-then, tree-long, errors-long, node-room, node-level, asks-node, did-node, started-long, finished-long, finish-room, asks-true, asks-false, did-true, did-false, asks-is, did-is}
+use Rattle.trees.proofs.ParseLaws.{parse-compare-is}
+use Rattle.trees.proofs.WritingLaws.{did-then, asks-first, asks-then, tree-long, errors-long, node-room, node-level, asks-node, did-node, started-long, finished-long, finish-room, asks-true, asks-false, did-true, did-false, asks-is, did-is}
 use Rattle.parser.proofs.parse_pipeline_or_count_compare.Statement.{statement}
 use Rattle.parser.proofs.parse_pipeline_or_count_compare.Tie as tie
 

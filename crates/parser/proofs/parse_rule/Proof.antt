@@ -4,10 +4,10 @@ use mathlib.Core.Path.{_≡_, refl, sym, ap, _∙_}
 use Prim.Native.Nat.{ℕ}
 use borrow.Author.Tests.{lt-ltb, le-ltb}
 use lib.ListN.{length}
-use Rattle.reading.specs.Read.{checkTables}
-use Rattle.reading.specs.declared.Reading.{Reading}
-use Rattle.reading.proofs.BoundLaws.{asks-root}
-use Rattle.reading.proofs.ReadLaws.{Room, room, lexes, lex-refuses-not, rooted, rows-read}
+use Rattle.trees.specs.Read.{checkTables}
+use Rattle.trees.specs.declared.Reading.{Reading}
+use Rattle.trees.proofs.BoundLaws.{asks-root}
+use Rattle.trees.proofs.ReadLaws.{Room, room, lexes, lex-refuses-not, rooted, rows-read}
 use native.Mathlib.Omega.{arith}
 use borrow.Author.Needs.{needs}
 use Rattle.parser.proofs.parse_rule.Statement.{statement}

@@ -1,6 +1,6 @@
 -- `past_token` goes past the next token. Assumes nothing.
 use mathlib.Core.Path.{refl}
-use Rattle.reading.proofs.TokenLaws.{table-length, ready-past, tail-past}
+use Rattle.trees.proofs.TokenLaws.{table-length, ready-past, tail-past}
 use native.Mathlib.Omega.{arith}
 use borrow.Author.Needs.{needs}
 use Rattle.parser.proofs.past_token.Statement.{statement}

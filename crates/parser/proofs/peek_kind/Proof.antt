@@ -3,8 +3,8 @@ use mathlib.Core.Path.{_≡_, sym, ap, _∙_}
 use mathlib.Core.List.{List}
 use Prim.Native.Nat.{ℕ}
 use Rattle.lexer.specs.Lex.{Token}
-use Rattle.reading.specs.Look.{peekKind, currentKind, tailOf}
-use Rattle.reading.proofs.TokenLaws.{at-end, table-length}
+use Rattle.trees.specs.Look.{peekKind, currentKind, tailOf}
+use Rattle.trees.proofs.TokenLaws.{at-end, table-length}
 use native.Mathlib.Omega.{arith}
 use borrow.Author.Needs.{needs}
 use Rattle.parser.proofs.peek_kind.Statement.{statement}

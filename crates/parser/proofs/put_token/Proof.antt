@@ -1,7 +1,7 @@
 -- `put_token` writes the next token as a leaf. Assumes nothing.
-use Rattle.reading.proofs.TokenLaws.{table-length}
-use Rattle.reading.proofs.WritingLaws.{did-next, did-next-end}
-use Rattle.reading.proofs.LookLaws.{next-room}
+use Rattle.trees.proofs.TokenLaws.{table-length}
+use Rattle.trees.proofs.WritingLaws.{did-next, did-next-end}
+use Rattle.trees.proofs.LookLaws.{next-room}
 use native.Mathlib.Omega.{arith}
 use borrow.Author.Needs.{needs}
 use Rattle.parser.proofs.put_token.Statement.{statement}

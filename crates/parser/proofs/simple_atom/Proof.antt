@@ -1,9 +1,9 @@
 -- `simple_atom` follows `simpleAtom`, test by test. Assumes nothing.
 use mathlib.Core.Path.{sym, _∙_}
 use mathlib.Core.List.{[]}
-use Rattle.reading.proofs.ParseLaws.{simple-atom-is}
-use Rattle.reading.proofs.WritingLaws.{tree-long, errors-long, asks-true, asks-false, did-true, did-false, asks-is, did-is}
-use Rattle.reading.proofs.LookLaws.{fail-ahead-room}
+use Rattle.trees.proofs.ParseLaws.{simple-atom-is}
+use Rattle.trees.proofs.WritingLaws.{tree-long, errors-long, asks-true, asks-false, did-true, did-false, asks-is, did-is}
+use Rattle.trees.proofs.LookLaws.{fail-ahead-room}
 use borrow.Author.Needs.{needs}
 use Rattle.parser.proofs.simple_atom.Statement.{statement}
 use Rattle.parser.proofs.simple_atom.Tie as tie

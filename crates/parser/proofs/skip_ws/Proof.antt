@@ -4,8 +4,8 @@ use mathlib.Core.Path.{sym, _∙_}
 use Prim.Native.Nat.{_-_}
 use lib.ListN.{length}
 use Rattle.lexer.specs.Lex.{lex}
-use Rattle.reading.proofs.TokenLaws.{table-length, some-token}
-use Rattle.reading.proofs.LookLaws.{Skipping, skipping-start, skipping-past, skipping-end}
+use Rattle.trees.proofs.TokenLaws.{table-length, some-token}
+use Rattle.trees.proofs.LookLaws.{Skipping, skipping-start, skipping-past, skipping-end}
 use native.Mathlib.Omega.{arith}
 use Rattle.parser.proofs.skip_ws.Statement.{statement}
 use Rattle.parser.proofs.skip_ws.Tie as tie

@@ -3,9 +3,9 @@ use mathlib.Core.List.{[]}
 use Prim.Native.Nat.{_-_}
 use lib.ListN.{length}
 use Rattle.lexer.specs.Lex.{lex}
-use Rattle.reading.specs.Parse.{remaining}
-use Rattle.reading.proofs.TokenLaws.{table-length}
-use Rattle.reading.proofs.LookLaws.{Going, going-start, going-end, going-next, going-fits, remaining-next, remaining-end, next-ahead}
+use Rattle.trees.specs.Parse.{remaining}
+use Rattle.trees.proofs.TokenLaws.{table-length}
+use Rattle.trees.proofs.LookLaws.{Going, going-start, going-end, going-next, going-fits, remaining-next, remaining-end, next-ahead}
 use native.Mathlib.Omega.{arith}
 use Rattle.parser.proofs.take_remaining.Statement.{statement}
 use Rattle.parser.proofs.take_remaining.Tie as tie

@@ -1,7 +1,7 @@
 -- `is_operator` tests the level and the kind. Assumes nothing.
 use Rattle.eval.proofs.ValueLaws.{operator-below, operator-from}
 use Rattle.predicate.proofs.RowLaws.{passes-elsewhere, passes-here}
-use Rattle.reading.specs.Look.{isComparison}
+use Rattle.trees.specs.Look.{isComparison}
 use native.Mathlib.Omega.{arith}
 use Prim.Native.Nat.{_+_}
 use mathlib.Core.Path.{refl, _∙_}

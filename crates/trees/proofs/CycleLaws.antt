@@ -6,12 +6,12 @@ use native.Mathlib.Omega.{arith}
 use lib.ListN.{length, drop}
 use Rattle.syntax.specs.Kind.{DOT, NONE}
 use Rattle.lexer.specs.Lex.{Token}
-use Rattle.reading.specs.Look.{currentKind}
-use Rattle.reading.specs.Parse.{join, _▹_, inNode, bump, expect, predicateArgs, noArgs, noMethod, parseMethod, parseDotCall, parse, OrExpr}
-use Rattle.reading.specs.Writing.{Did, Started}
-use Rattle.reading.specs.declared.Cursor.{Cursor}
-use Rattle.reading.proofs.TreeLaws.{Keeps, keeping, keeps-bump, keeps-expect, keeps-parse}
-use Rattle.reading.proofs.StepLaws.{short, ahead, at-kind, expect-less, bump-ahead}
+use Rattle.trees.specs.Look.{currentKind}
+use Rattle.trees.specs.Parse.{join, _▹_, inNode, bump, expect, predicateArgs, noArgs, noMethod, parseMethod, parseDotCall, parse, OrExpr}
+use Rattle.trees.specs.Writing.{Did, Started}
+use Rattle.trees.specs.declared.Cursor.{Cursor}
+use Rattle.trees.proofs.TreeLaws.{Keeps, keeping, keeps-bump, keeps-expect, keeps-parse}
+use Rattle.trees.proofs.StepLaws.{short, ahead, at-kind, expect-less, bump-ahead}
 
 -- a node's own row takes no token
 pub started-token : {t₀ t₁ : List ℕ} {k l : ℕ} {c d : Cursor} → Started t₀ t₁ k l c d → d .token ≡ c .token

@@ -12,13 +12,13 @@ use Rattle.syntax.specs.Text.{ascii, same}
 use Rattle.syntax.proofs.BoolLaws.{whether, true→T, T→true, and-left}
 use Rattle.lexer.specs.Lex.{Token, lex, tokenRows}
 use Rattle.lexer.proofs.ReadLaws.{lex-length}
-use Rattle.reading.specs.Green.{size, width}
-use Rattle.reading.specs.Look.{isBlank, skipWs, headText, atKind, atText, atIdent, peekKind, atMessageDot, atField, atPredicateMethod, atPlainMethod, hasCountCompareAhead, hasBinaryOpAtLevel}
-use Rattle.reading.specs.Parse.{Parsed, Parser, done, next, fails, failsAhead, join, _▹_, inNode, choose, eatWs, bump, nextIs, expect, nextIsIdent, expectIdent, literal, callExpr, identExpr, containsExpr, compareExpr, simpleAtom, Mode, OrExpr, OrRest, AndExpr, AndRest, Atom, Calls, noMethod, parseMethod, parseDotCall, step, steps, parse, parseSource, parsePipeline, parsePipelineOrCountCompare, remaining, leftOver, parseRoot, parseExpr}
-use Rattle.reading.specs.Writing.{Asks}
-use Rattle.reading.proofs.GreenLaws.{size-⊹, height-size}
-use Rattle.reading.proofs.TreeLaws.{eat-rest}
-use Rattle.reading.proofs.StepLaws.{Sees, sees-kind, expect-bump, always}
+use Rattle.trees.specs.Green.{size, width}
+use Rattle.trees.specs.Look.{isBlank, skipWs, headText, atKind, atText, atIdent, peekKind, atMessageDot, atField, atPredicateMethod, atPlainMethod, hasCountCompareAhead, hasBinaryOpAtLevel}
+use Rattle.trees.specs.Parse.{Parsed, Parser, done, next, fails, failsAhead, join, _▹_, inNode, choose, eatWs, bump, nextIs, expect, nextIsIdent, expectIdent, literal, callExpr, identExpr, containsExpr, compareExpr, simpleAtom, Mode, OrExpr, OrRest, AndExpr, AndRest, Atom, Calls, noMethod, parseMethod, parseDotCall, step, steps, parse, parseSource, parsePipeline, parsePipelineOrCountCompare, remaining, leftOver, parseRoot, parseExpr}
+use Rattle.trees.specs.Writing.{Asks}
+use Rattle.trees.proofs.GreenLaws.{size-⊹, height-size}
+use Rattle.trees.proofs.TreeLaws.{eat-rest}
+use Rattle.trees.proofs.StepLaws.{Sees, sees-kind, expect-bump, always}
 
 -- x is what was read from ts. Each token taken pays six, each row and each error costs one: at least `saved` remain, or at most `over` are missing
 record Bounded (ts : List Token) (saved over : ℕ) (x : Parsed) : Type 0 where

@@ -12,11 +12,11 @@ use Rattle.syntax.proofs.BoolLaws.{whether}
 use Rattle.lexer.specs.Lex.{Token, lex, joined, tokenRows}
 use Rattle.lexer.proofs.LexLaws.{lex-joined}
 use Rattle.lexer.proofs.ReadLaws.{tokenRows-length}
-use Rattle.reading.specs.Green.{width}
-use Rattle.reading.specs.Look.{headKind, headText, tailOf}
-use Rattle.reading.specs.Writing.{Ready}
-use Rattle.reading.specs.declared.Cursor.{Cursor}
-use Rattle.reading.proofs.GreenLaws.{width-split}
+use Rattle.trees.specs.Green.{width}
+use Rattle.trees.specs.Look.{headKind, headText, tailOf}
+use Rattle.trees.specs.Writing.{Ready}
+use Rattle.trees.specs.declared.Cursor.{Cursor}
+use Rattle.trees.proofs.GreenLaws.{width-split}
 
 -- the bytes of a rule's tokens are the rule's
 width-joined : (ts : List Token) → width ts ≡ length (joined ts)

@@ -11,12 +11,12 @@ use Rattle.syntax.specs.Kind.{DOT, L-PAREN, R-PAREN, AND-KW, OR-KW, NOT-KW, BIN
 use Rattle.syntax.specs.Text.{ascii}
 use Rattle.syntax.proofs.BoolLaws.{whether}
 use Rattle.lexer.specs.Lex.{Token}
-use Rattle.reading.specs.Look.{skipWs, headKind, currentKind, atKind, atText, atPredicateMethod, atPlainMethod, hasBinaryOpAtLevel}
-use Rattle.reading.specs.Parse.{Parser, done, next, join, _▹_, inNode, choose, eatWs, bump, expect, Mode, OrExpr, OrRest, AndExpr, AndRest, Atom, Calls, noArgs, noMethod, parseMethod, step, steps, parse}
-use Rattle.reading.specs.Writing.{Asks, Did}
-use Rattle.reading.specs.declared.Cursor.{Cursor}
-use Rattle.reading.proofs.WritingLaws.{asks-as, did-as}
-use Rattle.reading.proofs.TreeLaws.{Keeps, eat-rest, keeping, keeps-bump, keeps-expect, keeps-simple, keeps-done, keeps-eatWs, keeps-steps, keeps-parse}
+use Rattle.trees.specs.Look.{skipWs, headKind, currentKind, atKind, atText, atPredicateMethod, atPlainMethod, hasBinaryOpAtLevel}
+use Rattle.trees.specs.Parse.{Parser, done, next, join, _▹_, inNode, choose, eatWs, bump, expect, Mode, OrExpr, OrRest, AndExpr, AndRest, Atom, Calls, noArgs, noMethod, parseMethod, step, steps, parse}
+use Rattle.trees.specs.Writing.{Asks, Did}
+use Rattle.trees.specs.declared.Cursor.{Cursor}
+use Rattle.trees.proofs.WritingLaws.{asks-as, did-as}
+use Rattle.trees.proofs.TreeLaws.{Keeps, eat-rest, keeping, keeps-bump, keeps-expect, keeps-simple, keeps-done, keeps-eatWs, keeps-steps, keeps-parse}
 
 -- ---- how many tokens are left
 

@@ -10,10 +10,10 @@ use Rattle.syntax.specs.declared.refusal.Refusal.the-variants.{RuleTooLong, Tab
 use Rattle.lexer.specs.Lex.{lex}
 use Rattle.lexer.specs.Read.{MAX-RULE, tablesShort, tokenTable}
 use Rattle.syntax.specs.declared.refusal.Check.{Check}
-use Rattle.reading.specs.Green.{size}
-use Rattle.reading.specs.Parse.{parseExpr}
-use Rattle.reading.specs.Rows.{treeRows, errorRows}
-use Rattle.reading.specs.declared.Reading.{Reading}
+use Rattle.trees.specs.Green.{size}
+use Rattle.trees.specs.Parse.{parseExpr}
+use Rattle.trees.specs.Rows.{treeRows, errorRows}
+use Rattle.trees.specs.declared.Reading.{Reading}
 
 -- of refusals 1 to 4, those that the parser by itself cannot do without: 1 and 3, by the lengths of the rule and the three tables
 unfoldable pub checkTables : ℕ → ℕ → ℕ → ℕ → Check

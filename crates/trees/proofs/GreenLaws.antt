@@ -5,10 +5,10 @@ use Prim.Native.Nat.{ℕ, zero, suc, _+_, _*_, _-_, _≤_, max}
 use native.Mathlib.Omega.{arith}
 use lib.ListN.{length, take, drop, length-append}
 use Rattle.lexer.specs.Lex.{Token}
-use Rattle.reading.specs.Green.{Forest, nil, leaf, node, _⊹_, tokensOf, size, height, width, span}
-use Rattle.reading.specs.Look.{headText}
-use Rattle.reading.specs.Parse.{Error}
-use Rattle.reading.specs.Rows.{treeRows, errorRows}
+use Rattle.trees.specs.Green.{Forest, nil, leaf, node, _⊹_, tokensOf, size, height, width, span}
+use Rattle.trees.specs.Look.{headText}
+use Rattle.trees.specs.Parse.{Error}
+use Rattle.trees.specs.Rows.{treeRows, errorRows}
 
 pub span-⊹ : (f g : Forest) → span (f ⊹ g) ≡ span f + span g
 unfolding _⊹_ span

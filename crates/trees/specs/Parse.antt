@@ -8,8 +8,8 @@ use Rattle.syntax.specs.Kind.{STRING-LIT, DOT, L-PAREN, R-PAREN, EQ-EQ, AND-KW,
 use Rattle.syntax.specs.Form.{EXPECT, EXPECT-IDENT, LEFT-OVER, SOURCE, METHOD, ATOM}
 use Rattle.syntax.specs.Text.{ascii, same}
 use Rattle.lexer.specs.Lex.{Token, lex}
-use Rattle.reading.specs.Green.{Forest, nil, leaf, node, _⊹_}
-use Rattle.reading.specs.Look.{isBlank, skipWs, headKind, headText, atKind, atText, atIdent, atMessageDot, atField, atPredicateMethod, atPlainMethod, hasCountCompareAhead, hasBinaryOpAtLevel}
+use Rattle.trees.specs.Green.{Forest, nil, leaf, node, _⊹_}
+use Rattle.trees.specs.Look.{isBlank, skipWs, headKind, headText, atKind, atText, atIdent, atMessageDot, atField, atPredicateMethod, atPlainMethod, hasCountCompareAhead, hasBinaryOpAtLevel}
 
 -- a parse error: its form, the kind expected (of form EXPECT, else 0), and the tokens left, of which the first is the one found
 pub record Error : Type 0 where

@@ -3,8 +3,8 @@ use mathlib.Core.Path.{_≡_, refl}
 use mathlib.Core.List.{List, [], _∷_, _++_}
 use Prim.Native.Nat.{ℕ}
 use Rattle.syntax.specs.Text.{ascii}
-use Rattle.reading.specs.Parse.{parseExpr}
-use Rattle.reading.specs.Rows.{treeRows, errorRows}
+use Rattle.trees.specs.Parse.{parseExpr}
+use Rattle.trees.specs.Rows.{treeRows, errorRows}
 
 abbrev rows : List ℕ → List ℕ
 rows rule = treeRows 0 0 (parseExpr rule .made)

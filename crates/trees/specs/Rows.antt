@@ -2,9 +2,9 @@
 use Prim.Native.Nat.{ℕ, _+_, _-_}
 use mathlib.Core.List.{List, [], _∷_, _++_}
 use lib.ListN.{length}
-use Rattle.reading.specs.Green.{Forest, nil, leaf, node, width, span}
-use Rattle.reading.specs.Look.{headText}
-use Rattle.reading.specs.Parse.{Error}
+use Rattle.trees.specs.Green.{Forest, nil, leaf, node, width, span}
+use Rattle.trees.specs.Look.{headText}
+use Rattle.trees.specs.Parse.{Error}
 
 -- tree rows in preorder: kind, level, first byte, end byte; `level` and `at` are those of the forest's first row
 unfoldable pub treeRows : ℕ → ℕ → Forest → List ℕ

@@ -5,8 +5,8 @@ use Prim.Native.Nat.{ℕ}
 use Rattle.syntax.specs.Kind.{STRING-LIT, DOT, L-PAREN, R-PAREN, EQ-EQ, AND-KW, OR-KW, NOT-KW, ROOT, PIPELINE-EXPR, DOT-CALL, CALL-ARGS, BINARY-EXPR, UNARY-EXPR, COMPARE-EXPR, CALL-EXPR, PAREN-EXPR, LITERAL, IDENT-EXPR, CONTAINS-EXPR, COUNT-COMPARE-EXPR, NONE}
 use Rattle.syntax.specs.Form.{EXPECT, EXPECT-IDENT, LEFT-OVER, SOURCE, METHOD, ATOM}
 use Rattle.syntax.specs.Text.{ascii}
-use Rattle.reading.specs.Look.{atKind, atText, atIdent, atMessageDot, atField, atPredicateMethod, atPlainMethod, hasCountCompareAhead, hasBinaryOpAtLevel}
-use Rattle.reading.specs.Parse.{done, next, fails, failsAhead, _▹_, inNode, choose, eatWs, bump, nextIs, expect, nextIsIdent, expectIdent, literal, callExpr, identExpr, containsExpr, compareExpr, simpleAtom, predicateArgs, noArgs, noMethod, parseMethod, parseDotCall, atomHere, step, parse, OrExpr, OrRest, AndExpr, AndRest, Atom, Calls, parseSource, parsePipeline, parsePipelineOrCountCompare, remaining, leftOver, parseRoot}
+use Rattle.trees.specs.Look.{atKind, atText, atIdent, atMessageDot, atField, atPredicateMethod, atPlainMethod, hasCountCompareAhead, hasBinaryOpAtLevel}
+use Rattle.trees.specs.Parse.{done, next, fails, failsAhead, _▹_, inNode, choose, eatWs, bump, nextIs, expect, nextIsIdent, expectIdent, literal, callExpr, identExpr, containsExpr, compareExpr, simpleAtom, predicateArgs, noArgs, noMethod, parseMethod, parseDotCall, atomHere, step, parse, OrExpr, OrRest, AndExpr, AndRest, Atom, Calls, parseSource, parsePipeline, parsePipelineOrCountCompare, remaining, leftOver, parseRoot}
 
 pub bump-is : bump ≡ eatWs ▹ next
 unfolding bump

@@ -10,14 +10,14 @@ use lib.ListN.{length, take, drop, set, getD, length-append, length-set}
 use lib.Seq.{sets, set-set, set-comm, length-sets}
 use Rattle.syntax.proofs.TableLaws.{sets-append}
 use Rattle.lexer.specs.Lex.{Token}
-use Rattle.reading.specs.Green.{Forest, nil, leaf, node, _⊹_, width, span, size, height}
-use Rattle.reading.specs.Look.{skipWs, headText}
-use Rattle.reading.specs.Parse.{Error, Parsed, Parser, done, next, fails, failsAhead, join, _▹_, inNode, choose}
-use Rattle.reading.specs.Rows.{treeRows, errorRows}
-use Rattle.reading.specs.Writing.{Ready, Skipped, Fits, Asks, Wrote, Did, Started, Finished}
-use Rattle.reading.specs.declared.Cursor.{Cursor}
-use Rattle.reading.proofs.GreenLaws.{span-⊹, size-⊹, height-⊹, treeRows-length, treeRows-⊹, errorRows-length, errorRows-append, width-split}
-use Rattle.reading.proofs.TokenLaws.{Row, row, at-end, table-length}
+use Rattle.trees.specs.Green.{Forest, nil, leaf, node, _⊹_, width, span, size, height}
+use Rattle.trees.specs.Look.{skipWs, headText}
+use Rattle.trees.specs.Parse.{Error, Parsed, Parser, done, next, fails, failsAhead, join, _▹_, inNode, choose}
+use Rattle.trees.specs.Rows.{treeRows, errorRows}
+use Rattle.trees.specs.Writing.{Ready, Skipped, Fits, Asks, Wrote, Did, Started, Finished}
+use Rattle.trees.specs.declared.Cursor.{Cursor}
+use Rattle.trees.proofs.GreenLaws.{span-⊹, size-⊹, height-⊹, treeRows-length, treeRows-⊹, errorRows-length, errorRows-append, width-split}
+use Rattle.trees.proofs.TokenLaws.{Row, row, at-end, table-length}
 
 -- ---- nothing, the next token, an error
 

@@ -16,16 +16,16 @@ use Rattle.lexer.specs.Read.{MAX-RULE, TOKEN-ROW, TREE-ROW, ERROR-ROW, rowsNeed
 use Rattle.syntax.specs.declared.refusal.Check.{Check}
 use Rattle.lexer.specs.declared.Lexed.{Lexed}
 use Rattle.lexer.proofs.ReadLaws.{lex-length, tokenRows-length, passed-lengths}
-use Rattle.reading.specs.Green.{size}
-use Rattle.reading.specs.Parse.{parseRoot, parseExpr}
-use Rattle.reading.specs.Rows.{treeRows, errorRows}
-use Rattle.reading.specs.Writing.{Asks, Did}
-use Rattle.reading.specs.Read.{checkTables, rowsRead, treeTable, errorTable, Reads}
-use Rattle.reading.specs.declared.Cursor.{Cursor}
-use Rattle.reading.specs.declared.Reading.{Reading}
-use Rattle.reading.proofs.GreenLaws.{treeRows-length, errorRows-length}
-use Rattle.reading.proofs.TokenLaws.{width-lex}
-use Rattle.reading.proofs.BoundLaws.{rows-bound, errors-bound}
+use Rattle.trees.specs.Green.{size}
+use Rattle.trees.specs.Parse.{parseRoot, parseExpr}
+use Rattle.trees.specs.Rows.{treeRows, errorRows}
+use Rattle.trees.specs.Writing.{Asks, Did}
+use Rattle.trees.specs.Read.{checkTables, rowsRead, treeTable, errorTable, Reads}
+use Rattle.trees.specs.declared.Cursor.{Cursor}
+use Rattle.trees.specs.declared.Reading.{Reading}
+use Rattle.trees.proofs.GreenLaws.{treeRows-length, errorRows-length}
+use Rattle.trees.proofs.TokenLaws.{width-lex}
+use Rattle.trees.proofs.BoundLaws.{rows-bound, errors-bound}
 
 -- a table that has room has it for the rows of any rule of n bytes
 pub record Room (n a b c : ℕ) : Type 0 where

@@ -5,11 +5,11 @@ use mathlib.Core.List.{List, [], _∷_}
 use lib.ListN.{length, take, drop, set}
 use lib.Seq.{sets}
 use Rattle.lexer.specs.Lex.{Token, tokenRows}
-use Rattle.reading.specs.Green.{size, height, width, span}
-use Rattle.reading.specs.Look.{skipWs, tailOf}
-use Rattle.reading.specs.Parse.{Parsed, Parser}
-use Rattle.reading.specs.Rows.{treeRows, errorRows}
-use Rattle.reading.specs.declared.Cursor.{Cursor}
+use Rattle.trees.specs.Green.{size, height, width, span}
+use Rattle.trees.specs.Look.{skipWs, tailOf}
+use Rattle.trees.specs.Parse.{Parsed, Parser}
+use Rattle.trees.specs.Rows.{treeRows, errorRows}
+use Rattle.trees.specs.declared.Cursor.{Cursor}
 
 -- the tokens ts stand in the token table, and the cursor at one of them or at their end
 pub record Ready (ts : List Token) (tokens : List ℕ) (c : Cursor) : Type 0 where

@@ -9,13 +9,13 @@ use lib.Dec.{eqb}
 use lib.ListN.{length, take, drop, getD, length-drop}
 use Rattle.syntax.specs.Kind.{WHITESPACE, L-PAREN, R-PAREN, INT-LIT, NONE}
 use Rattle.lexer.specs.Lex.{Token}
-use Rattle.reading.specs.Look.{isBlank, skipWs, headKind, headText, tailOf, currentKind, atKind, isComparison, endsInComparison, opAhead}
-use Rattle.reading.specs.Green.{size}
-use Rattle.reading.specs.Parse.{Parser, done, next, fails, failsAhead, _▹_, join, eatWs, nextIs, remaining}
-use Rattle.reading.specs.Writing.{Ready, Past, Skipped, Fits, Asks, Did}
-use Rattle.reading.specs.declared.Cursor.{Cursor}
-use Rattle.reading.proofs.TokenLaws.{Row, row, at-end, table-length, some-token}
-use Rattle.reading.proofs.WritingLaws.{did-done, did-then, did-as, fits-as, fits-first, fits-then, tree-long}
+use Rattle.trees.specs.Look.{isBlank, skipWs, headKind, headText, tailOf, currentKind, atKind, isComparison, endsInComparison, opAhead}
+use Rattle.trees.specs.Green.{size}
+use Rattle.trees.specs.Parse.{Parser, done, next, fails, failsAhead, _▹_, join, eatWs, nextIs, remaining}
+use Rattle.trees.specs.Writing.{Ready, Past, Skipped, Fits, Asks, Did}
+use Rattle.trees.specs.declared.Cursor.{Cursor}
+use Rattle.trees.proofs.TokenLaws.{Row, row, at-end, table-length, some-token}
+use Rattle.trees.proofs.WritingLaws.{did-done, did-then, did-as, fits-as, fits-first, fits-then, tree-long}
 
 -- ---- blanks
 
