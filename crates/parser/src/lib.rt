@@ -830,8 +830,7 @@ fn current_kind(rule: &[u8], tokens: &[u32], c: Cursor) -> u32
     requires { ⌜ Ready (lex (now rule)) (now tokens) c ⌝ }
     ensures { λ r. ⌜ r ≡ currentKind (drop (c .token) (lex (now (rule .entry)))) ⌝ }
 {
-    let a = skip_ws(rule, tokens, c);
-    next_kind(rule, tokens, a)
+    reader::current_kind(tokens, c.token)
 }
 
 // Whether the first token that is no blank is this word.

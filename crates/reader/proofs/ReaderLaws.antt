@@ -9,7 +9,7 @@ use lib.Dec.{ltb}
 use lib.ListN.{length, drop, getD}
 use Rattle.syntax.specs.Kind.{WHITESPACE, NONE}
 use Rattle.syntax.proofs.BoolLaws.{whether}
-use Rattle.reader.specs.Reader.{kindsOf, kindAt, blanks, pastWs}
+use Rattle.reader.specs.Reader.{kindsOf, kindAt, blanks, pastWs, currentKind}
 
 -- the kind at a place: the first number of its row
 pub kind-here : (rows : List ℕ) (i : ℕ) → 3 * i + 3 ≤ length rows → getD rows (3 * i) 0 ≡ kindAt rows i
@@ -56,3 +56,23 @@ past-stop rows i n = omega (arith, go (kindsOf rows) i n)
     go [] (suc i) q = refl
     go (k ∷ kinds) zero q = rw (ne-eqb _ _ q, blanks)
     go (k ∷ kinds) (suc i) q = go kinds i q
+
+-- `currentKind` row by row: from a later place on, at a blank, and at a token that is none
+module _ (k first end : ℕ) (rows : List ℕ) where
+  pub current-later : (i : ℕ) → currentKind (k ∷ first ∷ end ∷ rows) (suc i) ≡ currentKind rows i
+  unfolding currentKind
+  current-later i =
+      let e : suc i + blanks (drop i (kindsOf rows)) ≡ suc (i + blanks (drop i (kindsOf rows))) = omega arith in
+      ap (λ (n : ℕ). getD (k ∷ kindsOf rows) n NONE) e
+
+  pub current-blank : k ≡ WHITESPACE → currentKind (k ∷ first ∷ end ∷ rows) 0 ≡ currentKind rows 0
+  unfolding currentKind
+  current-blank q =
+      let e : 0 + blanks (k ∷ kindsOf rows) ≡ suc (0 + blanks (kindsOf rows)) = rw (eq-eqb _ _ q, blanks) (omega arith) in
+      ap (λ (n : ℕ). getD (k ∷ kindsOf rows) n NONE) e
+
+  pub current-solid : (k ≡ WHITESPACE → ⊥) → currentKind (k ∷ first ∷ end ∷ rows) 0 ≡ k
+  unfolding currentKind
+  current-solid q =
+      let e : 0 + blanks (k ∷ kindsOf rows) ≡ 0 = rw (ne-eqb _ _ q, blanks) (omega arith) in
+      ap (λ (n : ℕ). getD (k ∷ kindsOf rows) n NONE) e

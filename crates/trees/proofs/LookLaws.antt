@@ -4,11 +4,14 @@ use mathlib.Core.List.{List, [], _∷_}
 use mathlib.Core.Bool.{Bool, true, false, _&&_, and-true, and-false}
 use Prim.Native.Nat.{ℕ, zero, suc, _+_, _*_, _-_, _≤_, _<_}
 use native.Mathlib.Omega.{arith}
-use borrow.Author.Tests.{eq-eqb, ne-eqb}
+use borrow.Author.Tests.{eq-eqb, ne-eqb, eqb-true, eqb-false}
 use lib.Dec.{eqb}
 use lib.ListN.{length, take, drop, getD, length-drop}
 use Rattle.syntax.specs.Kind.{WHITESPACE, L-PAREN, R-PAREN, INT-LIT, NONE}
-use Rattle.lexer.specs.Lex.{Token}
+use Rattle.syntax.proofs.BoolLaws.{whether}
+use Rattle.lexer.specs.Lex.{Token, tokenRows}
+use Rattle.reader.specs.Reader as reader
+use Rattle.reader.proofs.ReaderLaws.{current-later, current-blank, current-solid}
 use Rattle.trees.specs.Look.{isBlank, skipWs, headKind, headText, tailOf, currentKind, atKind, isComparison, endsInComparison, opAhead}
 use Rattle.trees.specs.Green.{size}
 use Rattle.trees.specs.Parse.{Parser, done, next, fails, failsAhead, _▹_, join, eatWs, nextIs, remaining}
@@ -51,6 +54,23 @@ module _ (ts : List Token) where
       go : (us : List Token) → (headKind us ≡ WHITESPACE → ⊥) → eatWs us ≡ done us
       go [] q = refl
       go (t ∷ us) q = rw (ne-eqb _ _ q, eatWs)
+
+-- what a reader of the rows of tokens finds: the kind of the first from its place on that is no blank
+reader-kind : (at : ℕ) (ts : List Token) (i : ℕ) → reader.currentKind (tokenRows at ts) i ≡ currentKind (drop i ts)
+unfolding reader.currentKind tokenRows skipWs
+reader-kind at [] zero = refl
+reader-kind at [] (suc i) = refl
+reader-kind at (t ∷ ts) zero =
+    let end = at + length (t .text) in
+    whether (eqb (t .kind) WHITESPACE)
+    (λ y. let e = eqb-true _ _ y in current-blank (t .kind) at end (tokenRows end ts) e ∙ (reader-kind end ts zero ∙ ap headKind (sym (skip-blank (t ∷ ts) e))))
+    (λ n. let e = eqb-false _ _ n in current-solid (t .kind) at end (tokenRows end ts) e ∙ ap headKind (sym (skip-stop (t ∷ ts) e)))
+reader-kind at (t ∷ ts) (suc i) =
+    let end = at + length (t .text) in
+    current-later (t .kind) at end (tokenRows end ts) i ∙ reader-kind end ts i
+
+pub reader-current : {ts : List Token} {tokens : List ℕ} {c : Cursor} → Ready ts tokens c → reader.currentKind tokens (c .token) ≡ currentKind (drop (c .token) ts)
+reader-current {ts} {c = c} r = ap (λ (rows : List ℕ). reader.currentKind rows (c .token)) (r .rows) ∙ reader-kind 0 ts (c .token)
 
 -- the place of the first token that is no blank is looked for from d on as from c on
 pub record Skipping (ts : List Token) (tokens : List ℕ) (c d : Cursor) : Type 0 where

@@ -1,18 +1,15 @@
--- `current_kind` looks at the first token that is no blank. Assumes nothing.
-use mathlib.Core.Path.{_∙_, ap}
-use Rattle.trees.specs.Look.{headKind}
+-- `current_kind` asks a reader of the token rows. Assumes nothing.
+use mathlib.Core.Path.{_∙_}
+use Rattle.trees.proofs.LookLaws.{reader-current}
 use borrow.Author.Needs.{needs}
 use Rattle.parser.proofs.current_kind.Statement.{statement}
 use Rattle.parser.proofs.current_kind.Tie as tie
 
-skip-ws-requires : tie.Need-skip-ws-requires
-skip-ws-requires c κs = search needs
-
-next-kind-requires : tie.Need-next-kind-requires
-next-kind-requires c κs = c .skip-ws .ensures .ready
+current-kind-requires : tie.Need-current-kind-requires
+current-kind-requires c κs = search needs
 
 returns : tie.Need-returns
-returns c = c .next-kind .ensures ∙ ap headKind (c .before .skip-ws .ensures .here)
+returns c = c .current-kind .ensures ∙ reader-current (c .before .before .before .pre)
 
 pub current-kind-spec : {M : Type 1} → statement M
-current-kind-spec = tie.close (tie.spec skip-ws-requires next-kind-requires returns)
+current-kind-spec = tie.close (tie.spec current-kind-requires returns)
