@@ -1,161 +1,233 @@
-//! How long the proved code and the Rust take, by the same driver on the same rules.
+//! How long the proved code and the Rust take, and how many instructions: by the same driver, on the
+//! same rules and boards.
 
 use std::hint::black_box;
-use std::ops::RangeInclusive;
 use std::time::{Duration, Instant};
 
-use crate::assertion::lexer::lex;
-use crate::assertion::parser;
-use crate::case::Case;
-use crate::generate::{Generator, Kind};
-use crate::sides::Sides;
-use crate::{proved, reading};
+use crate::bench_count;
+use crate::bench_rows::Maker;
 
-const SEED: u64 = 1;
+/// A round calls a side so often that it takes about this long.
+const ROUND: Duration = Duration::from_millis(1);
 
-/// Rules of a kind of length, drawn by the grammar.
-struct Rules {
-    name: &'static str,
-    lengths: RangeInclusive<usize>,
-    count: usize,
+/// Calls before one that Callgrind counts.
+const UNMEASURED: usize = 20;
+
+/// What is wanted of a benchmark.
+pub struct Wanted {
+    pub rounds: usize,
+    /// Only rows whose title or name has this part.
+    pub only: String,
+    /// Whether instructions are counted too.
+    pub instructions: bool,
 }
 
-const RULES: [Rules; 2] = [
-    Rules {
-        name: "grammar",
-        lengths: 0..=500,
-        count: 20_000,
-    },
-    Rules {
-        name: "largest",
-        lengths: 475..=500,
-        count: 1_000,
-    },
-];
+/// Rows that belong together, and what their figures grow with.
+pub struct Topic {
+    pub title: &'static str,
+    /// What stands in the second column, and what the last one counts by.
+    pub what: &'static str,
+    pub member: &'static str,
+    pub rows: Vec<Row>,
+}
 
-impl Rules {
-    /// The first rules of these lengths that are not refused.
-    fn draw(&self) -> Vec<Case> {
-        let mut generator = Generator::new(Kind::Grammar, SEED);
-        let mut case = Case::default();
-        let mut rules = Vec::new();
-        while rules.len() < self.count {
-            generator.fill(&mut case);
-            case.lend_enough();
-            if self.lengths.contains(&case.rule.len()) && reading::read(&case).is_ok() {
-                rules.push(case.clone());
-            }
-        }
-        rules
+/// The same work done by several sides, the proved one last.
+pub struct Row {
+    pub name: String,
+    pub board: String,
+    /// How often the work is done in one call: figures are for one of them.
+    pub each: usize,
+    /// What the work grows with.
+    pub members: usize,
+    pub sides: Vec<Side>,
+    /// A part of the proved side's work that no other side does.
+    pub within: Option<Side>,
+}
+
+impl Row {
+    fn all(&mut self) -> impl Iterator<Item = &mut Side> {
+        self.sides.iter_mut().chain(&mut self.within)
     }
 }
 
-/// A function under measure: it takes a rule and gives a number that depends on all its work.
-struct Side {
-    name: &'static str,
-    read: Box<dyn FnMut(&str) -> usize>,
+/// A call under measure: it gives a number that depends on all its work.
+pub struct Side {
+    pub name: &'static str,
+    call: Box<dyn FnMut() -> usize>,
 }
 
 impl Side {
-    fn new(name: &'static str, read: impl FnMut(&str) -> usize + 'static) -> Self {
-        let read = Box::new(read);
-        Self { name, read }
+    pub fn new(name: &'static str, call: impl FnMut() -> usize + 'static) -> Self {
+        let call = Box::new(call);
+        Self { name, call }
     }
 
-    /// Reads every rule once.
-    fn round(&mut self, rules: &[&str]) -> Duration {
+    /// So many calls.
+    fn round(&mut self, calls: usize) -> Duration {
         let start = Instant::now();
-        for rule in rules {
-            black_box((self.read)(black_box(rule)));
+        for _ in 0..calls {
+            bench_measured(self);
         }
         start.elapsed()
     }
+
+    /// How many calls take about as long as a round should.
+    fn calls(&mut self) -> usize {
+        self.round(1);
+        let one = self.round(1).max(Duration::from_nanos(1));
+        (ROUND.as_nanos() / one.as_nanos()).clamp(1, 10_000) as usize
+    }
 }
 
-/// Measures the functions of this build, so many rounds each, and prints the best and the median.
-/// Before that each rule is compared, so that both sides are known to do the same work.
-pub fn bench(rounds: usize) -> Result<(), String> {
-    println!("{rounds} rounds; ns: nanoseconds a rule, MB/s: million bytes a second");
-    println!("tables are not cleared between calls; the Rust allocates, the proved code does not");
-    for rules in RULES {
-        let cases = rules.draw();
-        let mut sides = Sides::default();
-        cases.iter().try_for_each(|case| sides.check(case))?;
-        let texts = cases.iter().map(|case| str::from_utf8(&case.rule).unwrap());
-        let texts: Vec<&str> = texts.collect();
-        let bytes: usize = texts.iter().map(|text| text.len()).sum();
-        println!("\n{}: {} rules, {bytes} bytes", rules.name, texts.len());
-        println!("{:<24}{:>20}{:>20}", "", "best", "median");
-        measure(&mut tokens(), &texts, rounds);
-        if proved::PARSES {
-            measure(&mut readings(), &texts, rounds);
+/// One call. Callgrind knows it by this name and counts within it.
+#[unsafe(no_mangle)]
+#[inline(never)]
+pub fn bench_measured(side: &mut Side) -> usize {
+    black_box((side.call)())
+}
+
+/// Measures both sides and prints a table for each topic.
+pub fn bench(wanted: &Wanted) -> Result<(), String> {
+    let only = wanted.only.clone();
+    let mut topics = Maker { only, checks: true }.topics()?;
+    let counts = match wanted.instructions {
+        true => Some(counts(&mut topics, &wanted.only)?),
+        false => None,
+    };
+    let mut counts = counts.map(Vec::into_iter);
+    let rounds = wanted.rounds;
+    println!("{rounds} rounds, median; times and instructions for one rule or image");
+    for topic in &mut topics {
+        println!("\n## {}\n", topic.title);
+        heading(topic, counts.is_some());
+        for row in &mut topic.rows {
+            let times = times(row, rounds);
+            let counted = counts.as_mut().map(|counts| counted(row, counts));
+            line(row, &times, counted.as_deref());
         }
     }
     Ok(())
 }
 
-/// Both ways to the tokens of a rule.
-fn tokens() -> [Side; 2] {
-    let [mut table, tree, errors] = tables();
-    let read = move |rule: &str| {
-        let mut count = 0;
-        let (tree, errors) = (tree.len(), errors.len());
-        proved::read_tokens(rule.as_bytes(), &mut table, tree, errors, &mut count);
-        count as usize
-    };
-    [
-        Side::new("lex", |rule| lex(rule).len()),
-        Side::new("assertion_read_tokens", read),
-    ]
-}
-
-/// Both ways to a whole reading: tokens, tree and errors.
-fn readings() -> [Side; 2] {
-    let [mut tokens, mut tree, mut errors] = tables();
-    let read = move |rule: &str| {
-        let mut counts = [0; 3];
-        let rule = rule.as_bytes();
-        proved::parse_expr(rule, &mut tokens, &mut tree, &mut errors, &mut counts);
-        counts[1] as usize
-    };
-    [
-        Side::new("parse_expr", |rule| {
-            black_box(parser::parse_expr(rule)).errors().len()
-        }),
-        Side::new("assertion_parse_expr", read),
-    ]
-}
-
-/// Tables long enough for every rule.
-fn tables() -> [Vec<u32>; 3] {
-    let case = Case::new(&[b' '; 500]);
-    [case.tokens, case.tree, case.errors].map(|length| vec![0; length])
-}
-
-/// Runs the sides in turn, after a round that is not counted, and prints a line for each.
-fn measure(sides: &mut [Side; 2], rules: &[&str], rounds: usize) {
-    let mut times = [Vec::new(), Vec::new()];
-    for round in 0..=rounds {
-        for (side, times) in sides.iter_mut().zip(&mut times) {
-            let time = side.round(rules);
-            if round > 0 {
-                times.push(time);
+/// Calls each side of each row: some times unmeasured, so that what the allocator keeps is there, and
+/// once for Callgrind.
+pub fn once(only: &str) -> Result<(), String> {
+    let only = only.to_string();
+    let mut topics = Maker {
+        only,
+        checks: false,
+    }
+    .topics()?;
+    for row in topics.iter_mut().flat_map(|topic| &mut topic.rows) {
+        let times = if row.each > 1 { 1 } else { UNMEASURED };
+        for side in row.all() {
+            for _ in 0..times {
+                black_box((side.call)());
             }
+            bench_measured(side);
         }
     }
-    let bytes = rules.iter().map(|rule| rule.len()).sum();
-    for (side, times) in sides.iter().zip(&mut times) {
-        times.sort();
-        let best = figures(times[0], rules.len(), bytes);
-        let median = figures(times[rounds / 2], rules.len(), bytes);
-        println!("{:<24}{best}{median}", side.name);
+    Ok(())
+}
+
+/// The median of each side, in nanoseconds. The sides are called in turn, round by round.
+fn times(row: &mut Row, rounds: usize) -> Vec<f64> {
+    let calls: Vec<usize> = row.all().map(Side::calls).collect();
+    let mut times = vec![Vec::new(); calls.len()];
+    for _ in 0..rounds {
+        for ((side, &calls), times) in row.all().zip(&calls).zip(&mut times) {
+            times.push(side.round(calls).as_nanos() as f64 / calls as f64);
+        }
+    }
+    let median = |times: &mut Vec<f64>| {
+        times.sort_by(f64::total_cmp);
+        times[rounds / 2] / row.each as f64
+    };
+    times.iter_mut().map(median).collect()
+}
+
+/// The instructions of all sides of all rows, in their order.
+fn counts(topics: &mut [Topic], only: &str) -> Result<Vec<u64>, String> {
+    let counts = bench_count::count(only).map_err(|error| format!("valgrind: {error}"))?;
+    let rows = topics.iter_mut().flat_map(|topic| &mut topic.rows);
+    let sides: usize = rows.map(|row| row.all().count()).sum();
+    match counts.len() == sides {
+        true => Ok(counts),
+        false => Err(format!(
+            "valgrind counted {} calls of {sides}",
+            counts.len()
+        )),
     }
 }
 
-/// Nanoseconds a rule, and million bytes a second.
-fn figures(time: Duration, rules: usize, bytes: usize) -> String {
-    let nanoseconds = time.as_nanos() as f64;
-    let a_rule = nanoseconds / rules as f64;
-    let rate = 1000.0 * bytes as f64 / nanoseconds;
-    format!("{a_rule:>8.0} ns{rate:>4.0} MB/s")
+/// The instructions of each side of a row.
+fn counted(row: &mut Row, counts: &mut impl Iterator<Item = u64>) -> Vec<f64> {
+    let each = row.each as f64;
+    let counts = row.all().zip(counts).map(|(_, count)| count as f64 / each);
+    counts.collect()
+}
+
+/// Names of the columns: times of all sides, and how often the proved one goes into the first; the same
+/// without the part that no other side does; instructions of the first and of the proved one; and the
+/// proved one's time for a member.
+fn heading(topic: &Topic, instructions: bool) {
+    let row = &topic.rows[0];
+    let [first, .., proved] = &row.sides[..] else {
+        unreachable!("a row has two sides and more");
+    };
+    let mut cells = vec![String::from("what"), topic.what.to_string()];
+    cells.extend(row.sides.iter().map(|side| format!("`{}`, µs", side.name)));
+    cells.push(String::from("factor"));
+    if row.within.is_some() {
+        cells.push(String::from("without the check, µs"));
+        cells.push(String::from("factor"));
+    }
+    if instructions {
+        cells.push(format!("instructions: `{}`", first.name));
+        cells.push(format!("`{}`", proved.name));
+        cells.push(String::from("factor"));
+    }
+    cells.push(format!("ns a {}", topic.member));
+    println!("| {} |", cells.join(" | "));
+    println!("|{}", "---|".repeat(cells.len()));
+}
+
+fn line(row: &Row, times: &[f64], counts: Option<&[f64]>) {
+    let last = row.sides.len() - 1;
+    let (first, proved) = (times[0], times[last]);
+    let mut cells = vec![row.name.clone(), row.board.clone()];
+    cells.extend(times[..=last].iter().map(|time| micro(*time)));
+    cells.push(factor(first / proved));
+    if let Some(within) = times.get(last + 1) {
+        let without = proved - within;
+        cells.push(micro(without));
+        cells.push(factor(first / without));
+    }
+    if let Some(counts) = counts {
+        cells.push(thousands(counts[0]));
+        cells.push(thousands(counts[last]));
+        cells.push(factor(counts[0] / counts[last]));
+    }
+    cells.push(format!("{:.1}", proved / row.members as f64));
+    println!("| {} |", cells.join(" | "));
+}
+
+/// Nanoseconds as microseconds.
+fn micro(time: f64) -> String {
+    format!("{:.2}", time / 1000.0)
+}
+
+fn factor(factor: f64) -> String {
+    match factor < 1.0 {
+        true => format!("{factor:.2}"),
+        false => format!("{factor:.1}"),
+    }
+}
+
+/// A whole number, with a comma before each three digits.
+fn thousands(number: f64) -> String {
+    let digits = format!("{number:.0}");
+    let groups = digits.as_bytes().rchunks(3).rev();
+    let groups: Vec<_> = groups.map(String::from_utf8_lossy).collect();
+    groups.join(",")
 }

@@ -3,6 +3,9 @@
 #[allow(dead_code)]
 mod assertion;
 mod bench;
+mod bench_boards;
+mod bench_count;
+mod bench_rows;
 mod board;
 #[cfg(test)]
 mod boards;
@@ -82,8 +85,10 @@ oracle: the four Rust files beside the proved code
       so many numbers, and prints what both sides say
   images FOLDER
       writes boards A and B and other example boards to FOLDER
-  bench [--rounds N]
-      measures both sides on the same rules, N times (31)
+  bench [--rounds N] [--only TEXT] [--instructions]
+      measures both sides on the same rules and boards, N times (31), and with
+      --instructions counts their instructions with valgrind; TEXT is a part of
+      the title or name of the rows that are wanted
   tree [FILE]
       reads a rule from FILE or standard input and prints its tree, the number
       of errors and their messages
@@ -101,10 +106,9 @@ oracle: the four Rust files beside the proved code
       of the tables and members, to FOLDER/stdout
   help
 
-compare, one and bench need the proved code: build with --features proved for
-its tokens, with --features parse for its trees and messages too.
-compare-images and one-image need --features board, compare-runs and one-run
---features run.
+compare and one need the proved code: build with --features proved for its
+tokens, with --features parse for its trees and messages too. compare-images and
+one-image need --features board, compare-runs, one-run and bench --features run.
 Exit status: 0 done or agreed; 1 a difference; 2 bad usage or a file's failure.
 ";
 
@@ -114,7 +118,7 @@ fn main() -> ExitCode {
         return usage();
     };
     let done = match (command.as_str(), words) {
-        ("compare" | "one" | "bench", _) if !proved::LINKED => {
+        ("compare" | "one", _) if !proved::LINKED => {
             eprintln!("{command} needs the proved code: build with --features proved");
             return ExitCode::from(2);
         }
@@ -122,7 +126,7 @@ fn main() -> ExitCode {
             eprintln!("{command} needs the proved code: build with --features board");
             return ExitCode::from(2);
         }
-        ("compare-runs" | "one-run", _) if !proved::RUNS => {
+        ("compare-runs" | "one-run" | "bench", _) if !proved::RUNS => {
             eprintln!("{command} needs the proved code: build with --features run");
             return ExitCode::from(2);
         }
@@ -254,15 +258,32 @@ fn one_of_file(file: &str, said: io::Result<Result<String, String>>) -> ExitCode
 }
 
 fn bench(words: &[String]) -> ExitCode {
-    let rounds = match words {
-        [] => Some(31),
-        [name, value] if name == "--rounds" => value.parse().ok(),
-        _ => None,
+    let mut wanted = bench::Wanted {
+        rounds: 31,
+        only: String::new(),
+        instructions: false,
     };
-    let Some(rounds @ 1..) = rounds else {
-        return usage();
-    };
-    ended(bench::bench(rounds))
+    let mut once = false;
+    let mut words = words.iter();
+    while let Some(word) = words.next() {
+        let value = match word.as_str() {
+            "--rounds" | "--only" => words.next(),
+            _ => None,
+        };
+        match (word.as_str(), value) {
+            ("--rounds", Some(rounds)) => wanted.rounds = rounds.parse().unwrap_or(0),
+            ("--only", Some(only)) => wanted.only = only.clone(),
+            ("--instructions", None) => wanted.instructions = true,
+            // What --instructions runs under valgrind.
+            ("--once", None) => once = true,
+            _ => return usage(),
+        }
+    }
+    match once {
+        _ if wanted.rounds == 0 => usage(),
+        true => ended(bench::once(&wanted.only)),
+        false => ended(bench::bench(&wanted)),
+    }
 }
 
 /// Prints a rule's tree rows, the number of its errors and their messages, or its refusal.

@@ -59,6 +59,19 @@ unsafe extern "C" {
 
 #[cfg(feature = "run")]
 unsafe extern "C" {
+    fn spar_read(
+        rule: *const u8,
+        rule_len: usize,
+        tokens: *mut u32,
+        tokens_len: usize,
+        tree: *mut u32,
+        tree_len: usize,
+        errors: *mut u32,
+        errors_len: usize,
+        answer: *mut u32,
+        answer_len: usize,
+    ) -> u32;
+
     fn spar_run(
         rule: *const u8,
         rule_len: usize,
@@ -186,6 +199,28 @@ pub fn run(rule: &mut [u8], image: &mut [u8], lent: Lent) -> u32 {
     }
 }
 
+/// Returns 1 with the answer's eight numbers at the front of the last slice and the tables as read, or 0
+/// with all as found where there is no room for the answer.
+#[cfg(feature = "run")]
+pub fn read(rule: &[u8], lent: [&mut [u32]; 4]) -> u32 {
+    let [tokens, tree, errors, answer] = lent;
+    // SAFETY: each pointer is valid for the length beside it, and nothing lent overlaps.
+    unsafe {
+        spar_read(
+            rule.as_ptr(),
+            rule.len(),
+            tokens.as_mut_ptr(),
+            tokens.len(),
+            tree.as_mut_ptr(),
+            tree.len(),
+            errors.as_mut_ptr(),
+            errors.len(),
+            answer.as_mut_ptr(),
+            answer.len(),
+        )
+    }
+}
+
 #[cfg(not(feature = "proved"))]
 pub fn read_tokens(_: &[u8], _: &mut [u32], _: usize, _: usize, _: &mut u32) -> u32 {
     unreachable!("whoever calls this asks LINKED first")
@@ -208,5 +243,10 @@ pub fn check_image(_: &mut [u8], _: usize) -> u32 {
 
 #[cfg(not(feature = "run"))]
 pub fn run(_: &mut [u8], _: &mut [u8], _: Lent) -> u32 {
+    unreachable!("whoever calls this asks RUNS first")
+}
+
+#[cfg(not(feature = "run"))]
+pub fn read(_: &[u8], _: [&mut [u32]; 4]) -> u32 {
     unreachable!("whoever calls this asks RUNS first")
 }
