@@ -22,11 +22,14 @@ type Rust = Result<Reading, u32>;
 enum Entry {
     ReadTokens,
     ParseExpr,
+    Read,
 }
 
 impl Entry {
     /// Those that this build links.
-    const LINKED: &[Entry] = if proved::PARSES {
+    const LINKED: &[Entry] = if proved::RUNS {
+        &[Entry::ReadTokens, Entry::ParseExpr, Entry::Read]
+    } else if proved::PARSES {
         &[Entry::ReadTokens, Entry::ParseExpr]
     } else {
         &[Entry::ReadTokens]
@@ -36,6 +39,7 @@ impl Entry {
         match self {
             Entry::ReadTokens => "assertion_read_tokens",
             Entry::ParseExpr => "assertion_parse_expr",
+            Entry::Read => "spar_read",
         }
     }
 
@@ -43,7 +47,7 @@ impl Entry {
     fn tables(self) -> usize {
         match self {
             Entry::ReadTokens => 1,
-            Entry::ParseExpr => 3,
+            Entry::ParseExpr | Entry::Read => 3,
         }
     }
 
@@ -56,9 +60,34 @@ impl Entry {
                 proved::read_tokens(rule, tokens, tree, errors, &mut counts[0])
             }
             Entry::ParseExpr => proved::parse_expr(rule, tokens, tree, errors, counts),
+            Entry::Read => read(rule, [tokens, tree, errors], counts),
         }
     }
 }
+
+/// `spar_read`, as the others answer: 0 and the numbers of rows, or a refusal's number. An answer of
+/// seven numbers must be left alone, and one of eight must have a reading's numbers or a refusal's.
+fn read(rule: &[u8], tables: [&mut [u32]; 3], counts: &mut [u32; 3]) -> u32 {
+    let [tokens, tree, errors] = tables;
+    let before = [counts[0]; 9];
+    let mut answer = before;
+    let short = proved::read(rule, [tokens, tree, errors, &mut answer[..7]]);
+    if short != 0 || answer != before {
+        return NO_ANSWER;
+    }
+    let returned = proved::read(rule, [tokens, tree, errors, &mut answer[..8]]);
+    match answer {
+        [6, 0, 0, 3, 1, a, b, c, after] if returned == 1 && after == before[8] => {
+            *counts = [a, b, c];
+            0
+        }
+        [0, refusal, 0, 2, 0, 0, 0, 0, after] if returned == 1 && after == before[8] => refusal,
+        _ => NO_ANSWER,
+    }
+}
+
+/// For an answer that is neither a reading's nor a refusal's.
+const NO_ANSWER: u32 = u32::MAX;
 
 /// The length of a table of which only the length is lent, so that a long one may be vast.
 fn length_alone(table: &[u32]) -> usize {
