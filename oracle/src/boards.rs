@@ -12,6 +12,30 @@ use crate::assertion::parser::parse_expr;
 use crate::model::Model;
 use crate::{board, example_boards};
 
+/// The starred cases of document 01 on board A: a rule, and its outcome as a run says it.
+pub const CASES_OF_A: [(&str, &str); 8] = [
+    ("components.features.all(connected)", "true"),
+    ("components.none(category == 'devce')", "true"),
+    (
+        "components.where(category == 'bus').all(connected)",
+        "warned true",
+    ),
+    ("components.where(has('probe')).count()", "count 1"),
+    ("components.features.any(has('probe'))", "false"),
+    (
+        "components.features.where(not kind == 'Data-Port').count()",
+        "count 0",
+    ),
+    ("components.all(connected) == 1", "refused 15"),
+    ("components = 3", "refused 9"),
+];
+
+/// And on board B.
+pub const CASES_OF_B: [(&str, &str); 2] = [
+    ("components.any(connected)", "false"),
+    ("components.none(connected)", "warned true"),
+];
+
 fn board_a() -> Model {
     let system = ComponentInstance {
         category: ComponentCategory::System,

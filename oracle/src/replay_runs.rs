@@ -712,6 +712,7 @@ fn drawn(list: &mut List) {
 #[cfg(test)]
 mod tests {
     use super::*;
+    use crate::boards::{CASES_OF_A, CASES_OF_B};
     use crate::run::{Outcome, Ran, Verdict, run};
 
     /// The longest texts that the program and the gate are to read.
@@ -768,27 +769,10 @@ mod tests {
     fn document_01_stands() {
         let list = list();
         let (a, b) = (board_a().image(), board_b().image());
-        for (image, rule, expected) in [
-            (&a, "components.features.all(connected)", "true"),
-            (&a, "components.none(category == 'devce')", "true"),
-            (
-                &a,
-                "components.where(category == 'bus').all(connected)",
-                "warned true",
-            ),
-            (&a, "components.where(has('probe')).count()", "count 1"),
-            (&a, "components.features.any(has('probe'))", "false"),
-            (
-                &a,
-                "components.features.where(not kind == 'Data-Port').count()",
-                "count 0",
-            ),
-            (&a, "components.all(connected) == 1", "refused 15"),
-            (&b, "components.any(connected)", "false"),
-            (&b, "components.none(connected)", "warned true"),
-            (&a, "components = 3", "refused 9"),
-        ] {
-            assert_eq!(said(&list, image, rule), expected, "{rule}");
+        for (image, cases) in [(&a, &CASES_OF_A[..]), (&b, &CASES_OF_B)] {
+            for &(rule, expected) in cases {
+                assert_eq!(said(&list, image, rule), expected, "{rule}");
+            }
         }
     }
 

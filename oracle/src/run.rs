@@ -317,6 +317,7 @@ pub fn run(board: &RunBoard, case: &RunCase) -> Ran {
 mod tests {
     use super::*;
     use crate::board::{board_a, board_b};
+    use crate::boards::{CASES_OF_A, CASES_OF_B};
     use crate::example_boards::{refused_5, refused_6, refused_7, rover};
 
     fn ran(board: &RunBoard, rule: &str) -> Ran {
@@ -331,27 +332,10 @@ mod tests {
     fn document_01() {
         let a = RunBoard::new(board_a().image());
         let b = RunBoard::new(board_b().image());
-        for (board, rule, expected) in [
-            (&a, "components.features.all(connected)", "true"),
-            (&a, "components.none(category == 'devce')", "true"),
-            (
-                &a,
-                "components.where(category == 'bus').all(connected)",
-                "warned true",
-            ),
-            (&a, "components.where(has('probe')).count()", "count 1"),
-            (&a, "components.features.any(has('probe'))", "false"),
-            (
-                &a,
-                "components.features.where(not kind == 'Data-Port').count()",
-                "count 0",
-            ),
-            (&a, "components.all(connected) == 1", "refused 15"),
-            (&b, "components.any(connected)", "false"),
-            (&b, "components.none(connected)", "warned true"),
-            (&a, "components = 3", "refused 9"),
-        ] {
-            assert_eq!(outcome(board, rule), expected, "{rule}");
+        for (board, cases) in [(&a, &CASES_OF_A[..]), (&b, &CASES_OF_B)] {
+            for &(rule, expected) in cases {
+                assert_eq!(outcome(board, rule), expected, "{rule}");
+            }
         }
     }
 
