@@ -97,6 +97,7 @@ pub fn bench(wanted: &Wanted) -> Result<(), String> {
     let mut counts = counts.map(Vec::into_iter);
     let rounds = wanted.rounds;
     println!("{rounds} rounds, median; times and instructions for one rule or image");
+    let mut summary = Summary::default();
     for topic in &mut topics {
         println!("\n## {}\n", topic.title);
         heading(topic, counts.is_some());
@@ -104,9 +105,52 @@ pub fn bench(wanted: &Wanted) -> Result<(), String> {
             let times = times(row, rounds);
             let counted = counts.as_mut().map(|counts| counted(row, counts));
             line(row, &times, counted.as_deref());
+            summary.add("time", row, &times);
+            if let Some(counted) = &counted {
+                summary.add("instructions", row, counted);
+            }
         }
     }
+    summary.print();
     Ok(())
+}
+
+/// How many rows have which factors, for each other side and each sort of figure.
+#[derive(Default)]
+struct Summary {
+    /// A side and a sort of figure, and rows ten times faster and more, twice and more, up to twice, slower.
+    lines: Vec<(String, [usize; 4])>,
+}
+
+impl Summary {
+    fn add(&mut self, figure: &str, row: &Row, figures: &[f64]) {
+        let last = row.sides.len() - 1;
+        for (side, other) in row.sides[..last].iter().zip(figures) {
+            let name = format!("`{}`, by {figure}", side.name);
+            let class = match other / figures[last] {
+                factor if factor >= 10.0 => 0,
+                factor if factor >= 2.0 => 1,
+                factor if factor >= 1.0 => 2,
+                _ => 3,
+            };
+            let known = self.lines.iter().position(|(known, _)| *known == name);
+            let at = known.unwrap_or_else(|| {
+                self.lines.push((name, [0; 4]));
+                self.lines.len() - 1
+            });
+            self.lines[at].1[class] += 1;
+        }
+    }
+
+    fn print(&self) {
+        println!("\n## In short\n");
+        println!("| beside | rows | ten times and more | twice and more | up to twice | slower |");
+        println!("|---|---|---|---|---|---|");
+        for (name, [ten, two, one, slower]) in &self.lines {
+            let rows = ten + two + one + slower;
+            println!("| {name} | {rows} | {ten} | {two} | {one} | {slower} |");
+        }
+    }
 }
 
 /// Calls each side of each row: some times unmeasured, so that what the allocator keeps is there, and
@@ -167,49 +211,58 @@ fn counted(row: &mut Row, counts: &mut impl Iterator<Item = u64>) -> Vec<f64> {
     counts.collect()
 }
 
-/// Names of the columns: times of all sides, and how often the proved one goes into the first; the same
-/// without the part that no other side does; instructions of the first and of the proved one; and the
+/// Names of the columns: times of all sides, and how often the proved one goes into each other; the same
+/// into the one before it without the part that no other side does; instructions likewise; and the
 /// proved one's time for a member.
 fn heading(topic: &Topic, instructions: bool) {
     let row = &topic.rows[0];
-    let [first, .., proved] = &row.sides[..] else {
-        unreachable!("a row has two sides and more");
-    };
     let mut cells = vec![String::from("what"), topic.what.to_string()];
     cells.extend(row.sides.iter().map(|side| format!("`{}`, µs", side.name)));
-    cells.push(String::from("factor"));
-    if row.within.is_some() {
-        cells.push(String::from("without the check, µs"));
-        cells.push(String::from("factor"));
-    }
+    cells.extend(factors(row));
     if instructions {
-        cells.push(format!("instructions: `{}`", first.name));
-        cells.push(format!("`{}`", proved.name));
-        cells.push(String::from("factor"));
+        let named = |side: &Side| format!("instructions: `{}`", side.name);
+        cells.extend(row.sides.iter().map(named));
+        cells.extend(factors(row));
     }
     cells.push(format!("ns a {}", topic.member));
     println!("| {} |", cells.join(" | "));
     println!("|{}", "---|".repeat(cells.len()));
 }
 
+/// Names of the columns with factors: one for each side but the proved one.
+fn factors(row: &Row) -> Vec<String> {
+    let mut names = vec![String::from("factor"); row.sides.len() - 1];
+    if row.within.is_some() {
+        names.push(String::from("without the check"));
+    }
+    names
+}
+
 fn line(row: &Row, times: &[f64], counts: Option<&[f64]>) {
-    let last = row.sides.len() - 1;
-    let (first, proved) = (times[0], times[last]);
     let mut cells = vec![row.name.clone(), row.board.clone()];
-    cells.extend(times[..=last].iter().map(|time| micro(*time)));
-    cells.push(factor(first / proved));
-    if let Some(within) = times.get(last + 1) {
-        let without = proved - within;
-        cells.push(micro(without));
-        cells.push(factor(first / without));
-    }
+    cells.extend(times[..row.sides.len()].iter().map(|time| micro(*time)));
+    cells.extend(compared(row, times));
     if let Some(counts) = counts {
-        cells.push(thousands(counts[0]));
-        cells.push(thousands(counts[last]));
-        cells.push(factor(counts[0] / counts[last]));
+        let of_sides = &counts[..row.sides.len()];
+        cells.extend(of_sides.iter().map(|count| thousands(*count)));
+        cells.extend(compared(row, counts));
     }
+    let proved = times[row.sides.len() - 1];
     cells.push(format!("{:.1}", proved / row.members as f64));
     println!("| {} |", cells.join(" | "));
+}
+
+/// How often the proved side's figure goes into that of each other side, and without the part that no
+/// other side does into that of the side before it.
+fn compared(row: &Row, figures: &[f64]) -> Vec<String> {
+    let last = row.sides.len() - 1;
+    let proved = figures[last];
+    let others = figures[..last].iter();
+    let mut cells: Vec<_> = others.map(|other| factor(other / proved)).collect();
+    if let Some(within) = figures.get(last + 1) {
+        cells.push(factor(figures[last - 1] / (proved - within)));
+    }
+    cells
 }
 
 /// Nanoseconds as microseconds.

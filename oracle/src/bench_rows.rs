@@ -134,14 +134,13 @@ impl Maker {
             self.readings("Reading a rule", reading_sides)?,
             self.readings("Tokens alone", token_sides)?,
             self.images(IMAGES, [&components[..], &diagnostics].concat()),
-            self.bytes_of_images(&components, &diagnostics)?,
-            self.runs("Whole rules", whole_rules(), &components, run_sides)?,
+            self.runs("Whole rules", whole_rules(), &components)?,
         ];
         for (title, rules) in ON_COMPONENTS {
-            topics.push(self.runs(title, written(rules), &components, run_sides)?);
+            topics.push(self.runs(title, written(rules), &components)?);
         }
         for (title, rules) in ON_DIAGNOSTICS {
-            topics.push(self.runs(title, written(rules), &diagnostics, run_sides)?);
+            topics.push(self.runs(title, written(rules), &diagnostics)?);
         }
         topics.retain(|topic| !topic.rows.is_empty());
         Ok(topics)
@@ -181,20 +180,6 @@ impl Maker {
         })
     }
 
-    /// A rule on boards of either sort where both sides begin with the bytes of an image.
-    fn bytes_of_images(
-        &self,
-        components: &[Rc<BenchBoard>],
-        diagnostics: &[Rc<BenchBoard>],
-    ) -> Result<Topic, String> {
-        let title = "From the bytes of an image";
-        let mut topic = self.runs(title, written(&[TYPICAL]), components, byte_sides)?;
-        let rules = written(&[NO_ERROR]);
-        let other = self.runs(title, rules, diagnostics, byte_sides)?;
-        topic.rows.extend(other.rows);
-        Ok(topic)
-    }
-
     /// The check of an image, which the Rust does not have: the oracle's own is measured instead, and
     /// the way from an image to a model.
     fn images(&self, title: &'static str, boards: Vec<Rc<BenchBoard>>) -> Topic {
@@ -214,12 +199,11 @@ impl Maker {
         title: &'static str,
         rules: Vec<(String, String)>,
         boards: &[Rc<BenchBoard>],
-        sides: RunningSides,
     ) -> Result<Topic, String> {
         let mut rows = Vec::new();
         for (name, rule) in rules.iter().filter(|(name, _)| self.wants(title, name)) {
             for board in boards {
-                rows.push(self.run(name, rule, board, sides)?);
+                rows.push(self.run(name, rule, board)?);
             }
         }
         Ok(Topic {
@@ -230,13 +214,7 @@ impl Maker {
         })
     }
 
-    fn run(
-        &self,
-        name: &str,
-        rule: &str,
-        board: &Rc<BenchBoard>,
-        sides: RunningSides,
-    ) -> Result<Row, String> {
+    fn run(&self, name: &str, rule: &str, board: &Rc<BenchBoard>) -> Result<Row, String> {
         let run_board = RunBoard::new(board.image.clone());
         let case = RunCase::new(rule.as_bytes(), &run_board);
         if self.checks {
@@ -256,7 +234,7 @@ impl Maker {
             board: board.name.to_string(),
             each: 1,
             members: board.size,
-            sides: sides(rule, &case, board),
+            sides: run_sides(rule, &case, board),
             within: Some(Side::new("assertion_check_image", check)),
         })
     }
@@ -313,9 +291,8 @@ fn drawn(lengths: RangeInclusive<usize>, count: usize) -> Vec<String> {
     rules
 }
 
-/// Both ways to read a set of rules, and all ways to run a rule on a board.
+/// Both ways to read a set of rules.
 type ReadingSides = fn(Rc<[String]>) -> Vec<Side>;
-type RunningSides = fn(&str, &RunCase, &Rc<BenchBoard>) -> Vec<Side>;
 
 /// Whole readings: tokens, tree and errors.
 fn reading_sides(rules: Rc<[String]>) -> Vec<Side> {
@@ -382,30 +359,18 @@ fn image_row(board: &Rc<BenchBoard>) -> Row {
     }
 }
 
-/// A rule on a board: read and evaluated by the Rust, only evaluated by it, and run by the proved code.
+/// A rule on a board: by the Rust from the bytes of the image on, by the Rust on a model that was made
+/// before, and by the proved code.
 fn run_sides(rule: &str, case: &RunCase, board: &Rc<BenchBoard>) -> Vec<Side> {
-    let [whole, alone] = [board.clone(), board.clone()];
-    let text = rule.to_string();
-    let root = parser::parse_expr(rule).syntax_node();
-    vec![
-        Side::new("parse and eval", move || {
-            parse_and_eval(&text, &whole.model.context())
-        }),
-        Side::new("eval alone", move || {
-            amount(black_box(eval_node(&root, &alone.model.context())))
-        }),
-        spar_run(case, board),
-    ]
-}
-
-/// The same where the Rust too begins with the bytes of an image.
-fn byte_sides(rule: &str, case: &RunCase, board: &Rc<BenchBoard>) -> Vec<Side> {
-    let same = board.clone();
-    let rule = rule.to_string();
+    let [bytes, made] = [board.clone(), board.clone()];
+    let [text, same] = [rule.to_string(), rule.to_string()];
     vec![
         Side::new("of_image, parse and eval", move || {
-            let model = Model::of_image(&same.image).expect("the image is not refused");
-            parse_and_eval(&rule, &model.context())
+            let model = Model::of_image(&bytes.image).expect("the image is not refused");
+            parse_and_eval(&text, &model.context())
+        }),
+        Side::new("parse and eval", move || {
+            parse_and_eval(&same, &made.model.context())
         }),
         spar_run(case, board),
     ]
