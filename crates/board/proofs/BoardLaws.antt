@@ -4,13 +4,15 @@ use mathlib.Core.Bool.{Bool, true, false, cond, not, _&&_, _||_, false≢true}
 use mathlib.Core.List.{List}
 use Prim.Native.Nat.{ℕ, zero, suc, _+_, _-_, _*_, _/_, _%_, _≤_, _<_}
 use native.Mathlib.Decide.{decLt}
+use native.Mathlib.Nat.{mul-suc, mul-le-mul-left}
 use native.Mathlib.Omega.{arith}
 use lib.Dec.{eqb, ltb, leb}
 use lib.ListN.{length, take, drop, length-drop}
 use lib.Seq.{take-take, drop-drop, take-add, drop-at, length-take-le}
 use borrow.Author.Tests.{eq-eqb, eqb-true, leb-true, ltb-true, ltb-false, le-leb}
-use Rattle.syntax.specs.Utf8.{utf8}
+use Rattle.syntax.specs.Utf8.{utf8, isAscii}
 use Rattle.syntax.proofs.BoolLaws.{both}
+use Rattle.syntax.proofs.Utf8Laws.{ascii-utf8, ascii-take, ascii-drop}
 use Rattle.syntax.specs.declared.refusal.Check.{Check}
 use Rattle.syntax.specs.declared.refusal.Refusal.{Refusal}
 use Rattle.syntax.specs.declared.refusal.Refusal.the-variants.{ImageBadSections, ImageBadStrings, ImageBadRecords, CollectionTooShort}
@@ -18,7 +20,7 @@ use Rattle.board.specs.declared.image.Section.{Section}
 use Rattle.board.specs.declared.image.Section.the-variants.{Letters, Strings, Components, Features, Connections, Properties, Diagnostics}
 use Rattle.board.specs.Image.{NUMBER-SIZE, littleEndian, word, SECTIONS, sectionNumber, pairOffset, pairLength, sectionOffset, sectionLength, recordSize, recordCount, field, text, textOffset, stringCount, stringOffset, stringLength, componentCount, category, parent, firstFeature, featuresOf, wired, featureCount, featureName, featureKind, direction, connectionCount, owner, source, target, propertyCount, propertyComponent, propertySet, propertyName, diagnosticCount, analysis, severity, message}
 use Rattle.board.specs.Check.{laid, each, PAIRS-SIZE, MAX-IMAGE, CATEGORIES, WIRED-MARKS, FEATURE-KINDS, DIRECTIONS, SEVERITIES, COLLECTION-ROW, wholeRecords, allWholeRecords, sectionsLaid, sectionsFit, stringsLaid, stringsUtf8, stringsFit, componentFits, featuresLaid, componentsFit, featureFits, featuresFit, connectionFits, connectionsFit, propertyFits, propertiesFit, diagnosticFits, diagnosticsFit, recordsFit, collectionShort, checkImage}
-use Rattle.board.specs.WellFormed.{total, EndToEnd, WellFormed, Room}
+use Rattle.board.specs.WellFormed.{total, EndToEnd, letters, WellFormed, Room}
 
 -- all of three tests
 three : (p q r : Bool) → (p && (q && r)) ≡ true → (p ≡ true) × (q ≡ true) × (r ≡ true)
@@ -48,6 +50,12 @@ each-at passes n (suc m) h k a b =
 
 passes-at : (passes : ℕ → Bool) (count : ℕ) → each passes 0 count ≡ true → (n : ℕ) → n < count → passes n ≡ true
 passes-at passes count h n l = each-at passes 0 count h n (omega arith) (omega arith)
+
+-- and what each one passes, all of them pass
+each-all : (passes : ℕ → Bool) (n m : ℕ) → ((k : ℕ) → n ≤ k → k < n + m → passes k ≡ true) → each passes n m ≡ true
+unfolding each
+each-all passes n zero h = refl
+each-all passes n (suc m) h = rw (h n (omega arith) (omega arith)) (each-all passes (suc n) m (λ k a b. h k (omega arith) (omega arith)))
 
 -- m pairs from n on, end to end from `at`
 record Onward (offset long : ℕ → ℕ) (n m at end : ℕ) : Type 0 where
@@ -207,18 +215,30 @@ section-records image h Properties = omega (arith, eqb-true (sectionLength image
 section-records image h Diagnostics = omega (arith, eqb-true (sectionLength image Diagnostics % 12) 0 (h Diagnostics))
 
 record-within : (image : List ℕ) (s : Section) (n : ℕ) → recordSize s * recordCount image s ≡ sectionLength image s → sectionOffset image s + sectionLength image s ≤ length image → n < recordCount image s → sectionOffset image s + recordSize s * n + recordSize s ≤ length image
-record-within image Letters n e w l = omega arith
-record-within image Strings n e w l = omega arith
-record-within image Components n e w l = omega arith
-record-within image Features n e w l = omega arith
-record-within image Connections n e w l = omega arith
-record-within image Properties n e w l = omega arith
-record-within image Diagnostics n e w l = omega arith
+record-within image s n e w l = omega (arith, mul-suc (recordSize s) n, mul-le-mul-left (recordSize s) l)
+
+-- each section lies in the image, and its records fill it
+module _ (image : List ℕ) (h : sectionsFit image ≡ true) (s : Section) where
+  pub section-within : sectionOffset image s + sectionLength image s ≤ length image
+  section-within = sections-of image h .sections .within (sectionNumber s) (section-number s)
+
+  pub section-filled : recordSize s * recordCount image s ≡ sectionLength image s
+  section-filled = section-records image (sections-of image h .whole) s
+
+  pub record-in : (n : ℕ) → n < recordCount image s → sectionOffset image s + recordSize s * n + recordSize s ≤ length image
+  record-in n l = record-within image s n section-filled section-within l
+
+pub few-strings : (image : List ℕ) → sectionsFit image ≡ true → stringCount image ≤ MAX-IMAGE
+few-strings image h = omega (arith, sections-of image h .most, section-within image h Strings, section-filled image h Strings)
 
 -- refusal 6 does not come
-strings-of : (image : List ℕ) → stringsFit image ≡ true → EndToEnd (stringOffset image) (stringLength image) (stringCount image) 0 (sectionLength image Letters)
-unfolding stringsFit stringsLaid
-strings-of image h = laid-end-to-end (stringOffset image) (stringLength image) (stringCount image) 0 (sectionLength image Letters) (both (stringsLaid image) (stringsUtf8 image) h .0)
+strings-end-to-end : (image : List ℕ) → stringsLaid image ≡ true → EndToEnd (stringOffset image) (stringLength image) (stringCount image) 0 (sectionLength image Letters)
+unfolding stringsLaid
+strings-end-to-end image = laid-end-to-end (stringOffset image) (stringLength image) (stringCount image) 0 (sectionLength image Letters)
+
+strings-laid : (image : List ℕ) → stringsFit image ≡ true → stringsLaid image ≡ true
+unfolding stringsFit
+strings-laid image h = both (stringsLaid image) (stringsUtf8 image) h .0
 
 texts-of : (image : List ℕ) → stringsFit image ≡ true → (n : ℕ) → n < stringCount image → utf8 (text image n) ≡ true
 unfolding stringsFit stringsUtf8
@@ -232,6 +252,26 @@ module _ (image : List ℕ) (n : ℕ) (h : textOffset image n + stringLength ima
 
   text-length : length (text image n) ≡ stringLength image n
   text-length = ap length text-part ∙ length-take-le (stringLength image n) (drop (textOffset image n) image) (omega (arith, length-drop (textOffset image n) image))
+
+-- strings that are laid lie in the letters
+module _ (image : List ℕ) (h : sectionsFit image ≡ true) (l : stringsLaid image ≡ true) (n : ℕ) (m : n < stringCount image) where
+  pub text-within : textOffset image n + stringLength image n ≤ length image
+  text-within = omega (arith, strings-end-to-end image l .within n m, section-within image h Letters)
+
+  text-of-letters : text image n ≡ take (stringLength image n) (drop (stringOffset image n) (letters image))
+  text-of-letters =
+      text-part image n text-within
+      ∙ sym (part-of-part image (sectionOffset image Letters) (sectionLength image Letters) (stringOffset image n) (stringLength image n) (strings-end-to-end image l .within n m) (omega (arith, text-within)))
+
+-- and are UTF-8 where the letters are ASCII alone
+pub ascii-strings : (image : List ℕ) → sectionsFit image ≡ true → stringsLaid image ≡ true → isAscii (letters image) ≡ true → stringsUtf8 image ≡ true
+unfolding stringsUtf8
+ascii-strings image h l a = each-all (λ n. utf8 (text image n)) 0 (stringCount image) (λ n _ m. at n (omega arith))
+  where
+    at : (n : ℕ) → n < stringCount image → utf8 (text image n) ≡ true
+    at n m =
+        ap utf8 (text-of-letters image h l n m)
+        ∙ ascii-utf8 (take (stringLength image n) (drop (stringOffset image n) (letters image))) (ascii-take (stringLength image n) (drop (stringOffset image n) (letters image)) (ascii-drop (stringOffset image n) (letters image) a))
 
 -- refusal 7 does not come
 record Records (image : List ℕ) : Type 0 where
@@ -270,12 +310,12 @@ well-formed image h5 h6 h7 =
       least = s .least;
       most = s .most;
       sections = s .sections;
-      sectionWithin = within;
-      sectionRecords = section-records image (s .whole);
-      recordWithin = λ k n l. record-within image k n (section-records image (s .whole) k) (within k) l;
-      strings = t;
-      texts = λ n l. text-part image n (inside n l) ∙ sym (part-of-part image (sectionOffset image Letters) (sectionLength image Letters) (stringOffset image n) (stringLength image n) (t .within n l) (omega (arith, inside n l)));
-      textLengths = λ n l. text-length image n (inside n l);
+      sectionWithin = section-within image h5;
+      sectionRecords = section-filled image h5;
+      recordWithin = record-in image h5;
+      strings = strings-end-to-end image t;
+      texts = text-of-letters image h5 t;
+      textLengths = λ n l. text-length image n (text-within image h5 t n l);
       textsUtf8 = texts-of image h6;
       features = r .features;
       categories = λ n l. component n l .0;
@@ -298,17 +338,11 @@ well-formed image h5 h6 h7 =
     s : Sections image
     s = sections-of image h5
 
-    t : EndToEnd (stringOffset image) (stringLength image) (stringCount image) 0 (sectionLength image Letters)
-    t = strings-of image h6
+    t : stringsLaid image ≡ true
+    t = strings-laid image h6
 
     r : Records image
     r = records-of image h7
-
-    within : (section : Section) → sectionOffset image section + sectionLength image section ≤ length image
-    within section = s .sections .within (sectionNumber section) (section-number section)
-
-    inside : (n : ℕ) → n < stringCount image → textOffset image n + stringLength image n ≤ length image
-    inside n l = omega (arith, t .within n l, within Letters)
 
     component : (n : ℕ) → n < componentCount image → (category image n < CATEGORIES) × (parent image n < componentCount image + 1) × (wired image n < WIRED-MARKS)
     component n l = limits (category image n) CATEGORIES (parent image n) (componentCount image + 1) (wired image n) WIRED-MARKS (r .component n l)

@@ -7,14 +7,14 @@ use Prim.Native.Nat.{ℕ, suc, _+_, _-_, _≤_, _<_}
 use native.Mathlib.Nat.{sub-zero}
 use native.Mathlib.Numerals.{add-one}
 use native.Mathlib.Omega.{arith}
-use lib.Dec.{eqb, ltb}
+use lib.Dec.{eqb}
 use lib.ListN.{length, take, drop}
-use borrow.Author.Tests.{eq-eqb, ne-eqb, lt-ltb, le-ltb, le-leb, lt-leb}
+use borrow.Author.Tests.{eq-eqb, ne-eqb, le-leb, lt-leb}
 use Rattle.board.specs.declared.image.Section.{Section}
 use Rattle.board.specs.declared.image.Section.the-variants.{Letters}
-use Rattle.board.specs.Image.{sectionOffset, stringOffset, stringLength, field, text}
+use Rattle.board.specs.Image.{sectionOffset, stringOffset, stringLength, text}
 use Rattle.board.specs.Check.{laid, each}
-use Rattle.board.specs.CheckScan.{below, allBelow}
+use Rattle.board.specs.CheckScan.{allBelow}
 
 -- of `count`, n are passed: one more is left than after the next, or none
 one-more : (n count : ℕ) → n < count → count - n ≡ suc (count - (n + 1))
@@ -92,18 +92,6 @@ both-done {r} {p} e f = e ∙ at-true p ∙ ap (λ (t : Bool). p && t) f
     at-true : (t : Bool) → t ≡ (t && true)
     at-true true = refl
     at-true false = refl
-
--- three numbers of a record, each below its limit
-module _ (image : List ℕ) (section : Section) (a b c n : ℕ) where
-  pub below-first : {x : ℕ} → x ≡ field image section n 0 → a ≤ x → below image section a b c n ≡ false
-  below-first {x} e h = rw (← e, le-ltb x a h)
-
-  pub below-second : {x y : ℕ} → x ≡ field image section n 0 → x < a → y ≡ field image section n 1 → b ≤ y → below image section a b c n ≡ false
-  below-second {x} {y} e h f g = rw (← e, lt-ltb x a h, ← f, le-ltb y b g)
-
-  pub below-third : {x y z : ℕ} → x ≡ field image section n 0 → x < a → y ≡ field image section n 1 → y < b → z ≡ field image section n 2
-      → below image section a b c n ≡ ltb z c
-  below-third {x} {y} {z} e h f g k = rw (← e, lt-ltb x a h, ← f, lt-ltb y b g, ← k)
 
 -- the same tests at equal limits
 pub limits-same : (image : List ℕ) (section : Section) {a a′ b b′ c c′ : ℕ} → a ≡ a′ → b ≡ b′ → c ≡ c′

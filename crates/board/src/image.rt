@@ -1,8 +1,9 @@
 // The board image, read: the places of its sections, the numbers of their records, and the strings. Any bytes are read, and what is
 // not there is 0 or empty.
 ghost use mathlib.Core.Path.{_≡_};
-ghost use Prim.Native.Nat.{_<_, _≤_};
-ghost use Rattle.board.specs.Image.{word, sectionNumber, recordSize, LARGEST-RECORD, SECTIONS, sectionOffset, sectionLength, recordCount, field, text};
+ghost use Prim.Native.Nat.{_+_, _*_, _<_, _≤_};
+ghost use lib.ListN.{length};
+ghost use Rattle.board.specs.Image.{NUMBER-SIZE, word, sectionNumber, recordSize, LARGEST-RECORD, SECTIONS, sectionOffset, sectionLength, recordCount, field, text};
 
 // The sections, in the order in which the image has them.
 pub enum Section {
@@ -120,6 +121,22 @@ pub fn word(image: &[u8], at: usize) -> u32
     if image.len() - NUMBER_SIZE < at {
         return 0;
     }
+    word_at(image, at)
+}
+
+// A number of the record that begins at a place, of a record that the image holds.
+pub(crate) fn number_at(image: &[u8], at: usize, number: u32) -> u32
+    requires { ⌜ at + NUMBER-SIZE * number + NUMBER-SIZE ≤ length (now image) ⌝ }
+    ensures { λ r. ⌜ r ≡ word (now (image .entry)) (at + NUMBER-SIZE * number) ⌝ }
+{
+    word_at(image, at + NUMBER_SIZE * (number as usize))
+}
+
+// The little-endian u32 at a place where the image holds all of it.
+fn word_at(image: &[u8], at: usize) -> u32
+    requires { ⌜ at + NUMBER-SIZE ≤ length (now image) ⌝ }
+    ensures { λ r. ⌜ r ≡ word (now (image .entry)) at ⌝ }
+{
     wide(image[at])
         + 0x100 * wide(image[at + 1])
         + 0x10000 * wide(image[at + 2])

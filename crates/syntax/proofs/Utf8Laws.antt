@@ -3,14 +3,15 @@
 use mathlib.Core.Path.{_≡_, refl, sym, ap, ap₂, _∙_, subst}
 use mathlib.Core.Bool.{Bool, true, false, cond, _&&_, and-false}
 use mathlib.Core.List.{List, [], _∷_, _++_}
-use Prim.Native.Nat.{ℕ, zero, suc, _-_, _≤_, _<_}
+use Prim.Native.Nat.{ℕ, zero, suc, _+_, _-_, _≤_, _<_, max}
 use native.Mathlib.Omega.{arith}
-use borrow.Author.Tests.{eq-eqb, ne-eqb, lt-leb, le-leb}
-use lib.Dec.{T, eqb, leb, leb→le, eqb→eq}
-use lib.ListN.{length}
-use Rattle.syntax.specs.Utf8.{Range, to, within, After, ill, needs, after, wellFrom, utf8}
+use borrow.Author.Tests.{eq-eqb, ne-eqb, lt-leb, le-leb, lt-ltb, le-ltb, ltb-true, ltb-false}
+use lib.Dec.{T, eqb, leb, ltb, leb→le, eqb→eq}
+use lib.ListN.{length, take, drop, getD, drop-of-length-le}
+use Rattle.syntax.specs.Utf8.{Range, to, within, After, ill, needs, after, wellFrom, utf8, isAscii}
 use Rattle.syntax.specs.Utf8Scan.{ILL, trails, pending, leadCount, leadLow, leadHigh, Steps}
-use Rattle.syntax.proofs.BoolLaws.{whether, and-left, and-right}
+use Rattle.syntax.proofs.BoolLaws.{whether, and-left, and-right, both}
+use Rattle.syntax.proofs.TextLaws.{from}
 use Rattle.syntax.proofs.EveryByte.{at-each, below}
 
 -- well-formedness, byte by byte
@@ -84,15 +85,30 @@ lead-small : (b : ℕ) → b < 256 → leadCount b ≤ ILL
 unfolding leadCount
 lead-small b h = leb→le (leadCount b) ILL (at-each (λ b. leb (leadCount b) ILL) 256 tt b h)
 
--- the four ways of one byte more: a first byte, one below its range, one above, one within
-pub lead-steps : {n low high b : ℕ} → n ≡ 0 → b < 256 → Steps n low high b (leadCount b) (leadLow b) (leadHigh b)
+-- a first byte
+pub lead-steps : {b : ℕ} → b < 256 → Steps 0 0 0 b (leadCount b) (leadLow b) (leadHigh b)
 unfolding pending leadAfter
-lead-steps {n} {low} {high} {b} e h =
-    rw e record {
+lead-steps {b} h =
+    record {
       small = lead-small b h;
       bad = λ q s. well-ill b s (lead b h ∙ rw (eq-eqb (leadCount b) ILL q));
       good = λ q s. well-needs b s (pending (leadCount b) (leadLow b) (leadHigh b)) (lead b h ∙ rw (ne-eqb (leadCount b) ILL q));
     }
+
+-- an ASCII byte asks for nothing
+after-ascii : (b : ℕ) → b < 0x80 → after b ≡ needs []
+unfolding leadAfter leadCount pending
+after-ascii b h = lead b (omega arith) ∙ rw (lt-ltb b 0x80 h)
+
+pub ascii-steps : {b : ℕ} → b < 0x80 → Steps 0 0 0 b 0 0 0
+unfolding pending
+ascii-steps {b} h =
+    record { small = omega arith; bad = λ q s. absurd (omega arith); good = λ q s. well-needs b s [] (after-ascii b h) }
+
+-- the four ways of one byte more: a first byte, one below its range, one above, one within
+pub first-steps : {n low high b n′ low′ high′ : ℕ} → n ≡ 0 → Steps 0 0 0 b n′ low′ high′ → Steps n low high b n′ low′ high′
+unfolding pending
+first-steps e h = rw e record { small = h .small; bad = h .bad; good = h .good }
 
 out-steps : (n low high b : ℕ) → (n ≡ 0 → ⊥) → within (to low high) b ≡ false → Steps n low high b ILL 0 0
 unfolding pending
@@ -151,3 +167,54 @@ append-from (x ∷ a) b [] h = go (after x) refl (λ rs. append-from a b rs)
 pub utf8-append : (a b : List ℕ) → T (utf8 a) → utf8 (a ++ b) ≡ utf8 b
 unfolding utf8
 utf8-append a b h = append-from a b [] h
+
+-- a text that is ASCII alone is UTF-8, and so is each part of it
+pub ascii-utf8 : (s : List ℕ) → isAscii s ≡ true → utf8 s ≡ true
+unfolding isAscii utf8 wellFrom
+ascii-utf8 [] h = refl
+ascii-utf8 (b ∷ s) h =
+    let parts = both (ltb b 0x80) (isAscii s) h in
+    well-needs b s [] (after-ascii b (ltb-true b 0x80 (parts .0))) ∙ ascii-utf8 s (parts .1)
+
+pub ascii-take : (n : ℕ) (s : List ℕ) → isAscii s ≡ true → isAscii (take n s) ≡ true
+unfolding isAscii
+ascii-take zero s h = refl
+ascii-take (suc n) [] h = refl
+ascii-take (suc n) (b ∷ s) h =
+    let parts = both (ltb b 0x80) (isAscii s) h in
+    rw (parts .0) (ascii-take n s (parts .1))
+
+pub ascii-drop : (n : ℕ) (s : List ℕ) → isAscii s ≡ true → isAscii (drop n s) ≡ true
+unfolding isAscii
+ascii-drop zero s h = h
+ascii-drop (suc n) [] h = refl
+ascii-drop (suc n) (b ∷ s) h = ascii-drop n s (both (ltb b 0x80) (isAscii s) h .1)
+
+-- the highest of the bytes before i is known: with the rest it says whether the text is ASCII alone
+pub record Highest (s : List ℕ) (highest i : ℕ) : Type 0 where
+  pub within : i ≤ length s
+  pub rest : (ltb highest 0x80 && isAscii (drop i s)) ≡ isAscii s
+
+pub highest-start : {s : List ℕ} → Highest s 0 0
+highest-start = record { within = omega arith; rest = refl }
+
+below-both : (a b c : ℕ) (t : Bool) → (ltb (max a b) c && t) ≡ (ltb a c && (ltb b c && t))
+below-both a b c t =
+    whether (ltb a c)
+    (λ p. whether (ltb b c)
+    (λ q. rw (p, q, lt-ltb (max a b) c (omega (arith, ltb-true a c p, ltb-true b c q))))
+    (λ q. rw (p, q, le-ltb (max a b) c (omega (arith, ltb-false b c q)))))
+    (λ p. rw (p, le-ltb (max a b) c (omega (arith, ltb-false a c p))))
+
+module _ {s : List ℕ} {highest i : ℕ} (before : Highest s highest i) where
+  pub highest-goes : {x : ℕ} → i < length s → x ≡ max highest (getD s i 0) → Highest s x (i + 1)
+  unfolding isAscii
+  highest-goes {x} h e = record { within = omega arith; rest = rw e (below-both highest (getD s i 0) 0x80 (isAscii (drop (i + 1) s)) ∙ (rw (from s i h) at (before .rest))) }
+
+  pub highest-ends : length s ≤ i → ltb highest 0x80 ≡ isAscii s
+  unfolding isAscii
+  highest-ends h = and-true (ltb highest 0x80) ∙ (rw (drop-of-length-le s h) at (before .rest))
+    where
+      and-true : (t : Bool) → t ≡ (t && true)
+      and-true true = refl
+      and-true false = refl

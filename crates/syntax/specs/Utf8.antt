@@ -2,7 +2,7 @@
 use Prim.Native.Nat.{ℕ}
 use mathlib.Core.Bool.{Bool, true, false, _&&_}
 use mathlib.Core.List.{List, [], _∷_}
-use lib.Dec.{leb}
+use lib.Dec.{leb, ltb}
 
 -- bytes from a lowest to a highest, both included
 pub record Range : Type 0 where
@@ -67,6 +67,11 @@ wellFrom (b ∷ s) (r ∷ rs) = elim (within r b) [ true ↦ wellFrom s rs | fal
 unfoldable pub utf8 : List ℕ → Bool
 unfolding wellFrom
 utf8 s = wellFrom s []
+
+-- whether a text is ASCII alone: no byte above 0x7F
+unfoldable pub isAscii : List ℕ → Bool
+isAscii [] = true
+isAscii (b ∷ s) = ltb b 0x80 && isAscii s
 
 -- whether s is one byte in each of the ranges rs, and nothing more
 unfoldable pub inRanges : List ℕ → List Range → Bool

@@ -1,7 +1,8 @@
-// UTF-8: whether bytes are a well-formed text, in one pass, with nothing kept but what the next byte must be.
+// UTF-8: whether bytes are a well-formed text. Most texts are ASCII alone, which one quick pass tells; any other is read byte by byte, with
+// nothing kept but what the next byte must be.
 ghost use mathlib.Core.Path.{_≡_};
-ghost use Prim.Native.Nat.{_<_};
-ghost use Rattle.syntax.specs.Utf8.{utf8};
+ghost use Prim.Native.Nat.{_<_, max};
+ghost use Rattle.syntax.specs.Utf8.{utf8, isAscii};
 ghost use Rattle.syntax.specs.Utf8Scan.{ILL, Steps, leadCount, leadLow, leadHigh};
 
 // A count that says: no byte can mend what was read.
@@ -16,6 +17,38 @@ struct Pending {
 
 // Whether the bytes are UTF-8.
 pub fn is_utf8(s: &[u8]) -> bool
+    ensures { λ r. ⌜ r ≡ utf8 (now (s .entry)) ⌝ }
+{
+    if is_ascii(s) {
+        return true;
+    }
+    is_well_formed(s)
+}
+
+// Whether the bytes are ASCII alone. The loop goes to the end in any case, so that the compiler takes many bytes at once.
+pub fn is_ascii(s: &[u8]) -> bool
+    ensures { λ r. ⌜ r ≡ isAscii (now (s .entry)) ⌝ }
+{
+    let mut highest = 0;
+    let mut i = 0;
+    while i < s.len() {
+        highest = larger(highest, s[i]);
+        i += 1;
+    }
+    highest < 0x80
+}
+
+fn larger(a: u8, b: u8) -> u8
+    ensures { λ r. ⌜ r ≡ max a b ⌝ }
+{
+    if a < b {
+        return b;
+    }
+    a
+}
+
+// Whether the bytes are UTF-8, byte by byte.
+fn is_well_formed(s: &[u8]) -> bool
     ensures { λ r. ⌜ r ≡ utf8 (now (s .entry)) ⌝ }
 {
     let mut n = Pending {
@@ -40,11 +73,7 @@ fn pending_after(n: Pending, b: u8) -> Pending
     ensures { λ r. ⌜ Steps (n .count) (n .low) (n .high) b (r .count) (r .low) (r .high) ⌝ }
 {
     if n.count == 0 {
-        return Pending {
-            count: lead_count(b),
-            low: lead_low(b),
-            high: lead_high(b),
-        };
+        return lead(b);
     }
     if b < n.low {
         return Pending {
@@ -64,6 +93,24 @@ fn pending_after(n: Pending, b: u8) -> Pending
         count: n.count - 1,
         low: 0x80,
         high: 0xBF,
+    }
+}
+
+// What a first byte asks: nothing where it is ASCII, which is told first.
+fn lead(b: u8) -> Pending
+    ensures { λ r. ⌜ Steps 0 0 0 b (r .count) (r .low) (r .high) ⌝ }
+{
+    if b < 0x80 {
+        return Pending {
+            count: 0,
+            low: 0,
+            high: 0,
+        };
+    }
+    Pending {
+        count: lead_count(b),
+        low: lead_low(b),
+        high: lead_high(b),
     }
 }
 

@@ -14,14 +14,14 @@ unfolding checkImage
 returns c = rw (sym (c .before .sections-fit .ensures) ∙ not-true (c .before .sections-fit .result) (c .if1 .taken))
 
 strings-fit-requires : tie.Need-strings-fit-requires
-strings-fit-requires c κs = search needs
+strings-fit-requires c κs = sym (c .before .sections-fit .ensures) ∙ not-false (c .before .sections-fit .result) (c .if1 .left)
 
 returns-2 : tie.Need-returns-2
 unfolding checkImage
 returns-2 c = rw (sym (c .before .before .before .sections-fit .ensures) ∙ not-false (c .before .before .before .sections-fit .result) (c .before .before .if1 .left), sym (c .before .strings-fit .ensures) ∙ not-true (c .before .strings-fit .result) (c .if2 .taken))
 
 records-fit-requires : tie.Need-records-fit-requires
-records-fit-requires c κs = search needs
+records-fit-requires c κs = sym (c .before .before .before .sections-fit .ensures) ∙ not-false (c .before .before .before .sections-fit .result) (c .before .before .if1 .left)
 
 returns-3 : tie.Need-returns-3
 unfolding checkImage

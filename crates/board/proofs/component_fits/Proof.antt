@@ -1,41 +1,36 @@
--- `component_fits` gives `componentFits`, number by number. Assumes nothing.
+-- `component_fits` gives `componentAt`, number by number. Assumes nothing.
 use Prim.Native.Nat.{_+_}
-use borrow.Author.Tests.{lt-ltb, le-ltb}
 use native.Mathlib.Omega.{arith}
+use borrow.Author.Tests.{lt-ltb, le-ltb}
 use Rattle.board.specs.Check.{CATEGORIES}
-use borrow.Author.Needs.{needs}
 use Rattle.board.proofs.component_fits.Statement.{statement}
 use Rattle.board.proofs.component_fits.Tie as tie
 
-field-requires : tie.Need-field-requires
-field-requires c κs = search needs
+number-at-requires : tie.Need-number-at-requires
+number-at-requires c κs = omega arith
 
 returns : tie.Need-returns
-returns c = rw (← c .before .field .ensures, le-ltb (c .before .field .result) CATEGORIES (omega arith))
+returns c = rw (← c .before .number-at .ensures, le-ltb (c .before .number-at .result) CATEGORIES (c .if1 .taken))
 
-record-count-requires : tie.Need-record-count-requires
-record-count-requires c κs = search needs
-
-field-requires-2 : tie.Need-field-requires-2
-field-requires-2 c κs = search needs
+number-at-requires-2 : tie.Need-number-at-requires-2
+number-at-requires-2 c κs = omega arith
 
 returns-2 : tie.Need-returns-2
-returns-2 c = rw (← c .before .before .before .before .field .ensures, lt-ltb (c .before .before .before .before .field .result) CATEGORIES (omega arith), ← c .before .before .record-count .ensures, ← c .before .field2 .ensures, le-ltb (c .before .field2 .result) (c .before .before .record-count .result + 1) (omega arith))
+returns-2 c = rw (← c .before .before .before .number-at .ensures, lt-ltb (c .before .before .before .number-at .result) CATEGORIES (c .before .before .if1 .left), ← c .before .number-at2 .ensures, le-ltb (c .before .number-at2 .result) (c .before .before .before .before .before .args .components + 1) (omega arith))
 
-field-requires-3 : tie.Need-field-requires-3
-field-requires-3 c κs = search needs
+number-at-requires-3 : tie.Need-number-at-requires-3
+number-at-requires-3 c κs = omega arith
 
 returns-3 : tie.Need-returns-3
-returns-3 c = rw (← c .before .before .before .before .before .field .ensures, lt-ltb (c .before .before .before .before .before .field .result) CATEGORIES (omega arith), ← c .before .before .before .record-count .ensures, ← c .before .before .field2 .ensures, lt-ltb (c .before .before .field2 .result) (c .before .before .before .record-count .result + 1) (omega arith)) (rw (← c .field3 .ensures))
+returns-3 c = rw (← c .before .before .before .before .number-at .ensures, lt-ltb (c .before .before .before .before .number-at .result) CATEGORIES (c .before .before .before .if1 .left), ← c .before .before .number-at2 .ensures, lt-ltb (c .before .before .number-at2 .result) (c .before .before .before .before .before .before .args .components + 1) (omega arith), ← c .number-at3 .ensures)
 
 pub component-fits-spec : {M : Type 1} → statement M
 component-fits-spec =
     tie.close
     (tie.spec
-    field-requires
+    number-at-requires
     returns
-    record-count-requires
-    field-requires-2
+    number-at-requires-2
     returns-2
-    field-requires-3
+    number-at-requires-3
     returns-3)

@@ -9,9 +9,6 @@ use Rattle.board.proofs.features_fit.Tie as tie
 record-count-requires : tie.Need-record-count-requires
 record-count-requires c κs = search needs
 
-cast-strings : tie.Need-cast-strings
-cast-strings c = search needs
-
 all-below-requires : tie.Need-all-below-requires
 all-below-requires c κs = search needs
 
@@ -20,5 +17,4 @@ unfolding featuresFit
 returns c = c .all-below .ensures ∙ limits-same _ _ (c .before .record-count .ensures) refl refl
 
 pub features-fit-spec : {M : Type 1} → statement M
-features-fit-spec =
-    tie.close (tie.spec record-count-requires cast-strings all-below-requires returns)
+features-fit-spec = tie.close (tie.spec record-count-requires all-below-requires returns)

@@ -9,14 +9,8 @@ use Rattle.board.proofs.properties_fit.Tie as tie
 record-count-requires : tie.Need-record-count-requires
 record-count-requires c κs = search needs
 
-cast-components : tie.Need-cast-components
-cast-components c = search needs
-
 record-count-requires-2 : tie.Need-record-count-requires-2
 record-count-requires-2 c κs = search needs
-
-cast-strings : tie.Need-cast-strings
-cast-strings c = search needs
 
 all-below-requires : tie.Need-all-below-requires
 all-below-requires c κs = search needs
@@ -27,11 +21,4 @@ returns c = c .all-below .ensures ∙ limits-same _ _ (c .before .before .record
 
 pub properties-fit-spec : {M : Type 1} → statement M
 properties-fit-spec =
-    tie.close
-    (tie.spec
-    record-count-requires
-    cast-components
-    record-count-requires-2
-    cast-strings
-    all-below-requires
-    returns)
+    tie.close (tie.spec record-count-requires record-count-requires-2 all-below-requires returns)

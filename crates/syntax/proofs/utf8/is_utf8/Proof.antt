@@ -1,66 +1,22 @@
+-- `utf8::is_utf8` gives `utf8`: a text that is ASCII alone is UTF-8. Assumes nothing.
 use denote.Ref.{now}
-use mathlib.Core.Path.{_≡_, refl, sym, ap, _∙_}
-use Prim.Native.Nat.{_+_, _-_, _≤_, _<_}
-use native.Mathlib.Omega.{arith}
-use lib.ListN.{length, drop, getD, drop-of-length-le}
-use Rattle.syntax.specs.Utf8.{utf8, wellFrom}
-use Rattle.syntax.specs.Utf8Scan.{ILL, pending}
-use Rattle.syntax.proofs.TextLaws.{from}
-use Rattle.syntax.proofs.Utf8Laws.{well-end}
+use mathlib.Core.Path.{sym, _∙_}
+use Rattle.syntax.proofs.Utf8Laws.{ascii-utf8}
+use borrow.Author.Needs.{needs}
 use Rattle.syntax.proofs.utf8.is_utf8.Statement.{statement}
 use Rattle.syntax.proofs.utf8.is_utf8.Tie as tie
 
-abbrev Inv-loop : tie.InvT-loop
-Inv-loop s n₀ i₀ n i = (i ≤ length s) × (n .count < ILL) × (wellFrom (drop i s) (pending (n .count) (n .low) (n .high)) ≡ utf8 s)
+is-ascii-requires : tie.Need-is-ascii-requires
+is-ascii-requires c κs = search needs
 
-abbrev μ-loop : tie.MeasureT-loop
-μ-loop s n₀ i₀ n i = length s - i
+returns : tie.Need-returns
+returns c = sym (ascii-utf8 (now (c .before .before .before .args .s)) (sym (c .before .is-ascii .ensures) ∙ c .if1 .taken))
 
-loop-holds : tie.Need-loop-holds Inv-loop μ-loop
-unfolding utf8 pending
-loop-holds c = (omega arith, omega arith, refl)
+is-well-formed-requires : tie.Need-is-well-formed-requires
+is-well-formed-requires c κs = search needs
 
-shared-slice-read-pending-after : tie.Need-shared-slice-read-pending-after Inv-loop μ-loop
-shared-slice-read-pending-after c = omega arith
-
-pending-after-requires : tie.Need-pending-after-requires Inv-loop μ-loop
-pending-after-requires c κs = omega arith
-
-returns : tie.Need-returns Inv-loop μ-loop
-returns c =
-    sym (c .before .before .pending-after .ensures .bad (c .if1 .taken) (drop ((c .before .before .before .before .before .loop .i) + 1) (now (c .before .before .before .before .before .before .before .args .s))))
-    ∙ (rw (from (now (c .before .before .before .before .before .before .before .args .s)) (c .before .before .before .before .before .loop .i) (c .before .before .before .before .loop-test .taken)) at (c .before .before .before .before .before .loop .inv .2))
-
-add-i : tie.Need-add-i Inv-loop μ-loop
-add-i c = omega arith
-
-loop-less : tie.Need-loop-less Inv-loop μ-loop
-loop-less c = omega arith
-
-loop-again : tie.Need-loop-again Inv-loop μ-loop
-loop-again c = (
-  omega arith,
-  omega arith,
-  sym (c .before .before .pending-after .ensures .good (c .if1 .left) (drop ((c .before .before .before .before .before .loop .i) + 1) (now (c .before .before .before .before .before .before .before .args .s))))
-      ∙ (rw (from (now (c .before .before .before .before .before .before .before .args .s)) (c .before .before .before .before .before .loop .i) (c .before .before .before .before .loop-test .taken)) at (c .before .before .before .before .before .loop .inv .2)),
-)
-
-returns-2 : tie.Need-returns-2 Inv-loop μ-loop
-returns-2 c =
-    sym (well-end (c .before .before .loop .n .count) (c .before .before .loop .n .low) (c .before .before .loop .n .high))
-    ∙ (rw (drop-of-length-le (now (c .before .before .before .before .args .s)) (c .before .loop-test .left)) at (c .before .before .loop .inv .2))
+returns-2 : tie.Need-returns-2
+returns-2 c = search needs
 
 pub is-utf8-spec : {M : Type 1} → statement M
-is-utf8-spec =
-    tie.close
-    (tie.spec
-    Inv-loop
-    μ-loop
-    loop-holds
-    shared-slice-read-pending-after
-    pending-after-requires
-    returns
-    add-i
-    loop-less
-    loop-again
-    returns-2)
+is-utf8-spec = tie.close (tie.spec is-ascii-requires returns is-well-formed-requires returns-2)
