@@ -1,7 +1,7 @@
 -- What the numbers and texts read from an image say of its parts, and how far a loop has come in search of a record that passes a
 -- test: what is left decides as the whole does. Assumes nothing.
 use mathlib.Core.Path.{_≡_, sym, ap, _∙_}
-use mathlib.Core.Bool.{Bool, true, false, _||_, or-true}
+use mathlib.Core.Bool.{Bool, true, false}
 use mathlib.Core.List.{List}
 use Prim.Native.Nat.{ℕ, suc, _+_, _-_, _≤_, _<_}
 use native.Mathlib.Nat.{sub-zero}
@@ -10,7 +10,7 @@ use native.Mathlib.Omega.{arith}
 use borrow.Author.Tests.{eq-eqb, ne-eqb}
 use lib.Dec.{eqb}
 use Rattle.syntax.specs.Text.{same}
-use Rattle.board.specs.Image.{text, parent, firstFeature, featuresOf, wired, featureCount, featureName, connectionCount, owner, source, target, propertyCount, propertyComponent, propertySet, propertyName}
+use Rattle.board.specs.Image.{text, parent, firstFeature, featuresOf, wired, featureCount, featureName, connectionCount, propertyCount}
 use Rattle.instance.specs.Instance.{some, componentConnected, endIs, joins, featureConnected, isProperty, hasProperty, featuresEnd, featureIs, hasFeature}
 
 -- records are passed over up to n and none passes: whether some does is for those from n to `end` to say
@@ -66,33 +66,6 @@ module _ (image : List ℕ) (end : ℕ) (name : List ℕ) where
   unfolding endIs
   end-named h e = rw (ne-eqb end 0 h) e
 
--- a connection that is the component's or its parent's, and one that is another's
-pub record Owned (image : List ℕ) (component connection : ℕ) : Type 0 where
-  pub so : (eqb (owner image connection) component || eqb (owner image connection + 1) (parent image component)) ≡ true
-
-module _ {image : List ℕ} {component connection : ℕ} {o : ℕ} (e : o ≡ owner image connection) where
-  pub owned-self : o ≡ component → Owned image component connection
-  owned-self h = record { so = rw (← e, eq-eqb o component h) }
-
-  pub owned-parent : {p : ℕ} → p ≡ parent image component → o + 1 ≡ p → Owned image component connection
-  owned-parent {p} f h = record { so = rw (← e, ← f, eq-eqb (o + 1) p h) (or-true (eqb o component)) }
-
-module _ (image : List ℕ) (component : ℕ) (name : List ℕ) (connection : ℕ) where
-  pub joins-foreign : {o p : ℕ} → o ≡ owner image connection → (o ≡ component → ⊥) → p ≡ parent image component → (o + 1 ≡ p → ⊥)
-      → false ≡ joins image component name connection
-  unfolding joins
-  joins-foreign {o} {p} e h f k = rw (← e, ne-eqb o component h, ← f, ne-eqb (o + 1) p k)
-
-  pub joins-source : {s : ℕ} {r : Bool} → Owned image component connection → s ≡ source image connection → r ≡ endIs image s name → r ≡ true
-      → true ≡ joins image component name connection
-  unfolding joins
-  joins-source {s} o e f h = rw (o .so, ← e, sym f ∙ h)
-
-  pub joins-target : {s t : ℕ} {r q : Bool} → Owned image component connection → s ≡ source image connection → r ≡ endIs image s name → r ≡ false → t ≡ target image connection
-      → q ≡ endIs image t name → q ≡ joins image component name connection
-  unfolding joins
-  joins-target {s} {t} o e f h g k = rw (o .so, ← e, sym f ∙ h, ← g) k
-
 -- the connections are searched where the component is not connected
 module _ (image : List ℕ) (component feature : ℕ) where
   pub feature-whole : {r : Bool} → r ≡ componentConnected image component → r ≡ true → true ≡ featureConnected image component feature
@@ -104,21 +77,6 @@ module _ (image : List ℕ) (component feature : ℕ) where
       → Searching (joins image component t) count 0 (featureConnected image component feature)
   unfolding featureConnected
   connections-start {r} {f} {count} {t} e h d g k = record { rest = rw (sym e ∙ h, ← d, ← g, ← k, sub-zero count) }
-
--- a property of another component, one of another set, and one of both
-module _ (image : List ℕ) (component : ℕ) (set name : List ℕ) (property : ℕ) {x : ℕ} (e : x ≡ propertyComponent image property) where
-  pub property-elsewhere : (x ≡ component → ⊥) → false ≡ isProperty image component set name property
-  unfolding isProperty
-  property-elsewhere h = rw (← e, ne-eqb x component h)
-
-  pub property-unlike : x ≡ component → false ≡ same (text image (propertySet image property)) set → false ≡ isProperty image component set name property
-  unfolding isProperty
-  property-unlike h f = rw (← e, eq-eqb x component h, ← f)
-
-  pub property-like : {r : Bool} → x ≡ component → true ≡ same (text image (propertySet image property)) set
-      → r ≡ same (text image (propertyName image property)) name → r ≡ isProperty image component set name property
-  unfolding isProperty
-  property-like h f g = rw (← e, eq-eqb x component h, ← f) g
 
 pub properties-start : (image : List ℕ) (component : ℕ) (set name : List ℕ) {count : ℕ} → count ≡ propertyCount image
     → Searching (isProperty image component set name) count 0 (hasProperty image component set name)

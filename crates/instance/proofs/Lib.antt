@@ -1,1 +1,2 @@
 pub mod InstanceLaws
+pub mod PlaceLaws

@@ -3,10 +3,20 @@ use board::image;
 use board::image::Section;
 use syntax::text;
 ghost use mathlib.Core.Path.{_≡_};
-ghost use Rattle.instance.specs.Instance.{componentConnected, endIs, joins, featureConnected, isProperty, hasProperty, featuresEnd, featureIs, hasFeature};
+ghost use Prim.Native.Nat.{_<_};
+ghost use lib.ListN.{take};
+ghost use Rattle.instance.specs.Instance.{componentConnected, endIs, featureConnected, hasProperty, featuresEnd, hasFeature};
+ghost use Rattle.instance.specs.Places.{PLACES, otherOwner, joinsAt, isPropertyAt, featureIsAt, Skipped};
 
 // The mark of a component that is wired.
 const WIRED: u32 = 1;
+
+// The bytes of a connection, a feature or a property, which have three numbers each, and where the second and the third of these are.
+const RECORD_SIZE: usize = 12;
+
+const SECOND: usize = 4;
+
+const THIRD: usize = 8;
 
 // Whether a component or its parent is wired.
 pub fn component_connected(image: &[u8], component: u32) -> bool
@@ -31,34 +41,84 @@ pub fn feature_connected(image: &[u8], component: u32, feature: u32) -> bool
     }
     let number = image::field(image, Section::Features, feature, image::FEATURE_NAME);
     let name = image::string(image, number);
-    let count = image::record_count(image, Section::Connections);
-    let mut n = 0;
-    while n < count {
-        if joins(image, component, name, n) {
+    let other = other_owner(image, component);
+    let first = image::section_offset(image, Section::Connections) as usize;
+    let count = image::record_count(image, Section::Connections) as usize;
+    let end = first + RECORD_SIZE * count;
+    let records = front(image, end);
+    let mut at = first;
+    while at < end {
+        let here = next_owned(records, at, component, other);
+        if end <= here {
+            return false;
+        }
+        if joins(image, component, other, name, here) {
             return true;
         }
-        n += 1;
+        at = here + RECORD_SIZE;
     }
     false
 }
 
-// Whether a connection is owned by the component or its parent and has a feature of this name at an end.
-fn joins(image: &[u8], component: u32, name: &[u8], connection: u32) -> bool
-    ensures { λ r. ⌜ r ≡ joins (now (image .entry)) component (now (name .entry)) connection ⌝ }
+// The parent of a component, which may own its connections too; the component itself where it has none.
+fn other_owner(image: &[u8], component: u32) -> u32
+    ensures { λ r. ⌜ r ≡ otherOwner (now (image .entry)) component ⌝ }
 {
-    let owner = image::field(image, Section::Connections, connection, image::OWNER);
+    let parent = image::field(image, Section::Components, component, image::PARENT);
+    if 0 < parent {
+        return parent - 1;
+    }
+    component
+}
+
+// The image up to a place, as far as it goes.
+fn front(image: &[u8], end: usize) -> &[u8]
+    ensures { λ r. ⌜ now r ≡ take end (now (image .entry)) ⌝ }
+{
+    if image.len() < end {
+        return image;
+    }
+    &image[..end]
+}
+
+// The place of the next record whose first number is one of two, from a record's place on; where there is none, the first place whose
+// number is not there. The loop's test is that of `image::word`, which so costs nothing.
+fn next_owned(records: &[u8], from: usize, one: u32, other: u32) -> usize
+    ensures { λ r. ⌜ Skipped (now (records .entry)) one other from r ⌝ }
+{
+    if records.len() < image::NUMBER_SIZE {
+        return from;
+    }
+    let last = records.len() - image::NUMBER_SIZE;
+    let mut at = from;
+    while at <= last {
+        let owner = image::word(records, at);
+        if owner == one {
+            return at;
+        }
+        if owner == other {
+            return at;
+        }
+        at += RECORD_SIZE;
+    }
+    at
+}
+
+// Whether the connection at a place is owned by one of two components and has a feature of this name at an end.
+fn joins(image: &[u8], component: u32, other: u32, name: &[u8], at: usize) -> bool
+    requires { ⌜ at < PLACES ⌝ }
+    ensures { λ r. ⌜ r ≡ joinsAt (now (image .entry)) component other (now (name .entry)) at ⌝ }
+{
+    let owner = image::word(image, at);
     if owner != component {
-        let parent = image::field(image, Section::Components, component, image::PARENT);
-        if owner as usize + 1 != parent as usize {
+        if owner != other {
             return false;
         }
     }
-    let source = image::field(image, Section::Connections, connection, image::SOURCE);
-    if end_is(image, source, name) {
+    if end_is(image, image::word(image, at + SECOND), name) {
         return true;
     }
-    let target = image::field(image, Section::Connections, connection, image::TARGET);
-    end_is(image, target, name)
+    end_is(image, image::word(image, at + THIRD), name)
 }
 
 // Whether there is such an end, and a feature of this name is at it.
@@ -75,34 +135,37 @@ fn end_is(image: &[u8], end: u32, name: &[u8]) -> bool
 pub fn has_property(image: &[u8], component: u32, set: &[u8], name: &[u8]) -> bool
     ensures { λ r. ⌜ r ≡ hasProperty (now (image .entry)) component (now (set .entry)) (now (name .entry)) ⌝ }
 {
-    let count = image::record_count(image, Section::Properties);
-    let mut n = 0;
-    while n < count {
-        if is_property(image, component, set, name, n) {
+    let first = image::section_offset(image, Section::Properties) as usize;
+    let count = image::record_count(image, Section::Properties) as usize;
+    let end = first + RECORD_SIZE * count;
+    let records = front(image, end);
+    let mut at = first;
+    while at < end {
+        let here = next_owned(records, at, component, component);
+        if end <= here {
+            return false;
+        }
+        if is_property(image, component, set, name, here) {
             return true;
         }
-        n += 1;
+        at = here + RECORD_SIZE;
     }
     false
 }
 
-fn is_property(image: &[u8], component: u32, set: &[u8], name: &[u8], property: u32) -> bool
-    ensures { λ r. ⌜ r ≡ isProperty (now (image .entry)) component (now (set .entry)) (now (name .entry)) property ⌝ }
+// Whether the property at a place is the component's and of this set and name.
+fn is_property(image: &[u8], component: u32, set: &[u8], name: &[u8], at: usize) -> bool
+    requires { ⌜ at < PLACES ⌝ }
+    ensures { λ r. ⌜ r ≡ isPropertyAt (now (image .entry)) component (now (set .entry)) (now (name .entry)) at ⌝ }
 {
-    let owner = image::field(
-        image,
-        Section::Properties,
-        property,
-        image::PROPERTY_COMPONENT,
-    );
-    if owner != component {
+    if image::word(image, at) != component {
         return false;
     }
-    let set_number = image::field(image, Section::Properties, property, image::PROPERTY_SET);
+    let set_number = image::word(image, at + SECOND);
     if !text::same(image::string(image, set_number), set) {
         return false;
     }
-    let name_number = image::field(image, Section::Properties, property, image::PROPERTY_NAME);
+    let name_number = image::word(image, at + THIRD);
     text::same(image::string(image, name_number), name)
 }
 
@@ -110,10 +173,11 @@ fn is_property(image: &[u8], component: u32, set: &[u8], name: &[u8], property: 
 pub fn has_feature(image: &[u8], component: u32, name: &[u8]) -> bool
     ensures { λ r. ⌜ r ≡ hasFeature (now (image .entry)) component (now (name .entry)) ⌝ }
 {
+    let first = image::section_offset(image, Section::Features) as usize;
     let end = features_end(image, component);
     let mut n = image::field(image, Section::Components, component, image::FIRST_FEATURE);
     while n < end {
-        if feature_is(image, name, n) {
+        if feature_is(image, name, first + RECORD_SIZE * (n as usize)) {
             return true;
         }
         n += 1;
@@ -121,11 +185,11 @@ pub fn has_feature(image: &[u8], component: u32, name: &[u8]) -> bool
     false
 }
 
-fn feature_is(image: &[u8], name: &[u8], feature: u32) -> bool
-    ensures { λ r. ⌜ r ≡ featureIs (now (image .entry)) (now (name .entry)) feature ⌝ }
+// Whether the feature at a place has this name.
+fn feature_is(image: &[u8], name: &[u8], at: usize) -> bool
+    ensures { λ r. ⌜ r ≡ featureIsAt (now (image .entry)) (now (name .entry)) at ⌝ }
 {
-    let number = image::field(image, Section::Features, feature, image::FEATURE_NAME);
-    text::same(image::string(image, number), name)
+    text::same(image::string(image, image::word(image, at)), name)
 }
 
 // The place past a component's last feature, as far as the features go.
