@@ -104,6 +104,10 @@ unfoldable pub openersIn : List Token → ℕ
 openersIn [] = 0
 openersIn (t ∷ ts) = cond (isOpener (t .kind)) 1 0 + openersIn ts
 
+-- 1 where a token `(` or `not` may begin with the byte b before a byte c, else 0: a bound for code that has not read the tokens
+unfoldable pub openersAt : ℕ → ℕ → ℕ
+openersAt b c = cond (is "(" b || is "n" b && is "o" c) 1 0
+
 -- whether a quote stands in s
 unfoldable pub hasQuote : List ℕ → Bool
 hasQuote [] = false

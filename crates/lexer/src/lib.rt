@@ -13,15 +13,15 @@ use syntax::text;
 use syntax::utf8;
 ghost use mathlib.Core.Path.{_≡_};
 ghost use mathlib.Core.Bool.{_&&_};
-ghost use lib.Dec.{leb};
+ghost use lib.Dec.{leb, ltb};
 ghost use mathlib.Core.List.{[], _∷_};
 ghost use Prim.Native.Nat.{_+_, _-_, _*_, _≤_, _<_};
 ghost use lib.ListN.{length, take, drop};
 ghost use lib.Seq.{sets};
 ghost use Rattle.syntax.specs.Table.{withRows};
 ghost use Rattle.lexer.specs.Bytes.{isBlank, isAsciiWhitespace, isAsciiDigit, isIdentStart, isIdentContinue, isTrailing, shapeOf, goesOn};
-ghost use Rattle.lexer.specs.Lex.{run, quoted, equals, more, wordKind, kindOf, lex, tokenRows, isOpener, openersIn, TokenAt};
-ghost use Rattle.lexer.specs.Read.{MAX-RULE, TOKEN-ROW, tablesShort, checkRule, checkRoom, Reads};
+ghost use Rattle.lexer.specs.Lex.{run, quoted, equals, more, wordKind, kindOf, lex, tokenRows, isOpener, openersIn, openersAt, TokenAt};
+ghost use Rattle.lexer.specs.Read.{MAX-RULE, MAX-OPENERS, TOKEN-ROW, tablesShort, checkRule, checkRoom, Reads};
 
 const FORM_FEED: u8 = 0x0C;
 
@@ -42,7 +42,7 @@ pub fn check_rule(rule: &[u8], tokens: usize, tree: usize, errors: usize) -> Che
         if tables_short(rule.len(), tokens, tree, errors) {
             return Check::Refused(Refusal::TableTooShort);
         }
-        if MAX_OPENERS < count_openers(rule) {
+        if too_many_openers(rule) {
             return Check::Refused(Refusal::TooManyOpeners);
         }
         return Check::Passed;
@@ -86,6 +86,50 @@ pub fn tables_short(n: usize, tokens: usize, tree: usize, errors: usize) -> bool
         return true;
     }
     errors / ERROR_ROW / 8 <= n
+}
+
+// Whether more tokens are `(` or `not` than a rule may have. The tokens are read for it only where the bytes leave it open.
+fn too_many_openers(rule: &[u8]) -> bool
+    requires { ⌜ length (now rule) ≤ MAX-RULE ⌝ }
+    ensures { λ r. ⌜ r ≡ ltb MAX-OPENERS (openersIn (lex (now (rule .entry)))) ⌝ }
+{
+    if rule.len() <= MAX_OPENERS {
+        return false;
+    }
+    if openers_bound(rule) as usize <= MAX_OPENERS {
+        return false;
+    }
+    MAX_OPENERS < count_openers(rule)
+}
+
+// At least as many as there are tokens `(` and `not`: the bytes that one may begin with, the last byte always among them.
+fn openers_bound(rule: &[u8]) -> u16
+    requires { ⌜ length (now rule) ≤ MAX-RULE ⌝ }
+    ensures { λ r. ⌜ openersIn (lex (now (rule .entry))) ≤ r ⌝ }
+{
+    let mut n = 1;
+    let mut i = 0;
+    while i + 1 < rule.len() {
+        n += openers_at(rule[i], rule[i + 1]);
+        i += 1;
+    }
+    n
+}
+
+// 1 where a token `(` or `not` may begin with a byte that has this byte behind it, else 0.
+fn openers_at(b: u8, next: u8) -> u16
+    ensures { λ r. ⌜ r ≡ openersAt b next ⌝ }
+{
+    if b == b'(' {
+        return 1;
+    }
+    if b == b'n' {
+        if next == b'o' {
+            return 1;
+        }
+        return 0;
+    }
+    0
 }
 
 // How many tokens are `(` or `not`.

@@ -121,7 +121,7 @@ bound-remaining = record { bound = λ ts e. go ts }
 
 -- ---- what the looks see
 
-sees-text : (b : ℕ) (w : List ℕ) → Sees (atText (b ∷ w))
+pub sees-text : (b : ℕ) (w : List ℕ) → Sees (atText (b ∷ w))
 unfolding atText
 sees-text b w = record { seen = λ ts e. go (skipWs ts) e }
   where
@@ -129,7 +129,7 @@ sees-text b w = record { seen = λ ts e. go (skipWs ts) e }
     go [] e = let z : _≡_ {A = ℕ} 0 1 = cc in absurd (omega arith)
     go (u ∷ us) e = omega arith
 
-sees-or : {p q : List Token → Bool} → Sees p → Sees q → Sees (λ ts. p ts || q ts)
+pub sees-or : {p q : List Token → Bool} → Sees p → Sees q → Sees (λ ts. p ts || q ts)
 sees-or {p} {q} a b = record { seen = λ ts e. whether (p ts) (λ t. a .seen ts t) (λ t. b .seen ts (rw t at e)) }
 
 sees-and : {p : List Token → Bool} (q : List Token → Bool) → Sees p → Sees (λ ts. p ts && q ts)
@@ -147,7 +147,7 @@ sees-field : Sees atField
 unfolding atField
 sees-field = search (sees-or, sees-ident)
 
-sees-method : Sees atPredicateMethod
+pub sees-method : Sees atPredicateMethod
 unfolding atPredicateMethod
 sees-method = search (sees-or, sees-text)
 

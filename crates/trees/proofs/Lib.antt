@@ -7,5 +7,6 @@ pub mod TreeLaws
 pub mod StepLaws
 pub mod CycleLaws
 pub mod BoundLaws
+pub mod CallLaws
 pub mod ReadLaws
 pub mod Vectors

@@ -1,7 +1,10 @@
 -- The green tree: nodes and tokens without positions. Assumes nothing: these are definitions.
 use Prim.Native.Nat.{ℕ, _+_, max}
 use mathlib.Core.List.{List, [], _∷_, _++_}
+use mathlib.Core.Bool.{cond}
+use lib.Dec.{eqb}
 use lib.ListN.{length}
+use Rattle.syntax.specs.Kind.{DOT-CALL}
 use Rattle.lexer.specs.Lex.{Token}
 
 -- a forest: nothing; a token, and what follows it; a node of a kind with its children, and what follows it
@@ -44,3 +47,9 @@ unfoldable pub span : Forest → ℕ
 span nil = 0
 span (leaf t f) = length (t .text) + span f
 span (node k s f) = span s + span f
+
+-- how many DOT_CALLs a forest has, at any depth
+unfoldable pub dotCalls : Forest → ℕ
+dotCalls nil = 0
+dotCalls (leaf t f) = dotCalls f
+dotCalls (node k s f) = cond (eqb k DOT-CALL) 1 0 + (dotCalls s + dotCalls f)
