@@ -6,18 +6,18 @@ use mathlib.Core.Option.{Option}
 use Prim.Native.Nat.{ℕ, suc, _+_, _*_, _≤_}
 use native.Mathlib.Omega.{arith}
 use lib.Dec.{eqb}
-use lib.ListN.{length, take, drop, set, length-append, length-take, length-drop}
+use lib.ListN.{length, take, drop, set, length-append, length-take}
 use lib.Seq.{sets, sets-eq, length-sets, take-append-seam}
 use borrow.Author.Tests.{eq-eqb, ne-eqb}
 use Rattle.syntax.specs.Kind.{INT-LIT, DOT-CALL, COUNT-COMPARE-EXPR}
 use Rattle.syntax.specs.declared.refusal.Refusal.{Refusal}
 use Rattle.syntax.specs.declared.refusal.Refusal.the-variants.{ParseErrors, ComparisonNotCountable, IntegerTooLarge}
 use Rattle.syntax.proofs.BoolLaws.{whether}
-use Rattle.trees.specs.Green.{Forest}
+use Rattle.trees.specs.Green.{Forest, nil, leaf, node, dotCalls}
 use Rattle.matching.specs.declared.search.Found.{Found}
 use Rattle.predicate.specs.declared.atom.Member.{Member}
 use Rattle.predicate.specs.Truth.{firstText}
-use Rattle.predicate.specs.Rows.{ROW, Place, below, past, token, child, placeOf, grown, bytesBetween, forest, kindAt as treeKind, levelAt, forestFrom, childrenAt, ofNode, firstRow}
+use Rattle.predicate.specs.Rows.{ROW, kindAt as treeKind, levelAt, childrenAt, ofNode, firstRow}
 use Rattle.predicate.specs.Eval.{FoundAt, FoundNowhere}
 use Rattle.predicate.proofs.NodeLaws.{row-absent}
 use Rattle.meaning.specs.Value.{Outcome, boolean, refused, Kind, sortKind, collectionTable, withMembers}
@@ -38,32 +38,35 @@ use Rattle.calls.proofs.TableLaws.{method-at, kind-at}
 use Rattle.eval.specs.declared.walk.Tally.{Tally}
 use Rattle.eval.specs.Ready.{CALL-ROW, callIn, callsIn, sourceSort, sourceMembers, LastMethod, Ready, Refuses}
 use Rattle.eval.specs.Feed.{State, stateOf, listed, walked}
-use Rattle.eval.specs.Pipeline.{MAX-ROWS, CALLS, Evaluates, Counts, OperatorAt, Gives}
+use Rattle.eval.specs.Pipeline.{CALLS, FewCalls, Evaluates, Counts, OperatorAt, Gives}
 use Rattle.eval.proofs.ReadyLaws.{kind-number}
 use Rattle.eval.proofs.CallLaws.{calls-append}
 use Rattle.eval.proofs.PlanLaws.{node-first, node-none, source-found}
 
--- ---- a tree has no more calls than rows
+-- ---- the calls of a tree are few
 
-few-calls : (rule : List ℕ) (level : ℕ) (rows : List ℕ) → ROW * length (callsOf (forest rule level rows)) ≤ length rows
-unfolding forest callsOf
-few-calls rule level [] = omega arith
-few-calls rule level (k ∷ []) = omega arith
-few-calls rule level (k ∷ m ∷ []) = omega arith
-few-calls rule level (k ∷ m ∷ a ∷ []) = omega arith
-few-calls rule level (k ∷ m ∷ a ∷ e ∷ rows) = go (placeOf level k m) (few-calls rule level rows)
-  where
-    go : (p : Place) → ROW * length (callsOf (forest rule level rows)) ≤ length rows
-        → ROW * length (callsOf (grown p k (bytesBetween rule a e) (forest rule (level + 1) rows) (forest rule level rows))) ≤ suc (suc (suc (suc (length rows))))
-    go below h = omega arith
-    go past h = omega arith
-    go token h = omega arith
-    go child h = whether (eqb k DOT-CALL) (λ q. rw (q, callsOf) (omega (arith, h))) (λ q. rw (q, callsOf) (omega (arith, h)))
+calls-fewer : (f : Forest) → length (callsOf f) ≤ dotCalls f
+unfolding callsOf dotCalls
+calls-fewer nil = omega arith
+calls-fewer (leaf t f) = calls-fewer f
+calls-fewer (node k s f) =
+    let h = calls-fewer f in
+    whether (eqb k DOT-CALL) (λ q. rw (q, callsOf) (omega arith)) (λ q. rw (q, callsOf) (omega arith))
 
-pub calls-room : (rule tree rows : List ℕ) (at : ℕ) → length tree ≤ MAX-ROWS → CALLS ≤ length rows → CALL-ROW * (length (callsOf (childrenAt rule tree at)) + 1) ≤ length rows
-unfolding forestFrom
-calls-room rule tree rows at h r =
-    omega (arith, few-calls rule (levelAt tree at + 1) (drop (at + ROW) tree), length-drop (at + ROW) tree)
+pub calls-room : (rule tree rows : List ℕ) (at : ℕ) → FewCalls rule tree at → CALLS ≤ length rows → CALL-ROW * (length (callsOf (childrenAt rule tree at)) + 1) ≤ length rows
+calls-room rule tree rows at h r = omega (arith, calls-fewer (childrenAt rule tree at), h .few)
+
+-- so are those of the first node in it
+pub inner-fewer : (f : Forest) → dotCalls (firstInner f) ≤ dotCalls f
+unfolding firstInner dotCalls
+inner-fewer nil = omega arith
+inner-fewer (leaf t f) = inner-fewer f
+inner-fewer (node k s f) = omega arith
+
+pub inner-few : {rule tree : List ℕ} {at inner : ℕ} → FewCalls rule tree at → FoundAt ofNode tree (levelAt tree at + 1) (at + ROW) inner → FewCalls rule tree inner
+unfolding firstInner
+inner-few {rule} {tree} {at} h f =
+    record { few = omega (arith, h .few, inner-fewer (childrenAt rule tree at), ap dotCalls (node-first firstInner (λ t g. refl) rule f)) }
 
 -- ---- a pipeline
 

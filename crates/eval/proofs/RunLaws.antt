@@ -13,13 +13,14 @@ use Rattle.syntax.specs.declared.refusal.Refusal.{Refusal}
 use Rattle.syntax.specs.declared.refusal.Refusal.the-variants.{ParseErrors}
 use Rattle.lexer.specs.Read.{MAX-RULE, TREE-ROW, checkRule}
 use Rattle.lexer.proofs.ReadLaws.{passed-lengths}
-use Rattle.trees.specs.Green.{size}
+use Rattle.trees.specs.Green.{size, dotCalls}
 use Rattle.trees.specs.Parse.{Error, parseRoot, parseExpr, inNode}
 use Rattle.trees.specs.Rows.{treeRows}
 use Rattle.trees.specs.Read.{Reads, checkTables, rowsRead, treeTable}
 use Rattle.trees.specs.declared.Reading.{Reading}
 use Rattle.trees.proofs.GreenLaws.{treeRows-length}
 use Rattle.trees.proofs.BoundLaws.{rows-bound}
+use Rattle.trees.proofs.CallLaws.{calls-bound}
 use Rattle.trees.proofs.ReadLaws.{passed-reads, refused-reads, passed-has-room}
 use Rattle.board.specs.Check.{checkImage}
 use Rattle.board.proofs.BoardLaws.{passed-well-formed, passed-room}
@@ -32,8 +33,9 @@ use Rattle.calls.specs.declared.value.Outcome.{Outcome as Given}
 use Rattle.calls.specs.Answer.{answerOf, verdictFor, verdictOfAnswer}
 use Rattle.calls.proofs.AnswerLaws.{verdict-is}
 use Rattle.eval.specs.declared.Answer.{Answer}
-use Rattle.eval.specs.Pipeline.{MAX-ROWS, Lent, Evaluates}
+use Rattle.eval.specs.Pipeline.{MAX-ROWS, FewCalls, Lent, Evaluates}
 use Rattle.eval.specs.Run.{lent, Runs, Answers, ReadRule}
+use Rattle.eval.proofs.PipelineLaws.{inner-fewer}
 
 -- ---- a rule that was read
 
@@ -61,6 +63,12 @@ module _ {rule tree : List ℕ} {rows errors : ℕ} (r : ReadRule rule tree rows
 
   pub read-short : length (take (TREE-ROW * rows) tree) ≤ MAX-ROWS
   read-short = omega (arith, read-part, r .rows-are, rows-bound rule, r .short)
+
+  -- and then its calls are few
+  pub read-few : errors ≡ 0 → FewCalls rule (take (TREE-ROW * rows) tree) 0
+  read-few e =
+      let root : childrenAt rule (take (TREE-ROW * rows) tree) 0 ≡ firstInner (parseExpr rule .made) = ap (λ (t : List ℕ). childrenAt rule t 0) (r .front) ∙ root-children rule in
+      record { few = omega (arith, ap dotCalls root, inner-fewer (parseExpr rule .made), calls-bound rule, r .short, r .errors-are) }
 
   pub read-given : {table after : List ℕ} {g : Given} → errors ≡ 0 → Evaluates (evalNode image (childrenAt rule (take (TREE-ROW * rows) tree) 0)) table after g
       → Evaluates (outcome image rule) table after g

@@ -1,8 +1,10 @@
 -- What the functions of `pipeline` ask and give; no public contract needs this file. Assumes nothing: these are definitions.
-use Prim.Native.Nat.{ℕ, _*_}
+use Prim.Native.Nat.{ℕ, _+_, _*_, _≤_}
 use mathlib.Core.Path.{_≡_}
 use mathlib.Core.List.{List, []}
 use lib.ListN.{length, take}
+use Rattle.lexer.specs.Read.{MAX-RULE}
+use Rattle.trees.specs.Green.{dotCalls}
 use Rattle.board.specs.WellFormed.{WellFormed, Room}
 use Rattle.predicate.specs.declared.atom.Member.{Member}
 use Rattle.predicate.specs.Rows.{kindAt as treeKind, childrenAt}
@@ -20,9 +22,13 @@ use Rattle.eval.specs.Ready.{CALL-ROW, callsIn, sourceMembers}
 abbrev pub MAX-ROWS : ℕ
 MAX-ROWS = 14020
 
--- the numbers of as many rows of calls, and one more
+-- the numbers of the rows of as many calls as the longest rule may have, one for two bytes, and of one more
 abbrev pub CALLS : ℕ
-CALLS = 7012
+CALLS = MAX-RULE + CALL-ROW
+
+-- the node whose row is at a place has a call for two bytes of the longest rule at most
+pub record FewCalls (rule tree : List ℕ) (at : ℕ) : Type 0 where
+  pub few : 2 * dotCalls (childrenAt rule tree at) ≤ MAX-RULE
 
 -- the board is well formed, and the collection table has room for what it holds
 pub record Lent (image table : List ℕ) : Type 0 where

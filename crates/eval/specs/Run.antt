@@ -9,7 +9,7 @@ use Rattle.trees.specs.Parse.{parseExpr}
 use Rattle.trees.specs.Rows.{treeRows}
 use Rattle.trees.specs.Read.{Reads}
 use Rattle.trees.specs.declared.Reading.{Reading}
-use Rattle.lexer.specs.Read.{TREE-ROW}
+use Rattle.lexer.specs.Read.{MAX-RULE, TREE-ROW}
 use Rattle.meaning.specs.Value.{collectionTable}
 use Rattle.meaning.specs.Outcome as meant
 use Rattle.calls.specs.declared.value.Outcome.{Outcome}
@@ -42,4 +42,4 @@ pub record ReadRule (rule tree : List ℕ) (rows errors : ℕ) : Type 0 where
   pub errors-are : errors ≡ length (parseExpr rule .errors)
   pub front : take (TREE-ROW * rows) tree ≡ treeRows 0 0 (parseExpr rule .made)
   pub within : TREE-ROW * rows ≤ length tree
-  pub short : length rule ≤ 500
+  pub short : length rule ≤ MAX-RULE

@@ -10,6 +10,7 @@ use calls::table;
 use calls::value::Integer;
 use calls::value::Outcome;
 use calls::value::Value;
+use lexer::limits::MAX_RULE;
 use matching::search::Found;
 use predicate::node;
 use predicate::rows;
@@ -24,14 +25,14 @@ ghost use Rattle.meaning.specs.Pipeline.{evalPipeline};
 ghost use Rattle.meaning.specs.Outcome.{evalCountCompare, evalNode};
 ghost use Rattle.calls.specs.Answer.{booleanOf};
 ghost use Rattle.eval.specs.Ready.{CALL-ROW, LAST-KIND};
-ghost use Rattle.eval.specs.Pipeline.{MAX-ROWS, CALLS, Lent, Evaluates, Counts, OperatorAt, Gives, Judges};
+ghost use Rattle.eval.specs.Pipeline.{MAX-ROWS, CALLS, FewCalls, Lent, Evaluates, Counts, OperatorAt, Gives, Judges};
 
-// The room for the rows of calls: a tree has no more calls than rows, and a count may stand behind them.
-const CALLS: usize = 7012;
+// The room for the rows of calls: a rule has two bytes for each, a dot and a method's first, and a count may stand behind them.
+const CALLS: usize = MAX_RULE + ready::CALL_ROW;
 
 // `eval_node`: the first node in the root, a comparison or a pipeline.
 pub(crate) fn eval_node(rule: &[u8], image: &[u8], tree: &[u32], collection: &mut [u32]) -> Outcome
-    requires { ⌜ (length (now tree) ≤ MAX-ROWS) × Lent (now image) (now collection) ⌝ }
+    requires { ⌜ (length (now tree) ≤ MAX-ROWS) × Lent (now image) (now collection) × FewCalls (now rule) (now tree) 0 ⌝ }
     ensures { λ r. ⌜ Evaluates (evalNode (now (image .entry)) (childrenAt (now (rule .entry)) (now (tree .entry)) 0)) (now (collection .entry)) (now (collection .exit)) r ⌝ }
 {
     let found = node::first_child(tree, 0);
@@ -54,7 +55,7 @@ fn eval_pipeline(
     calls: &mut [u32],
     collection: &mut [u32],
 ) -> Outcome
-    requires { ⌜ (at + ROW ≤ length (now tree)) × (length (now tree) ≤ MAX-ROWS) × (CALLS ≤ length (now calls)) × Lent (now image) (now collection) ⌝ }
+    requires { ⌜ (at + ROW ≤ length (now tree)) × (length (now tree) ≤ MAX-ROWS) × (CALLS ≤ length (now calls)) × Lent (now image) (now collection) × FewCalls (now rule) (now tree) at ⌝ }
     ensures { λ r. ⌜ Evaluates (evalPipeline (now (image .entry)) (childrenAt (now (rule .entry)) (now (tree .entry)) at)) (now (collection .entry)) (now (collection .exit)) r ⌝ }
 {
     match ready::plan(rule, tree, at, calls) {
@@ -81,7 +82,7 @@ fn eval_count_compare(
     calls: &mut [u32],
     collection: &mut [u32],
 ) -> Outcome
-    requires { ⌜ (at + ROW ≤ length (now tree)) × (length (now tree) ≤ MAX-ROWS) × (CALLS ≤ length (now calls)) × Lent (now image) (now collection) ⌝ }
+    requires { ⌜ (at + ROW ≤ length (now tree)) × (length (now tree) ≤ MAX-ROWS) × (CALLS ≤ length (now calls)) × Lent (now image) (now collection) × FewCalls (now rule) (now tree) at ⌝ }
     ensures { λ r. ⌜ Evaluates (evalCountCompare (now (image .entry)) (childrenAt (now (rule .entry)) (now (tree .entry)) at)) (now (collection .entry)) (now (collection .exit)) r ⌝ }
 {
     let found = node::first_child(tree, at);

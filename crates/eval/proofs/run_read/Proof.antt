@@ -1,5 +1,5 @@
 -- `run_read` refuses parse errors, and goes on with the rows of the tree. Assumes nothing.
-use Rattle.eval.proofs.RunLaws.{read-errors, read-part, read-short, read-given}
+use Rattle.eval.proofs.RunLaws.{read-errors, read-part, read-short, read-few, read-given}
 use denote.Ref.{now}
 use borrow.Author.Needs.{needs}
 use Rattle.eval.proofs.run_read.Statement.{statement}
@@ -15,7 +15,7 @@ slice-aggregate-eval-node : tie.Need-slice-aggregate-eval-node
 slice-aggregate-eval-node c = read-part (c .before .before .before .before .before .before .pre .0) (now (c .before .before .before .before .before .before .args .image))
 
 eval-node-requires : tie.Need-eval-node-requires
-eval-node-requires c κs = (read-short (c .before .before .before .before .before .before .before .pre .0) (now (c .before .before .before .before .before .before .before .args .image)), c .before .before .before .before .before .before .before .pre .1)
+eval-node-requires c κs = (read-short (c .before .before .before .before .before .before .before .pre .0) (now (c .before .before .before .before .before .before .before .args .image)), c .before .before .before .before .before .before .before .pre .1, read-few (c .before .before .before .before .before .before .before .pre .0) (now (c .before .before .before .before .before .before .before .args .image)) (c .before .before .if1 .left))
 
 same-length : tie.Need-same-length
 same-length c = search needs

@@ -1,5 +1,5 @@
 -- `eval_node` goes by the kind of the first node in the root. Assumes nothing.
-use Rattle.eval.proofs.PipelineLaws.{node-empty, node-compare, node-pipeline}
+use Rattle.eval.proofs.PipelineLaws.{inner-few, node-empty, node-compare, node-pipeline}
 use Rattle.eval.proofs.PlanLaws.{source-at}
 use native.Mathlib.Omega.{arith}
 use denote.Ref.{now}
@@ -29,7 +29,7 @@ slice-aggregate-eval-count-compare : tie.Need-slice-aggregate-eval-count-compare
 slice-aggregate-eval-count-compare c = search needs
 
 eval-count-compare-requires : tie.Need-eval-count-compare-requires
-eval-count-compare-requires c κs = ((source-at (now (c .before .before .before .before .before .before .before .before .before .before .before .before .args .rule)) (now (c .before .before .before .before .before .before .before .before .before .before .before .before .args .tree)) 0 (c .before .before .before .before .before .before .before .first-child .ensures) (c .before .before .before .before .before .found .given .1)) .whole, c .before .before .before .before .before .before .before .before .before .before .before .before .pre .0, omega arith, c .before .before .before .before .before .before .before .before .before .before .before .before .pre .1)
+eval-count-compare-requires c κs = ((source-at (now (c .before .before .before .before .before .before .before .before .before .before .before .before .args .rule)) (now (c .before .before .before .before .before .before .before .before .before .before .before .before .args .tree)) 0 (c .before .before .before .before .before .before .before .first-child .ensures) (c .before .before .before .before .before .found .given .1)) .whole, c .before .before .before .before .before .before .before .before .before .before .before .before .pre .0, omega arith, c .before .before .before .before .before .before .before .before .before .before .before .before .pre .1, inner-few (c .before .before .before .before .before .before .before .before .before .before .before .before .pre .2) (source-at (now (c .before .before .before .before .before .before .before .before .before .before .before .before .args .rule)) (now (c .before .before .before .before .before .before .before .before .before .before .before .before .args .tree)) 0 (c .before .before .before .before .before .before .before .first-child .ensures) (c .before .before .before .before .before .found .given .1)))
 
 same-length : tie.Need-same-length
 same-length c = search needs
@@ -41,7 +41,7 @@ slice-aggregate-eval-pipeline : tie.Need-slice-aggregate-eval-pipeline
 slice-aggregate-eval-pipeline c = search needs
 
 eval-pipeline-requires : tie.Need-eval-pipeline-requires
-eval-pipeline-requires c κs = ((source-at (now (c .before .before .before .before .before .before .before .before .before .before .before .before .args .rule)) (now (c .before .before .before .before .before .before .before .before .before .before .before .before .args .tree)) 0 (c .before .before .before .before .before .before .before .first-child .ensures) (c .before .before .before .before .before .found .given .1)) .whole, c .before .before .before .before .before .before .before .before .before .before .before .before .pre .0, omega arith, c .before .before .before .before .before .before .before .before .before .before .before .before .pre .1)
+eval-pipeline-requires c κs = ((source-at (now (c .before .before .before .before .before .before .before .before .before .before .before .before .args .rule)) (now (c .before .before .before .before .before .before .before .before .before .before .before .before .args .tree)) 0 (c .before .before .before .before .before .before .before .first-child .ensures) (c .before .before .before .before .before .found .given .1)) .whole, c .before .before .before .before .before .before .before .before .before .before .before .before .pre .0, omega arith, c .before .before .before .before .before .before .before .before .before .before .before .before .pre .1, inner-few (c .before .before .before .before .before .before .before .before .before .before .before .before .pre .2) (source-at (now (c .before .before .before .before .before .before .before .before .before .before .before .before .args .rule)) (now (c .before .before .before .before .before .before .before .before .before .before .before .before .args .tree)) 0 (c .before .before .before .before .before .before .before .first-child .ensures) (c .before .before .before .before .before .found .given .1)))
 
 same-length-2 : tie.Need-same-length-2
 same-length-2 c = search needs

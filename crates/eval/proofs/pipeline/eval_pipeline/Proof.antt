@@ -10,7 +10,7 @@ use Rattle.eval.proofs.pipeline.eval_pipeline.Statement.{statement}
 use Rattle.eval.proofs.pipeline.eval_pipeline.Tie as tie
 
 plan-requires : tie.Need-plan-requires
-plan-requires c κs = (c .before .before .before .before .before .before .pre .0, omega (arith, c .before .before .before .before .before .before .pre .1), omega (arith, calls-room (now (c .before .before .before .before .before .before .args .rule)) (now (c .before .before .before .before .before .before .args .tree)) (now (c .before .before .before .before .before .before .args .calls)) (c .before .before .before .before .before .before .args .at) (c .before .before .before .before .before .before .pre .1) (c .before .before .before .before .before .before .pre .2)))
+plan-requires c κs = (c .before .before .before .before .before .before .pre .0, omega (arith, c .before .before .before .before .before .before .pre .1), omega (arith, calls-room (now (c .before .before .before .before .before .before .args .rule)) (now (c .before .before .before .before .before .before .args .tree)) (now (c .before .before .before .before .before .before .args .calls)) (c .before .before .before .before .before .before .args .at) (c .before .before .before .before .before .before .pre .4) (c .before .before .before .before .before .before .pre .2)))
 
 enum-known-r : tie.Need-enum-known-r
 enum-known-r c = search needs
@@ -19,7 +19,7 @@ enum-known-source : tie.Need-enum-known-source
 enum-known-source c = search needs
 
 mul-end : tie.Need-mul-end
-mul-end c = omega (arith, (subst (Plans _ _ _ _) (c .before .source .given .1) (c .before .before .before .before .before .plan .ensures)) .holds .number, calls-room (now (c .before .before .before .before .before .before .before .before .before .before .before .before .args .rule)) (now (c .before .before .before .before .before .before .before .before .before .before .before .before .args .tree)) (now (c .before .before .before .before .before .before .before .before .before .before .before .before .args .calls)) (c .before .before .before .before .before .before .before .before .before .before .before .before .args .at) (c .before .before .before .before .before .before .before .before .before .before .before .before .pre .1) (c .before .before .before .before .before .before .before .before .before .before .before .before .pre .2))
+mul-end c = omega (arith, (subst (Plans _ _ _ _) (c .before .source .given .1) (c .before .before .before .before .before .plan .ensures)) .holds .number, calls-room (now (c .before .before .before .before .before .before .before .before .before .before .before .before .args .rule)) (now (c .before .before .before .before .before .before .before .before .before .before .before .before .args .tree)) (now (c .before .before .before .before .before .before .before .before .before .before .before .before .args .calls)) (c .before .before .before .before .before .before .before .before .before .before .before .before .args .at) (c .before .before .before .before .before .before .before .before .before .before .before .before .pre .4) (c .before .before .before .before .before .before .before .before .before .before .before .before .pre .2))
 
 slice-reshare-prefix-walk : tie.Need-slice-reshare-prefix-walk
 slice-reshare-prefix-walk c = (subst (Plans _ _ _ _) (c .before .source .given .1) (c .before .before .before .before .before .plan .ensures)) .holds .room
