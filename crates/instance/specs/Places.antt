@@ -20,7 +20,7 @@ SECOND = 4
 abbrev pub THIRD : ℕ
 THIRD = 8
 
--- more than any place of a record: an offset and a section's bytes are below 2 ^ 32 each
+-- more than any place of a record: an offset and a number of records are below 2 ^ 32 each
 abbrev pub PLACES : ℕ
 PLACES = 0x1000000000
 

@@ -9,11 +9,12 @@ use native.Mathlib.Omega.{arith}
 use native.Mathlib.Nat.{le-of-suc-le-suc}
 use borrow.Author.Tests.{eq-eqb, ne-eqb}
 use lib.Dec.{eqb}
-use lib.ListN.{length, drop, getD, drop-of-length-le}
+use lib.ListN.{length, drop, getD, drop-of-length-le, length-drop}
 use Rattle.syntax.proofs.BoolLaws.{both}
 use Rattle.syntax.proofs.TextLaws.{from}
 use Rattle.matching.specs.declared.search.Found.{Found}
 use Rattle.matching.specs.Search.{startsWith, findFrom, find, contains}
+use Rattle.matching.specs.SearchScan.{Passed}
 
 -- a text at least as long as a part begins with i bytes of it: what is left of both decides
 pub record Starting (part text : List ℕ) (i : ℕ) : Type 0 where
@@ -61,9 +62,12 @@ found-later : (part : List ℕ) (n y : ℕ) (text : List ℕ) → startsWith par
 unfolding findFrom
 found-later part n y text e = rw (e, findFrom)
 
-found-never : (part : List ℕ) (n : ℕ) → startsWith part [] ≡ false → findFrom part n [] ≡ Found.Absent
+-- a part longer than what is left is found nowhere
+found-nowhere : (part : List ℕ) (n : ℕ) (text : List ℕ) → length text < length part → findFrom part n text ≡ Found.Absent
 unfolding findFrom
-found-never part n e = rw (e, findFrom)
+found-nowhere part n [] h = rw (starting-short part [] h, findFrom)
+found-nowhere part n (y ∷ text) h =
+    found-later part n y text (starting-short part (y ∷ text) h) ∙ found-nowhere part (suc n) text (omega arith)
 
 -- a part stands at no place before `at`: it is where it is in the text from there on
 pub record Seeking (part text : List ℕ) (at : ℕ) : Type 0 where
@@ -83,8 +87,24 @@ module _ {part text : List ℕ} {at : ℕ} (c : Seeking part text at) where
       on : findFrom part at (drop at text) ≡ findFrom part (at + 1) (drop (at + 1) text)
       on = rw (from text at h, add-one at) (found-later part at (getD text at 0) (drop (suc at) text) (rw (from text at h, add-one at) at e))
 
-  pub seeking-absent : length text ≤ at → 0 < length part → Found.Absent ≡ find part text
-  seeking-absent h k = sym (rw (drop-of-length-le text h) (found-never part at (starting-short part [] k))) ∙ c .rest
+  pub seeking-absent : length text < at + length part → 0 < length part → Found.Absent ≡ find part text
+  seeking-absent h k = sym (found-nowhere part at (drop at text) (rw length-drop (omega arith))) ∙ c .rest
+
+-- a part does not stand where its first byte does not, so such places may be passed over
+starting-unlike : (part text : List ℕ) (at : ℕ) → 0 < length part → at < length text → (getD text at 0 ≡ getD part 0 0 → ⊥)
+    → startsWith part (drop at text) ≡ false
+unfolding startsWith
+starting-unlike [] text at k h e = absurd (omega arith)
+starting-unlike (x ∷ part) text at k h e = rw (from text at h, ne-eqb x (getD text at 0) (λ d. e (sym d)))
+
+pub seeking-over : {part text : List ℕ} {first at : ℕ} → 0 < length part → Seeking part text first → Passed text (getD part 0 0) first at
+    → Seeking part text at
+seeking-over k s Passed.none = s
+seeking-over {part} {text} k s (Passed.past {at} p h e) = seeking-on (seeking-over k s p) h (starting-unlike part text at k h e)
+
+pub passed-onward : {text : List ℕ} {byte first at : ℕ} → Passed text byte first at → first ≤ at
+passed-onward Passed.none = omega arith
+passed-onward (Passed.past p h e) = omega (arith, passed-onward p)
 
 -- a part that has a place, and one that has none
 module _ {found : Found} (part text : List ℕ) (e : found ≡ find part text) where

@@ -1,9 +1,9 @@
 -- `search::starts_with` gives `startsWith` of the text from a place on, by the laws of the two compared byte by byte. Assumes nothing.
-use mathlib.Core.Path.{sym}
 use Prim.Native.Nat.{_-_}
+use native.Mathlib.Omega.{arith}
 use lib.ListN.{length, drop, length-drop}
 use lib.Seq.{getD-drop}
-use Rattle.matching.proofs.SearchLaws.{Starting, starting-start, starting-goes, starting-stops, starting-ends, starting-short}
+use Rattle.matching.proofs.SearchLaws.{Starting, starting-start, starting-goes, starting-stops, starting-ends}
 use borrow.Author.Needs.{needs}
 use Rattle.matching.proofs.search.starts_with.Statement.{statement}
 use Rattle.matching.proofs.search.starts_with.Tie as tie
@@ -14,26 +14,20 @@ Inv-loop text at part i₀ i = Starting part (drop at text) i
 abbrev μ-loop : tie.MeasureT-loop
 μ-loop text at part i₀ i = length part - i
 
-sub-if1 : tie.Need-sub-if1 Inv-loop μ-loop
-sub-if1 c = search needs
+loop-holds : tie.Need-loop-holds Inv-loop μ-loop
+loop-holds c = starting-start (simp length-drop (omega arith))
+
+add-if1 : tie.Need-add-if1 Inv-loop μ-loop
+add-if1 c = search needs
+
+shared-slice-read-if1 : tie.Need-shared-slice-read-if1 Inv-loop μ-loop
+shared-slice-read-if1 c = search needs
+
+shared-slice-read-if1-2 : tie.Need-shared-slice-read-if1-2 Inv-loop μ-loop
+shared-slice-read-if1-2 c = search needs
 
 returns : tie.Need-returns Inv-loop μ-loop
-returns c = sym (starting-short _ _ (simp length-drop (c .if1 .taken)))
-
-loop-holds : tie.Need-loop-holds Inv-loop μ-loop
-loop-holds c = starting-start (simp length-drop (c .if1 .left))
-
-add-if2 : tie.Need-add-if2 Inv-loop μ-loop
-add-if2 c = search needs
-
-shared-slice-read-if2 : tie.Need-shared-slice-read-if2 Inv-loop μ-loop
-shared-slice-read-if2 c = search needs
-
-shared-slice-read-if2-2 : tie.Need-shared-slice-read-if2-2 Inv-loop μ-loop
-shared-slice-read-if2-2 c = search needs
-
-returns-2 : tie.Need-returns-2 Inv-loop μ-loop
-returns-2 c = starting-stops (c .before .before .before .before .loop .inv) (c .before .before .before .loop-test .taken) (rw getD-drop (c .if2 .taken))
+returns c = starting-stops (c .before .before .before .before .loop .inv) (c .before .before .before .loop-test .taken) (rw getD-drop (c .if1 .taken))
 
 add-i : tie.Need-add-i Inv-loop μ-loop
 add-i c = search needs
@@ -42,10 +36,10 @@ loop-less : tie.Need-loop-less Inv-loop μ-loop
 loop-less c = search needs
 
 loop-again : tie.Need-loop-again Inv-loop μ-loop
-loop-again c = starting-goes (c .before .before .before .before .loop .inv) (c .before .before .before .loop-test .taken) (rw getD-drop (c .if2 .left))
+loop-again c = starting-goes (c .before .before .before .before .loop .inv) (c .before .before .before .loop-test .taken) (rw getD-drop (c .if1 .left))
 
-returns-3 : tie.Need-returns-3 Inv-loop μ-loop
-returns-3 c = starting-ends (c .before .loop .inv) (c .loop-test .left)
+returns-2 : tie.Need-returns-2 Inv-loop μ-loop
+returns-2 c = starting-ends (c .before .loop .inv) (c .loop-test .left)
 
 pub starts-with-spec : {M : Type 1} → statement M
 starts-with-spec =
@@ -53,14 +47,12 @@ starts-with-spec =
     (tie.spec
     Inv-loop
     μ-loop
-    sub-if1
-    returns
     loop-holds
-    add-if2
-    shared-slice-read-if2
-    shared-slice-read-if2-2
-    returns-2
+    add-if1
+    shared-slice-read-if1
+    shared-slice-read-if1-2
+    returns
     add-i
     loop-less
     loop-again
-    returns-3)
+    returns-2)
