@@ -15,12 +15,12 @@ use Rattle.predicate.specs.Rows.{childrenAt}
 use Rattle.profile.specs.declared.Profile.the-variants.{Number}
 use Rattle.profile.specs.Profile.{PROFILES, profileOf, asksMore, mentionsBelow}
 use Rattle.profile.proofs.ProfileLaws.{profile-small, alike, mentions-rows}
-use Rattle.eval.specs.Memo.{known, argsOf, byteOf, Notes, Asked, Noted}
+use Rattle.eval.specs.Memo.{NOT-KNOWN, known, argsOf, byteOf, Notes, Asked, Noted}
 
--- no truth is known by a byte 0
-zero-unknown : (value : Bool) → 0 ≡ known value → ⊥
-zero-unknown true e = omega arith
-zero-unknown false e = omega arith
+-- a byte that says nothing makes no truth known
+not-known : (value : Bool) → NOT-KNOWN ≡ known value → ⊥
+not-known true e = omega arith
+not-known false e = omega arith
 
 -- nothing is noted in a memo of zeros
 zeros : (n i : ℕ) → _≡_ {A = ℕ} (getD (replicate n 0) i 0) 0
@@ -29,7 +29,7 @@ zeros (suc n) zero = refl
 zeros (suc n) (suc i) = zeros n i
 
 pub notes-none : (rule image tree calls : List ℕ) (n : ℕ) → Notes rule image tree calls (replicate n 0)
-notes-none rule image tree calls n = record { noted = λ i k m value p e. absurd (zero-unknown value (sym (zeros n (PROFILES * i + k)) ∙ e)) }
+notes-none rule image tree calls n = record { noted = λ i k m value p e. absurd (not-known value (sym (zeros n (PROFILES * i + k)) ∙ e)) }
 
 -- a byte that makes a truth known says that the predicate asks for no more, and the truth
 made : (more r value : Bool) → byteOf more r ≡ known value → (more ≡ false) × (r ≡ value)
