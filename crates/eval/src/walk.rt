@@ -1,5 +1,5 @@
 // Members sent through the calls of a pipeline, one source member at a time: each `where`, then its features, each further `where`. No
-// collection but the last is kept.
+// collection but the last is kept, and no member is sent after one that decides a quantifier.
 use crate::ready;
 use board::image;
 use board::image::Section;
@@ -26,7 +26,7 @@ ghost use Rattle.meaning.specs.Pipeline.{isOfAnalysis};
 ghost use Rattle.meaning.specs.Walk.{isLast};
 ghost use Rattle.calls.specs.Table.{methodAt};
 ghost use Rattle.eval.specs.Ready.{CALL-ROW, callsIn, callsFrom, sourceMembers};
-ghost use Rattle.eval.specs.Feed.{stateOf, begin, fed, Fits, Arrives, walked};
+ghost use Rattle.eval.specs.Feed.{stateOf, begin, fed, decided, Decides, Fits, Stands, Arrives, walked};
 
 // The numbers of a row of the collection table.
 const COLLECTION_ROW: usize = 2;
@@ -37,24 +37,26 @@ pub(crate) struct Tally {
     pub passed: usize,
 }
 
-// Sends all members of a source through the calls, into a collection table whose rows become 0 first.
+// Sends the members of a source through the calls, into a collection table whose rows become 0 first: all of them, or as many as decide
+// the quantifier whose number is `last`.
 pub(crate) fn walk(
     rule: &[u8],
     image: &[u8],
     tree: &[u32],
     source: usize,
     calls: &[u32],
+    last: usize,
     collection: &mut [u32],
 ) -> Tally
-    requires { ⌜ (source + ROW ≤ length (now tree)) × WellFormed (now image) × Room (now image) (length (now collection)) ⌝ }
-    ensures { λ r. ⌜ stateOf r (now (collection .exit)) ≡ walked (now (image .entry)) (callsIn (now (rule .entry)) (now (tree .entry)) (now (calls .entry))) (sourceMembers (now (image .entry)) (kindAt (now (tree .entry)) source) (childrenAt (now (rule .entry)) (now (tree .entry)) source)) (now (collection .entry)) ⌝ }
+    requires { ⌜ (source + ROW ≤ length (now tree)) × WellFormed (now image) × Room (now image) (length (now collection)) × Decides (methodAt last) (callsIn (now rule) (now tree) (now calls)) ⌝ }
+    ensures { λ r. ⌜ Stands (methodAt last) (stateOf r (now (collection .exit))) (walked (now (image .entry)) (callsIn (now (rule .entry)) (now (tree .entry)) (now (calls .entry))) (sourceMembers (now (image .entry)) (kindAt (now (tree .entry)) source) (childrenAt (now (rule .entry)) (now (tree .entry)) source)) (now (collection .entry))) ⌝ }
 {
     clear(collection);
     if tree[source] == kind::IDENT_EXPR {
-        return feed_components(rule, image, tree, calls, collection);
+        return feed_components(rule, image, tree, calls, last, collection);
     }
     let name = node::find_string_literal(rule, tree, source);
-    feed_diagnostics(rule, image, tree, name, calls, collection)
+    feed_diagnostics(rule, image, tree, name, calls, last, collection)
 }
 
 // Sets all whole rows of the collection table to 0.
@@ -69,16 +71,29 @@ fn clear(collection: &mut [u32])
     }
 }
 
+// Whether the quantifier with this number is decided, whoever else arrives.
+fn is_decided(last: usize, tally: Tally) -> bool
+    ensures { λ r. ⌜ r ≡ decided (methodAt last) (tally .arrived) (tally .passed) ⌝ }
+{
+    match last {
+        method::ALL => tally.passed < tally.arrived,
+        method::ANY => 0 < tally.passed,
+        method::NONE => 0 < tally.passed,
+        _ => false,
+    }
+}
+
 // `components`: every component of the board.
 fn feed_components(
     rule: &[u8],
     image: &[u8],
     tree: &[u32],
     calls: &[u32],
+    last: usize,
     collection: &mut [u32],
 ) -> Tally
-    requires { ⌜ Fits (now image) (callsFrom (now rule) (now tree) (now calls) 0) (map Member.Component (upFrom 0 (componentCount (now image)))) (begin (now collection)) ⌝ }
-    ensures { λ r. ⌜ stateOf r (now (collection .exit)) ≡ fed (now (image .entry)) (callsFrom (now (rule .entry)) (now (tree .entry)) (now (calls .entry)) 0) (map Member.Component (upFrom 0 (componentCount (now (image .entry))))) (begin (now (collection .entry))) ⌝ }
+    requires { ⌜ Fits (methodAt last) (now image) (callsFrom (now rule) (now tree) (now calls) 0) (map Member.Component (upFrom 0 (componentCount (now image)))) (begin (now collection)) ⌝ }
+    ensures { λ r. ⌜ Stands (methodAt last) (stateOf r (now (collection .exit))) (fed (now (image .entry)) (callsFrom (now (rule .entry)) (now (tree .entry)) (now (calls .entry)) 0) (map Member.Component (upFrom 0 (componentCount (now (image .entry))))) (begin (now (collection .entry)))) ⌝ }
 {
     let count = image::record_count(image, Section::Components);
     let mut tally = Tally {
@@ -88,7 +103,10 @@ fn feed_components(
     let mut component = 0;
     while component < count {
         let member = Member::Component(component);
-        tally = feed(rule, image, tree, calls, 0, member, collection, tally);
+        tally = feed(rule, image, tree, calls, last, 0, member, collection, tally);
+        if is_decided(last, tally) {
+            return tally;
+        }
         component += 1;
     }
     tally
@@ -101,10 +119,11 @@ fn feed_diagnostics(
     tree: &[u32],
     name: &[u8],
     calls: &[u32],
+    last: usize,
     collection: &mut [u32],
 ) -> Tally
-    requires { ⌜ Fits (now image) (callsFrom (now rule) (now tree) (now calls) 0) (kept (isOfAnalysis (now image) (now name)) (map Member.Diagnostic (upFrom 0 (diagnosticCount (now image))))) (begin (now collection)) ⌝ }
-    ensures { λ r. ⌜ stateOf r (now (collection .exit)) ≡ fed (now (image .entry)) (callsFrom (now (rule .entry)) (now (tree .entry)) (now (calls .entry)) 0) (kept (isOfAnalysis (now (image .entry)) (now (name .entry))) (map Member.Diagnostic (upFrom 0 (diagnosticCount (now (image .entry)))))) (begin (now (collection .entry))) ⌝ }
+    requires { ⌜ Fits (methodAt last) (now image) (callsFrom (now rule) (now tree) (now calls) 0) (kept (isOfAnalysis (now image) (now name)) (map Member.Diagnostic (upFrom 0 (diagnosticCount (now image))))) (begin (now collection)) ⌝ }
+    ensures { λ r. ⌜ Stands (methodAt last) (stateOf r (now (collection .exit))) (fed (now (image .entry)) (callsFrom (now (rule .entry)) (now (tree .entry)) (now (calls .entry)) 0) (kept (isOfAnalysis (now (image .entry)) (now (name .entry))) (map Member.Diagnostic (upFrom 0 (diagnosticCount (now (image .entry)))))) (begin (now (collection .entry)))) ⌝ }
 {
     let count = image::record_count(image, Section::Diagnostics);
     let mut tally = Tally {
@@ -119,10 +138,14 @@ fn feed_diagnostics(
             tree,
             name,
             calls,
+            last,
             diagnostic,
             collection,
             tally,
         );
+        if is_decided(last, tally) {
+            return tally;
+        }
         diagnostic += 1;
     }
     tally
@@ -135,16 +158,17 @@ fn feed_diagnostic(
     tree: &[u32],
     name: &[u8],
     calls: &[u32],
+    last: usize,
     diagnostic: u32,
     collection: &mut [u32],
     tally: Tally,
 ) -> Tally
-    requires { ⌜ Fits (now image) (callsFrom (now rule) (now tree) (now calls) 0) (kept (isOfAnalysis (now image) (now name)) (Member.Diagnostic diagnostic ∷ [])) (stateOf tally (now collection)) ⌝ }
-    ensures { λ r. ⌜ stateOf r (now (collection .exit)) ≡ fed (now (image .entry)) (callsFrom (now (rule .entry)) (now (tree .entry)) (now (calls .entry)) 0) (kept (isOfAnalysis (now (image .entry)) (now (name .entry))) (Member.Diagnostic diagnostic ∷ [])) (stateOf tally (now (collection .entry))) ⌝ }
+    requires { ⌜ Fits (methodAt last) (now image) (callsFrom (now rule) (now tree) (now calls) 0) (kept (isOfAnalysis (now image) (now name)) (Member.Diagnostic diagnostic ∷ [])) (stateOf tally (now collection)) ⌝ }
+    ensures { λ r. ⌜ Stands (methodAt last) (stateOf r (now (collection .exit))) (fed (now (image .entry)) (callsFrom (now (rule .entry)) (now (tree .entry)) (now (calls .entry)) 0) (kept (isOfAnalysis (now (image .entry)) (now (name .entry))) (Member.Diagnostic diagnostic ∷ [])) (stateOf tally (now (collection .entry)))) ⌝ }
 {
     if is_of_analysis(image, name, diagnostic) {
         let member = Member::Diagnostic(diagnostic);
-        return feed(rule, image, tree, calls, 0, member, collection, tally);
+        return feed(rule, image, tree, calls, last, 0, member, collection, tally);
     }
     tally
 }
@@ -162,13 +186,14 @@ fn feed(
     image: &[u8],
     tree: &[u32],
     calls: &[u32],
+    last: usize,
     i: usize,
     member: Member,
     collection: &mut [u32],
     tally: Tally,
 ) -> Tally
-    requires { ⌜ Fits (now image) (callsFrom (now rule) (now tree) (now calls) (CALL-ROW * i)) (member ∷ []) (stateOf tally (now collection)) ⌝ }
-    ensures { λ r. ⌜ stateOf r (now (collection .exit)) ≡ fed (now (image .entry)) (callsFrom (now (rule .entry)) (now (tree .entry)) (now (calls .entry)) (CALL-ROW * i)) (member ∷ []) (stateOf tally (now (collection .entry))) ⌝ }
+    requires { ⌜ Fits (methodAt last) (now image) (callsFrom (now rule) (now tree) (now calls) (CALL-ROW * i)) (member ∷ []) (stateOf tally (now collection)) ⌝ }
+    ensures { λ r. ⌜ Stands (methodAt last) (stateOf r (now (collection .exit))) (fed (now (image .entry)) (callsFrom (now (rule .entry)) (now (tree .entry)) (now (calls .entry)) (CALL-ROW * i)) (member ∷ []) (stateOf tally (now (collection .entry)))) ⌝ }
 {
     if calls.len() / ready::CALL_ROW <= i {
         put_member(collection, tally.arrived, member);
@@ -181,7 +206,17 @@ fn feed(
     let args = calls[ready::CALL_ROW * i + 1] as usize;
     if method == method::WHERE {
         if predicate::eval_args(rule, image, tree, member, args) {
-            return feed(rule, image, tree, calls, i + 1, member, collection, tally);
+            return feed(
+                rule,
+                image,
+                tree,
+                calls,
+                last,
+                i + 1,
+                member,
+                collection,
+                tally,
+            );
         }
         return tally;
     }
@@ -192,6 +227,7 @@ fn feed(
                 image,
                 tree,
                 calls,
+                last,
                 i + 1,
                 component,
                 collection,
@@ -202,7 +238,17 @@ fn feed(
         };
     }
     if method::FEATURES < method {
-        return feed(rule, image, tree, calls, i + 1, member, collection, tally);
+        return feed(
+            rule,
+            image,
+            tree,
+            calls,
+            last,
+            i + 1,
+            member,
+            collection,
+            tally,
+        );
     }
     arrive(rule, image, tree, method, args, member, tally)
 }
@@ -213,20 +259,24 @@ fn feed_features(
     image: &[u8],
     tree: &[u32],
     calls: &[u32],
+    last: usize,
     i: usize,
     component: u32,
     collection: &mut [u32],
     tally: Tally,
 ) -> Tally
-    requires { ⌜ Fits (now image) (callsFrom (now rule) (now tree) (now calls) (CALL-ROW * i)) (featuresOf (now image) component) (stateOf tally (now collection)) ⌝ }
-    ensures { λ r. ⌜ stateOf r (now (collection .exit)) ≡ fed (now (image .entry)) (callsFrom (now (rule .entry)) (now (tree .entry)) (now (calls .entry)) (CALL-ROW * i)) (featuresOf (now (image .entry)) component) (stateOf tally (now (collection .entry))) ⌝ }
+    requires { ⌜ Fits (methodAt last) (now image) (callsFrom (now rule) (now tree) (now calls) (CALL-ROW * i)) (featuresOf (now image) component) (stateOf tally (now collection)) ⌝ }
+    ensures { λ r. ⌜ Stands (methodAt last) (stateOf r (now (collection .exit))) (fed (now (image .entry)) (callsFrom (now (rule .entry)) (now (tree .entry)) (now (calls .entry)) (CALL-ROW * i)) (featuresOf (now (image .entry)) component) (stateOf tally (now (collection .entry)))) ⌝ }
 {
     let end = instance::features_end(image, component);
     let mut feature = image::field(image, Section::Components, component, image::FIRST_FEATURE);
     let mut tally = tally;
     while feature < end {
         let member = Member::Feature(component, feature);
-        tally = feed(rule, image, tree, calls, i, member, collection, tally);
+        tally = feed(rule, image, tree, calls, last, i, member, collection, tally);
+        if is_decided(last, tally) {
+            return tally;
+        }
         feature += 1;
     }
     tally

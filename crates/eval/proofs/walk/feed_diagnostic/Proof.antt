@@ -1,5 +1,5 @@
 -- `feed_diagnostic` sends one that is of the analysis. Assumes nothing.
-use Rattle.eval.proofs.FeedLaws.{fed-alike, fed-lost, fits-alike, kept-one, kept-none}
+use Rattle.eval.proofs.FeedLaws.{fed-lost, fits-alike, stands-fed, stands-alike, kept-one, kept-none}
 use Rattle.eval.specs.Feed.{stateOf}
 use Rattle.eval.specs.Ready.{callsFrom}
 use Rattle.meaning.specs.Pipeline.{isOfAnalysis}
@@ -20,10 +20,10 @@ same-length : tie.Need-same-length
 same-length c = search needs
 
 returns : tie.Need-returns
-returns c = c .before .before .feed .ensures ∙ fed-alike (stateOf (c .before .before .before .before .before .before .before .before .before .before .before .before .args .tally) (now (c .before .before .before .before .before .before .before .before .before .before .before .before .args .collection))) (kept-one (now (c .before .before .before .before .before .before .before .before .before .before .before .before .args .image)) (callsFrom (now (c .before .before .before .before .before .before .before .before .before .before .before .before .args .rule)) (now (c .before .before .before .before .before .before .before .before .before .before .before .before .args .tree)) (now (c .before .before .before .before .before .before .before .before .before .before .before .before .args .calls)) 0) (isOfAnalysis (now (c .before .before .before .before .before .before .before .before .before .before .before .before .args .image)) (now (c .before .before .before .before .before .before .before .before .before .before .before .before .args .name))) (Diagnostic (c .before .before .before .before .before .before .before .before .before .before .before .before .args .diagnostic)) (sym (c .before .before .before .before .before .is-of-analysis .ensures) ∙ c .before .before .before .before .if1 .taken))
+returns c = stands-alike (stateOf (c .before .before .before .before .before .before .before .before .before .before .before .before .args .tally) (now (c .before .before .before .before .before .before .before .before .before .before .before .before .args .collection))) (kept-one (now (c .before .before .before .before .before .before .before .before .before .before .before .before .args .image)) (callsFrom (now (c .before .before .before .before .before .before .before .before .before .before .before .before .args .rule)) (now (c .before .before .before .before .before .before .before .before .before .before .before .before .args .tree)) (now (c .before .before .before .before .before .before .before .before .before .before .before .before .args .calls)) 0) (isOfAnalysis (now (c .before .before .before .before .before .before .before .before .before .before .before .before .args .image)) (now (c .before .before .before .before .before .before .before .before .before .before .before .before .args .name))) (Diagnostic (c .before .before .before .before .before .before .before .before .before .before .before .before .args .diagnostic)) (sym (c .before .before .before .before .before .is-of-analysis .ensures) ∙ c .before .before .before .before .if1 .taken)) (c .before .before .feed .ensures)
 
 returns-2 : tie.Need-returns-2
-returns-2 c = fed-lost (stateOf (c .before .before .before .before .before .before .before .before .args .tally) (now (c .before .before .before .before .before .before .before .before .args .collection))) (kept-none (now (c .before .before .before .before .before .before .before .before .args .image)) (callsFrom (now (c .before .before .before .before .before .before .before .before .args .rule)) (now (c .before .before .before .before .before .before .before .before .args .tree)) (now (c .before .before .before .before .before .before .before .before .args .calls)) 0) (isOfAnalysis (now (c .before .before .before .before .before .before .before .before .args .image)) (now (c .before .before .before .before .before .before .before .before .args .name))) (Diagnostic (c .before .before .before .before .before .before .before .before .args .diagnostic)) (sym (c .before .is-of-analysis .ensures) ∙ c .if1 .left))
+returns-2 c = stands-fed (c .before .before .before .before .before .before .before .before .pre) (fed-lost (stateOf (c .before .before .before .before .before .before .before .before .args .tally) (now (c .before .before .before .before .before .before .before .before .args .collection))) (kept-none (now (c .before .before .before .before .before .before .before .before .args .image)) (callsFrom (now (c .before .before .before .before .before .before .before .before .args .rule)) (now (c .before .before .before .before .before .before .before .before .args .tree)) (now (c .before .before .before .before .before .before .before .before .args .calls)) 0) (isOfAnalysis (now (c .before .before .before .before .before .before .before .before .args .image)) (now (c .before .before .before .before .before .before .before .before .args .name))) (Diagnostic (c .before .before .before .before .before .before .before .before .args .diagnostic)) (sym (c .before .is-of-analysis .ensures) ∙ c .if1 .left)))
 
 pub feed-diagnostic-spec : {M : Type 1} → statement M
 feed-diagnostic-spec =
