@@ -13,20 +13,23 @@ use borrow.Author.Tests.{ltb-true, lt-ltb, ne-eqb}
 use Rattle.syntax.proofs.BoolLaws.{whether}
 use Rattle.syntax.proofs.TableLaws.{sets-append}
 use Rattle.board.specs.Check.{COLLECTION-ROW}
-use Rattle.board.specs.Image.{firstFeature}
+use Rattle.syntax.specs.Text.{same}
+use Rattle.board.specs.Image.{firstFeature, text, analysis}
 use Rattle.instance.specs.Instance.{featuresEnd}
 use Rattle.predicate.specs.declared.atom.Member.{Member}
 use Rattle.predicate.specs.declared.atom.Member.the-variants.{Component, Feature, Diagnostic}
 use Rattle.meaning.specs.Value.{rowOf, rowsOf}
 use Rattle.meaning.specs.Calls.{Method, Where, All, Any, None, Count, Features, Diagnostics, Call, methodNumber, keep, kept, upFrom, trueFor, featuresOf}
+use Rattle.meaning.specs.Pipeline.{isOfAnalysis}
 use Rattle.meaning.specs.Walk.{isQuantifier, isLast, arrivals, lastCall, testIn, howMany}
 use Rattle.meaning.proofs.WalkLaws.{upTo, arrivals-none, arrive-end, arrive-kept, arrive-dropped, arrive-passed, arrive-component, arrive-feature, arrive-diagnostic, arrive-last, last-here, last-later, how-many-append, how-many-most, rows-append, rows-length, up-all, features-made, made-turn, made-over, kept-turn, kept-skip, kept-over}
 use Rattle.predicate.specs.Truth.{truth}
 use Rattle.predicate.specs.Rows.{childrenAt}
 use Rattle.calls.specs.Table.{methodAt}
 use Rattle.eval.specs.declared.walk.Tally.{Tally}
+use Rattle.eval.specs.declared.walk.Analysis.{Analysis}
 use Rattle.eval.specs.Ready.{CALL-ROW, callIn, callsFrom}
-use Rattle.eval.specs.Feed.{State, stateOf, listed, arrive, fed, decided, Decides, Fits, Stands, Arrives}
+use Rattle.eval.specs.Feed.{State, stateOf, listed, arrive, fed, decided, Decides, Fits, Stands, Arrives, Named, AnalysisOf}
 use Rattle.eval.proofs.ReadyLaws.{calls-at, calls-over, method-is, method-past, last-between, quantifier-of, count-no-quantifier}
 
 -- a state by its parts
@@ -315,7 +318,7 @@ features-start {last} image calls c s first end f e h =
 
 -- and of those the ones that pass a test
 module _ (image : List ℕ) (calls : List Call) (passes : Member → Bool) (make : ℕ → Member) (first end : ℕ) where
-  pub turn-kept : first < end → Parts image calls (kept passes (map make (upTo first end))) (kept passes (make first ∷ [])) (kept passes (map make (upTo (first + 1) end)))
+  turn-kept : first < end → Parts image calls (kept passes (map make (upTo first end))) (kept passes (make first ∷ [])) (kept passes (map make (upTo (first + 1) end)))
   unfolding kept
   turn-kept h =
       whether (passes (make first))
@@ -325,14 +328,27 @@ module _ (image : List ℕ) (calls : List Call) (passes : Member → Bool) (make
   pub over-kept : end ≤ first → Lost image calls (kept passes (map make (upTo first end)))
   over-kept h = record { arrivals = kept-over image calls passes make first end h }
 
--- one that passes, and one that does not
-pub kept-one : (image : List ℕ) (calls : List Call) (passes : Member → Bool) (m : Member) → passes m ≡ true → Alike image calls (kept passes (m ∷ [])) calls (m ∷ [])
-unfolding kept
-kept-one image calls passes m t = record { arrivals = rw t refl; last = refl }
+  -- by what was found of the first
+  pub turn-asked : {b : Bool} → b ≡ passes (make first) → first < end
+      → Parts image calls (kept passes (map make (upTo first end))) (keep b (make first) []) (kept passes (map make (upTo (first + 1) end)))
+  unfolding kept
+  turn-asked e h =
+      subst (λ (b : Bool). Parts image calls (kept passes (map make (upTo first end))) (keep b (make first) []) (kept passes (map make (upTo (first + 1) end)))) (sym e)
+      (turn-kept h)
 
-pub kept-none : (image : List ℕ) (calls : List Call) (passes : Member → Bool) (m : Member) → passes m ≡ false → Lost image calls (kept passes (m ∷ []))
-unfolding kept
-kept-none image calls passes m t = record { arrivals = rw t (arrivals-none image calls) }
+-- one that is kept, and one that is not
+pub keep-one : (image : List ℕ) (calls : List Call) {b : Bool} (m : Member) → b ≡ true → Alike image calls (keep b m []) calls (m ∷ [])
+keep-one image calls m t = record { arrivals = rw t refl; last = refl }
+
+pub keep-none : (image : List ℕ) (calls : List Call) {b : Bool} (m : Member) → b ≡ false → Lost image calls (keep b m [])
+keep-none image calls m t = record { arrivals = rw t (arrivals-none image calls) }
+
+-- the analysis of a diagnostic, by the number of its string
+pub analysis-of : (image name : List ℕ) (diagnostic : ℕ) {string : ℕ} {a : Analysis} → string ≡ analysis image diagnostic → a .string ≡ string → Named image name a
+    → AnalysisOf image name diagnostic a
+unfolding isOfAnalysis
+analysis-of image name diagnostic e h n =
+    record { known = n; asked = n .named-is ∙ ap (λ (s : ℕ). same (text image s) name) (h ∙ e) }
 
 -- all that are made of the numbers up to a count
 pub all-start : {last : Method} (image : List ℕ) (calls : List Call) (of : List ℕ → List Member) (s : State) (n count : ℕ) → count ≡ n

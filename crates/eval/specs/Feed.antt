@@ -8,15 +8,20 @@ use mathlib.Core.Path.{_≡_}
 use lib.Dec.{ltb}
 use lib.ListN.{length}
 use lib.Seq.{sets}
+use Rattle.syntax.specs.Text.{same}
+use Rattle.board.specs.Image.{text}
 use Rattle.board.specs.Check.{COLLECTION-ROW}
 use Rattle.predicate.specs.declared.atom.Member.{Member}
+use Rattle.predicate.specs.declared.atom.Member.the-variants.{Diagnostic}
 use Rattle.predicate.specs.Truth.{truth}
 use Rattle.predicate.specs.Rows.{childrenAt}
 use Rattle.meaning.specs.Value.{rowsOf, withMembers}
 use Rattle.meaning.specs.Calls.{Method, Where, All, Any, None, Count, Features, Diagnostics, Call}
+use Rattle.meaning.specs.Pipeline.{isOfAnalysis}
 use Rattle.meaning.specs.Walk.{isQuantifier, arrivals, lastCall, testIn, howMany}
 use Rattle.calls.specs.Table.{methodAt}
 use Rattle.eval.specs.declared.walk.Tally.{Tally}
+use Rattle.eval.specs.declared.walk.Analysis.{Analysis}
 
 -- how far members were sent: how many arrived, how many of those passed, and the collection table
 pub record State : Type 0 where
@@ -83,6 +88,15 @@ pub record Stands (last : Method) (s t : State) : Type 0 where
 pub record Arrives (rule image tree : List ℕ) (method args : ℕ) (m : Member) (t r : Tally) : Type 0 where
   pub arrived : r .arrived ≡ t .arrived + 1
   pub passed : r .passed ≡ t .passed + cond (isQuantifier (methodAt method) && truth image m (childrenAt rule tree args)) 1 0
+
+-- what is known of an analysis: whether its text is a name
+pub record Named (image name : List ℕ) (a : Analysis) : Type 0 where
+  pub named-is : a .named ≡ same (text image (a .string)) name
+
+-- and that it is the analysis of a diagnostic
+pub record AnalysisOf (image name : List ℕ) (diagnostic : ℕ) (a : Analysis) : Type 0 where
+  pub known : Named image name a
+  pub asked : a .named ≡ isOfAnalysis image name (Diagnostic diagnostic)
 
 -- all members of a source were sent, from a table that held `table`
 unfoldable pub walked : (image : List ℕ) → List Call → List Member → List ℕ → State

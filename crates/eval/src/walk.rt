@@ -21,12 +21,12 @@ ghost use Rattle.board.specs.Check.{COLLECTION-ROW};
 ghost use Rattle.board.specs.WellFormed.{WellFormed, Room};
 ghost use Rattle.predicate.specs.Rows.{ROW, kindAt, childrenAt};
 ghost use Rattle.meaning.specs.Value.{rowOf, wholeRows};
-ghost use Rattle.meaning.specs.Calls.{kept, upFrom, featuresOf};
+ghost use Rattle.meaning.specs.Calls.{keep, kept, upFrom, featuresOf};
 ghost use Rattle.meaning.specs.Pipeline.{isOfAnalysis};
 ghost use Rattle.meaning.specs.Walk.{isLast};
 ghost use Rattle.calls.specs.Table.{methodAt};
 ghost use Rattle.eval.specs.Ready.{CALL-ROW, callsIn, callsFrom, sourceMembers};
-ghost use Rattle.eval.specs.Feed.{stateOf, begin, fed, decided, Decides, Fits, Stands, Arrives, walked};
+ghost use Rattle.eval.specs.Feed.{stateOf, begin, fed, decided, Decides, Fits, Stands, Arrives, Named, AnalysisOf, walked};
 
 // The numbers of a row of the collection table.
 const COLLECTION_ROW: usize = 2;
@@ -35,6 +35,12 @@ const COLLECTION_ROW: usize = 2;
 pub(crate) struct Tally {
     pub arrived: usize,
     pub passed: usize,
+}
+
+// The number of an analysis' string, and whether its text is the name asked for.
+struct Analysis {
+    string: u32,
+    named: bool,
 }
 
 // Sends the members of a source through the calls, into a collection table whose rows become 0 first: all of them, or as many as decide
@@ -130,16 +136,18 @@ fn feed_diagnostics(
         arrived: 0,
         passed: 0,
     };
+    let mut analysis = compare_name(image, name, 0);
     let mut diagnostic = 0;
     while diagnostic < count {
+        analysis = analysis_of(image, name, diagnostic, analysis);
         tally = feed_diagnostic(
             rule,
             image,
             tree,
-            name,
             calls,
             last,
             diagnostic,
+            analysis.named,
             collection,
             tally,
         );
@@ -151,33 +159,48 @@ fn feed_diagnostics(
     tally
 }
 
-// Sends a diagnostic if it is of the analysis with this name.
+// The analysis of a diagnostic; its text is compared only where it is not the analysis known already.
+fn analysis_of(image: &[u8], name: &[u8], diagnostic: u32, known: Analysis) -> Analysis
+    requires { ⌜ Named (now image) (now name) known ⌝ }
+    ensures { λ r. ⌜ AnalysisOf (now (image .entry)) (now (name .entry)) diagnostic r ⌝ }
+{
+    let string = image::field(image, Section::Diagnostics, diagnostic, image::ANALYSIS);
+    if string == known.string {
+        return known;
+    }
+    compare_name(image, name, string)
+}
+
+// The analysis whose text is the string with this number.
+fn compare_name(image: &[u8], name: &[u8], string: u32) -> Analysis
+    ensures { λ r. ⌜ (r .string ≡ string) × Named (now (image .entry)) (now (name .entry)) r ⌝ }
+{
+    Analysis {
+        string: string,
+        named: text::same(image::string(image, string), name),
+    }
+}
+
+// Sends a diagnostic whose analysis has the name asked for.
 fn feed_diagnostic(
     rule: &[u8],
     image: &[u8],
     tree: &[u32],
-    name: &[u8],
     calls: &[u32],
     last: usize,
     diagnostic: u32,
+    named: bool,
     collection: &mut [u32],
     tally: Tally,
 ) -> Tally
-    requires { ⌜ Fits (methodAt last) (now image) (callsFrom (now rule) (now tree) (now calls) 0) (kept (isOfAnalysis (now image) (now name)) (Member.Diagnostic diagnostic ∷ [])) (stateOf tally (now collection)) ⌝ }
-    ensures { λ r. ⌜ Stands (methodAt last) (stateOf r (now (collection .exit))) (fed (now (image .entry)) (callsFrom (now (rule .entry)) (now (tree .entry)) (now (calls .entry)) 0) (kept (isOfAnalysis (now (image .entry)) (now (name .entry))) (Member.Diagnostic diagnostic ∷ [])) (stateOf tally (now (collection .entry)))) ⌝ }
+    requires { ⌜ Fits (methodAt last) (now image) (callsFrom (now rule) (now tree) (now calls) 0) (keep named (Member.Diagnostic diagnostic) []) (stateOf tally (now collection)) ⌝ }
+    ensures { λ r. ⌜ Stands (methodAt last) (stateOf r (now (collection .exit))) (fed (now (image .entry)) (callsFrom (now (rule .entry)) (now (tree .entry)) (now (calls .entry)) 0) (keep named (Member.Diagnostic diagnostic) []) (stateOf tally (now (collection .entry)))) ⌝ }
 {
-    if is_of_analysis(image, name, diagnostic) {
+    if named {
         let member = Member::Diagnostic(diagnostic);
         return feed(rule, image, tree, calls, last, 0, member, collection, tally);
     }
     tally
-}
-
-fn is_of_analysis(image: &[u8], name: &[u8], diagnostic: u32) -> bool
-    ensures { λ r. ⌜ r ≡ isOfAnalysis (now (image .entry)) (now (name .entry)) (Member.Diagnostic diagnostic) ⌝ }
-{
-    let analysis = image::field(image, Section::Diagnostics, diagnostic, image::ANALYSIS);
-    text::same(image::string(image, analysis), name)
 }
 
 // Sends one member through the calls from the i-th on.
@@ -204,6 +227,7 @@ fn feed(
     }
     let method = calls[ready::CALL_ROW * i] as usize;
     let args = calls[ready::CALL_ROW * i + 1] as usize;
+    let next = i + 1;
     if method == method::WHERE {
         if predicate::eval_args(rule, image, tree, member, args) {
             return feed(
@@ -212,7 +236,7 @@ fn feed(
                 tree,
                 calls,
                 last,
-                i + 1,
+                next,
                 member,
                 collection,
                 tally,
@@ -228,7 +252,7 @@ fn feed(
                 tree,
                 calls,
                 last,
-                i + 1,
+                next,
                 component,
                 collection,
                 tally,
@@ -244,7 +268,7 @@ fn feed(
             tree,
             calls,
             last,
-            i + 1,
+            next,
             member,
             collection,
             tally,

@@ -63,8 +63,8 @@ feed-features-calls t = (features-end-reads.Asked, features-end-reads.Learnt, fi
 feed-put-member-requires : (t : ℕ) → feed-lts.Need-put-member-requires (feed-calls t) (feed-at t) feed.Post
 feed-put-member-requires t c κs = end-room (now (c .before .before .before .before .before .before .before .args .rule)) (now (c .before .before .before .before .before .before .before .args .image)) (now (c .before .before .before .before .before .before .before .args .tree)) (now (c .before .before .before .before .before .before .before .args .calls)) (c .before .before .before .before .before .before .before .args .i) (omega (arith, c .before .if1 .taken)) (c .before .before .before .before .before .before .before .args .member) (stateOf (c .before .before .before .before .before .before .before .args .tally) (now (c .before .before .before .before .before .before .before .args .collection))) (c .before .before .before .before .before .before .before .pre .1)
 
-feed-add-t19 : (t : ℕ) → feed-lts.Need-add-t19 (feed-calls t) (feed-at t) feed.Post
-feed-add-t19 t c = omega (arith, end-room (now (c .before .before .before .before .before .before .before .before .before .before .before .args .rule)) (now (c .before .before .before .before .before .before .before .before .before .before .before .args .image)) (now (c .before .before .before .before .before .before .before .before .before .before .before .args .tree)) (now (c .before .before .before .before .before .before .before .before .before .before .before .args .calls)) (c .before .before .before .before .before .before .before .before .before .before .before .args .i) (omega (arith, c .before .before .before .before .before .if1 .taken)) (c .before .before .before .before .before .before .before .before .before .before .before .args .member) (stateOf (c .before .before .before .before .before .before .before .before .before .before .before .args .tally) (now (c .before .before .before .before .before .before .before .before .before .before .before .args .collection))) (c .before .before .before .before .before .before .before .before .before .before .before .pre .1))
+feed-add-t20 : (t : ℕ) → feed-lts.Need-add-t20 (feed-calls t) (feed-at t) feed.Post
+feed-add-t20 t c = omega (arith, end-room (now (c .before .before .before .before .before .before .before .before .before .before .before .args .rule)) (now (c .before .before .before .before .before .before .before .before .before .before .before .args .image)) (now (c .before .before .before .before .before .before .before .before .before .before .before .args .tree)) (now (c .before .before .before .before .before .before .before .before .before .before .before .args .calls)) (c .before .before .before .before .before .before .before .before .before .before .before .args .i) (omega (arith, c .before .before .before .before .before .if1 .taken)) (c .before .before .before .before .before .before .before .before .before .before .before .args .member) (stateOf (c .before .before .before .before .before .before .before .before .before .before .before .args .tally) (now (c .before .before .before .before .before .before .before .before .before .before .before .args .collection))) (c .before .before .before .before .before .before .before .before .before .before .before .pre .1))
 
 feed-same-length : (t : ℕ) → feed-lts.Need-same-length (feed-calls t) (feed-at t) feed.Post
 feed-same-length t c = search needs
@@ -99,11 +99,11 @@ feed-shared-slice-read-args t c = omega (arith, c .before .before .if1 .left)
 feed-cast-args : (t : ℕ) → feed-lts.Need-cast-args (feed-calls t) (feed-at t) feed.Post
 feed-cast-args t c = omega (arith, c .shared-slice-known6 .given (2 * c .before .before .before .before .before .before .before .before .args .i + 1))
 
+feed-add-next : (t : ℕ) → feed-lts.Need-add-next (feed-calls t) (feed-at t) feed.Post
+feed-add-next t c = omega (arith, c .before .before .if1 .left)
+
 feed-eval-args-requires : (t : ℕ) → feed-lts.Need-eval-args-requires (feed-calls t) (feed-at t) feed.Post
 feed-eval-args-requires t c κs = search needs
-
-feed-add-feed : (t : ℕ) → feed-lts.Need-add-feed (feed-calls t) (feed-at t) feed.Post
-feed-add-feed t c = omega (arith, c .before .before .before .before .before .if1 .left)
 
 feed-feed-requires : (t : ℕ) → feed-lts.Need-feed-requires (feed-calls t) (feed-at t) feed.Post
 feed-feed-requires t c κs = (omega (arith, c .before .before .before .before .before .before .before .before .before .before .before .before .pre .0, c .before .before .before .before .before .before .if1 .left), fits-alike (here-kept (now (c .before .before .before .before .before .before .before .before .before .before .before .before .args .rule)) (now (c .before .before .before .before .before .before .before .before .before .before .before .before .args .image)) (now (c .before .before .before .before .before .before .before .before .before .before .before .before .args .tree)) (now (c .before .before .before .before .before .before .before .before .before .before .before .before .args .calls)) (c .before .before .before .before .before .before .before .before .before .before .before .before .args .i) (omega (arith, c .before .before .before .before .before .before .if1 .left)) (c .before .before .before .before .before .before .before .before .before .before .before .before .args .member) (c .before .before .before .if2 .taken) (sym (c .before .before .eval-args .ensures) ∙ c .before .if3 .taken)) (c .before .before .before .before .before .before .before .before .before .before .before .before .pre .1))
@@ -119,9 +119,6 @@ feed-returns-3 t c = stands-fed (c .before .before .before .before .before .befo
 
 feed-enum-known-member : (t : ℕ) → feed-lts.Need-enum-known-member (feed-calls t) (feed-at t) feed.Post
 feed-enum-known-member t c = search needs
-
-feed-add-feed-features : (t : ℕ) → feed-lts.Need-add-feed-features (feed-calls t) (feed-at t) feed.Post
-feed-add-feed-features t c = omega (arith, c .before .before .before .before .before .before .before .if1 .left)
 
 feed-feed-features-requires : (t : ℕ) → feed-lts.Need-feed-features-requires (feed-calls t) (feed-at t) feed.Post
 feed-feed-features-requires t c κs = (omega (arith, c .before .before .before .before .before .before .before .before .before .before .before .before .before .before .pre .0, c .before .before .before .before .before .before .before .before .if1 .left), fits-alike (here-features (now (c .before .before .before .before .before .before .before .before .before .before .before .before .before .before .args .rule)) (now (c .before .before .before .before .before .before .before .before .before .before .before .before .before .before .args .image)) (now (c .before .before .before .before .before .before .before .before .before .before .before .before .before .before .args .tree)) (now (c .before .before .before .before .before .before .before .before .before .before .before .before .before .before .args .calls)) (c .before .before .before .before .before .before .before .before .before .before .before .before .before .before .args .i) (omega (arith, c .before .before .before .before .before .before .before .before .if1 .left)) (c .before .before .before .before .before .before .before .before .before .before .before .before .before .before .args .member) _ (c .before .before .before .before .if4 .taken) (c .before .before .member .given .1)) (c .before .before .before .before .before .before .before .before .before .before .before .before .before .before .pre .1))
@@ -143,9 +140,6 @@ feed-returns-5 t c = stands-fed (c .before .before .before .before .before .befo
 
 feed-returns-6 : (t : ℕ) → feed-lts.Need-returns-6 (feed-calls t) (feed-at t) feed.Post
 feed-returns-6 t c = stands-fed (c .before .before .before .before .before .before .before .before .before .before .before .before .pre .1) (fed-lost (stateOf (c .before .before .before .before .before .before .before .before .before .before .before .before .args .tally) (now (c .before .before .before .before .before .before .before .before .before .before .before .before .args .collection))) (here-diagnostic (now (c .before .before .before .before .before .before .before .before .before .before .before .before .args .rule)) (now (c .before .before .before .before .before .before .before .before .before .before .before .before .args .image)) (now (c .before .before .before .before .before .before .before .before .before .before .before .before .args .tree)) (now (c .before .before .before .before .before .before .before .before .before .before .before .before .args .calls)) (c .before .before .before .before .before .before .before .before .before .before .before .before .args .i) (omega (arith, c .before .before .before .before .before .before .if1 .left)) (c .before .before .before .before .before .before .before .before .before .before .before .before .args .member) _ (c .before .before .if4 .taken) (c .enum-told2 .given .1)))
-
-feed-add-feed-2 : (t : ℕ) → feed-lts.Need-add-feed-2 (feed-calls t) (feed-at t) feed.Post
-feed-add-feed-2 t c = omega (arith, c .before .before .before .before .before .if1 .left)
 
 feed-feed-requires-2 : (t : ℕ) → feed-lts.Need-feed-requires-2 (feed-calls t) (feed-at t) feed.Post
 feed-feed-requires-2 t c κs = (omega (arith, c .before .before .before .before .before .before .before .before .before .before .before .before .pre .0, c .before .before .before .before .before .before .if1 .left), fits-alike (here-passed (now (c .before .before .before .before .before .before .before .before .before .before .before .before .args .rule)) (now (c .before .before .before .before .before .before .before .before .before .before .before .before .args .image)) (now (c .before .before .before .before .before .before .before .before .before .before .before .before .args .tree)) (now (c .before .before .before .before .before .before .before .before .before .before .before .before .args .calls)) (c .before .before .before .before .before .before .before .before .before .before .before .before .args .i) (omega (arith, c .before .before .before .before .before .before .if1 .left)) (c .before .before .before .before .before .before .before .before .before .before .before .before .args .member) (c .before .if5 .taken)) (c .before .before .before .before .before .before .before .before .before .before .before .before .pre .1))
@@ -211,7 +205,7 @@ pub +feed+feed-features-spec : {M : Type 1} → statement M
     (feed-at t)
     feed.Post
     (feed-put-member-requires t)
-    (feed-add-t19 t)
+    (feed-add-t20 t)
     (feed-same-length t)
     (feed-returns t)
     (feed-mul-method t)
@@ -223,14 +217,13 @@ pub +feed+feed-features-spec : {M : Type 1} → statement M
     (feed-mul-args-2 t)
     (feed-shared-slice-read-args t)
     (feed-cast-args t)
+    (feed-add-next t)
     (feed-eval-args-requires t)
-    (feed-add-feed t)
     (feed-feed-requires t)
     (feed-same-length-2 t)
     (feed-returns-2 t)
     (feed-returns-3 t)
     (feed-enum-known-member t)
-    (feed-add-feed-features t)
     (feed-feed-features-requires t)
     (feed-enum-told t)
     (feed-enum-told-2 t)
@@ -238,7 +231,6 @@ pub +feed+feed-features-spec : {M : Type 1} → statement M
     (feed-returns-4 t)
     (feed-returns-5 t)
     (feed-returns-6 t)
-    (feed-add-feed-2 t)
     (feed-feed-requires-2 t)
     (feed-same-length-4 t)
     (feed-returns-7 t)
