@@ -33,10 +33,10 @@ use Rattle.eval.specs.Feed.{State, stateOf, listed, arrive, fed, decided
 use Rattle.eval.proofs.ReadyLaws.{calls-at, calls-over, method-is, method-past, last-between, quantifier-of, count-no-quantifier}
 
 -- a state by its parts
-abbrev state : (arrived passed : ℕ) → List ℕ → State
+abbrev pub state : (arrived passed : ℕ) → List ℕ → State
 state arrived passed table = record { arrived = arrived; passed = passed; table = table }
 
-state-is : {a b c d : ℕ} {t u : List ℕ} → a ≡ b → c ≡ d → t ≡ u → state a c t ≡ state b d u
+pub state-is : {a b c d : ℕ} {t u : List ℕ} → a ≡ b → c ≡ d → t ≡ u → state a c t ≡ state b d u
 state-is p q r = λ i. state (p i) (q i) (r i)
 
 -- ---- members arrive: none, and some after others

@@ -21,7 +21,7 @@ ghost use Rattle.board.specs.Check.{COLLECTION-ROW};
 ghost use Rattle.board.specs.WellFormed.{WellFormed, Room};
 ghost use Rattle.predicate.specs.Rows.{ROW, kindAt, childrenAt};
 ghost use Rattle.meaning.specs.Value.{rowOf, wholeRows};
-ghost use Rattle.meaning.specs.Calls.{keep, kept, upFrom, featuresOf};
+ghost use Rattle.meaning.specs.Calls.{Where, keep, kept, upFrom, featuresOf};
 ghost use Rattle.meaning.specs.Pipeline.{isOfAnalysis};
 ghost use Rattle.meaning.specs.Walk.{isLast};
 ghost use Rattle.calls.specs.Table.{methodAt};
@@ -89,8 +89,49 @@ fn is_decided(last: usize, tally: Tally) -> bool
     }
 }
 
-// `components`: every component of the board.
+// `components`: every component of the board. Where there is no call all have rows, and a first call `count` gives their number.
 fn feed_components(
+    rule: &[u8],
+    image: &[u8],
+    tree: &[u32],
+    calls: &[u32],
+    last: usize,
+    collection: &mut [u32],
+) -> Tally
+    requires { ⌜ Fits (methodAt last) (now image) (callsFrom (now rule) (now tree) (now calls) 0) (map Member.Component (upFrom 0 (componentCount (now image)))) (begin (now collection)) ⌝ }
+    ensures { λ r. ⌜ Stands (methodAt last) (stateOf r (now (collection .exit))) (fed (now (image .entry)) (callsFrom (now (rule .entry)) (now (tree .entry)) (now (calls .entry)) 0) (map Member.Component (upFrom 0 (componentCount (now (image .entry))))) (begin (now (collection .entry)))) ⌝ }
+{
+    if calls.len() < ready::CALL_ROW {
+        return list_components(image, collection);
+    }
+    if calls[0] as usize == method::COUNT {
+        return Tally {
+            arrived: image::record_count(image, Section::Components) as usize,
+            passed: 0,
+        };
+    }
+    feed_each_component(rule, image, tree, calls, last, collection)
+}
+
+// Writes the rows of all components.
+fn list_components(image: &[u8], collection: &mut [u32]) -> Tally
+    requires { ⌜ Fits Where (now image) [] (map Member.Component (upFrom 0 (componentCount (now image)))) (begin (now collection)) ⌝ }
+    ensures { λ r. ⌜ stateOf r (now (collection .exit)) ≡ fed (now (image .entry)) [] (map Member.Component (upFrom 0 (componentCount (now (image .entry))))) (begin (now (collection .entry))) ⌝ }
+{
+    let count = image::record_count(image, Section::Components);
+    let mut component = 0;
+    while component < count {
+        put_member(collection, component as usize, Member::Component(component));
+        component += 1;
+    }
+    Tally {
+        arrived: component as usize,
+        passed: 0,
+    }
+}
+
+// Sends every component through the calls.
+fn feed_each_component(
     rule: &[u8],
     image: &[u8],
     tree: &[u32],
