@@ -1,8 +1,8 @@
 // "What each call gives": the next kind or the refusal, by call and kind.
 use crate::method;
+use syntax::number;
 use syntax::refusal::Refusal;
 ghost use mathlib.Core.Path.{_≡_};
-ghost use Prim.Native.Nat.{min};
 ghost use Rattle.calls.specs.Table.{nextFor, nextAt, refusalAt};
 
 // The kinds of value that a call can follow, in the order of the table's columns, counted from 0.
@@ -41,19 +41,9 @@ const NEXT: [[u8; 5]; 7] = [
 pub fn next_kind(method: usize, kind: usize) -> Next
     ensures { λ r. ⌜ r ≡ nextFor method kind ⌝ }
 {
-    let line = least(method, method::DIAGNOSTICS);
-    let column = least(kind, COUNT);
+    let line = number::least(method, method::DIAGNOSTICS);
+    let column = number::least(kind, COUNT);
     next_at(NEXT[line][column])
-}
-
-// The lesser of two numbers.
-fn least(a: usize, b: usize) -> usize
-    ensures { λ r. ⌜ r ≡ min a b ⌝ }
-{
-    if a < b {
-        return a;
-    }
-    b
 }
 
 // What an entry of the table stands for.

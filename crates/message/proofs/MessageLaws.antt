@@ -2,17 +2,18 @@
 use mathlib.Core.Path.{_≡_, refl, sym, ap, _∙_, subst}
 use mathlib.Core.Bool.{Bool, true, cond, _&&_}
 use mathlib.Core.List.{List, [], _∷_, _++_}
-use Prim.Native.Nat.{ℕ, zero-le, _+_, _-_, _≤_, _<_, min}
+use Prim.Native.Nat.{ℕ, zero-le, _+_, _≤_, _<_}
 use native.Mathlib.Omega.{arith}
-use borrow.Author.Tests.{eqb-true, eqb-false, ne-eqb, ltb-true, ltb-false, leb-true, leb-false}
-use lib.Dec.{T, eqb, leb, ltb}
-use lib.ListN.{length, take, drop, length-append, length-take, length-drop, drop-of-length-le}
-use lib.Seq.{take-all, take-nil}
+use borrow.Author.Tests.{eqb-true, eqb-false, ne-eqb, leb-true}
+use lib.Dec.{T, eqb, leb}
+use lib.ListN.{length, length-append}
 use Rattle.syntax.specs.Kind.{COUNT-COMPARE-EXPR}
+use Rattle.syntax.specs.Text.{bytesBetween}
 use Rattle.syntax.proofs.BoolLaws.{whether, and-left, and-right, T→true}
+use Rattle.syntax.proofs.TextLaws.{part-length}
 use Rattle.syntax.specs.Form.{EXPECT, EXPECT-IDENT, LEFT-OVER, SOURCE, METHOD, ATOM}
-use Rattle.message.specs.Message.{Name, names, nameIn, kindName, textFound, quoted, messageWith, messageOf}
-use Rattle.message.specs.Parts.{HEAD, LONGEST-NAME, LONGEST-END, Finds, headOf, endOf}
+use Rattle.message.specs.Message.{Name, names, nameIn, kindName, quoted, messageWith, messageOf}
+use Rattle.message.specs.Parts.{HEAD, LONGEST-NAME, LONGEST-END, headOf, endOf}
 
 -- every name of a list passes a test
 abbrev all : (Name → Bool) → List Name → Bool
@@ -110,33 +111,6 @@ end-short =
     by-form (λ f. length (endOf f) ≤ LONGEST-END) (omega arith) (omega arith) (omega arith) (omega arith) (omega arith) (omega arith)
     (λ f n. rw (no-end f n) (omega arith))
 
--- the text found, of a start and an end that lie within the rule
-module _ (rule : List ℕ) (first end last from : ℕ) (l : last ≡ min end (length rule)) (f : from ≡ min first last) where
-  none-found : last ≤ first → textFound rule first end ≡ []
-  none-found h =
-      whether (leb end first)
-      (λ t. let z : end - first ≡ 0 = omega (arith, leb-true end first t) in rw z)
-      (λ t. let long : length rule ≤ first = omega (arith, leb-false end first t) in rw (drop-of-length-le rule long) (take-nil (end - first)))
-
-  some-found : first < last → take (last - first) (drop first rule) ≡ textFound rule first end
-  some-found h =
-      whether (leb end (length rule))
-      (λ t. let z : last ≡ end = omega (arith, leb-true end (length rule) t) in rw z)
-      (λ t.
-      let long = leb-false end (length rule) t in
-      take-all (last - first) (drop first rule) (simp length-drop (omega arith))
-      ∙ sym (take-all (end - first) (drop first rule) (simp length-drop (omega arith))))
-
-  pub text-within : Finds rule first end (take (last - from) (drop from rule))
-  text-within =
-      whether (ltb first last)
-      (λ t. let z : from ≡ first = omega (arith, ltb-true first last t) in record { same = rw z (some-found (ltb-true first last t)) })
-      (λ t. let z : last - from ≡ 0 = omega (arith, ltb-false first last t) in record { same = rw z (sym (none-found (ltb-false first last t))) })
-
--- it is no longer than its end is far, nor than the rule
-pub text-short : {rule text : List ℕ} {first end : ℕ} → Finds rule first end text → (length text ≤ end) × (length text ≤ length rule)
-text-short t = rw (t .same) (simp (length-take, length-drop) (omega arith, omega arith))
-
 -- a message is at most as much longer than its text as a head has room
 with-length : (f e : ℕ) (text : List ℕ) → length (messageWith f e text) ≤ length text + HEAD
 with-length f e text =
@@ -151,4 +125,4 @@ with-length f e text =
 pub message-length : (rule : List ℕ) (form expected first end : ℕ) → length (messageOf rule form expected first end) ≤ length rule + 200
 unfolding messageOf
 message-length rule form expected first end =
-    omega (arith, with-length form expected (textFound rule first end), text-short {rule = rule} {first = first} {end = end} record { same = refl })
+    omega (arith, with-length form expected (bytesBetween rule first end), part-length rule first end)

@@ -5,11 +5,11 @@ use Prim.Native.Nat.{ℕ, _+_, _≤_}
 use native.Mathlib.Omega.{arith}
 use lib.ListN.{length, take, length-append}
 use lib.Seq.{length-take-le}
-use Rattle.syntax.specs.Text.{ascii}
+use Rattle.syntax.specs.Text.{ascii, bytesBetween}
 use Rattle.message.specs.declared.Message.{Message}
-use Rattle.message.specs.Message.{textFound, messageWith, messageOf}
+use Rattle.message.specs.Message.{messageWith, messageOf}
 use Rattle.message.specs.Write.{Writes}
-use Rattle.message.specs.Parts.{HEAD, LONGEST-END, Finds, Puts, headOf, endOf}
+use Rattle.message.specs.Parts.{HEAD, LONGEST-END, Puts, headOf, endOf}
 use Rattle.message.proofs.PutLaws.{puts-then, puts-none, puts-long, puts-taken, puts-writes}
 use Rattle.message.proofs.MessageLaws.{head-short, message-end, message-found, message-none}
 
@@ -36,15 +36,15 @@ begun {f} {e} {n} {m} {x} {a} {h} {h′} room few p q =
 pub written-none : (rule : List ℕ) (f e first end : ℕ) {a h out : List ℕ} {n : ℕ} → Puts (headOf f e) a 0 h n → n ≡ 0
     → Writes (messageOf rule f e first end) out out (Message.Written 0)
 unfolding messageOf
-written-none rule f e first end p z = rw (message-none e (textFound rule first end) f (omega (arith, p .place))) (puts-writes puts-none (omega arith))
+written-none rule f e first end p z = rw (message-none e (bytesBetween rule first end) f (omega (arith, p .place))) (puts-writes puts-none (omega arith))
 
-module _ {rule text h before after : List ℕ} {f e first end m : ℕ} {r : Message} (t : Finds rule first end text) where
+module _ (rule : List ℕ) (first end : ℕ) {text h before after : List ℕ} {f e m : ℕ} {r : Message} (t : text ≡ bytesBetween rule first end) where
   -- the end of text: the head and what stands behind it are the message
   pub written-end : length text ≡ 0 → Begun f e (endOf f) h m → Writes (take m h ++ [] ++ []) before after r → Writes (messageOf rule f e first end) before after r
   unfolding messageOf
   written-end z b w =
       let parts : take m h ++ [] ++ [] ≡ messageWith f e text = append-nil _ ∙ append-nil _ ∙ b .front ∙ sym (message-end e text f z) in
-      rw (← t .same) (rw parts at w)
+      rw (← t) (rw parts at w)
 
   -- a text found: the head with a quote, the text, and a quote
   pub written-found : {a h₀ : List ℕ} {n : ℕ} → Puts (headOf f e) a 0 h₀ n → (n ≡ 0 → ⊥) → (length text ≡ 0 → ⊥) → Begun f e (ascii "'") h m
@@ -53,4 +53,4 @@ module _ {rule text h before after : List ℕ} {f e first end m : ℕ} {r : Mess
   written-found p known some b w =
       let found = message-found e text f some (λ z. known (omega (arith, p .place))) in
       let parts : take m h ++ text ++ ascii "'" ≡ messageWith f e text = rw (b .front) (simp append-assoc) ∙ sym found in
-      rw (← t .same) (rw parts at w)
+      rw (← t) (rw parts at w)

@@ -1,13 +1,12 @@
 -- parser.rs: the messages of its parse errors. A row of the error table has what they are made of: the form, the kind that was due,
 -- and where the token found begins and ends, which at the end of text is one place. Assumes nothing: these are definitions.
-use Prim.Native.Nat.{ℕ, _-_}
+use Prim.Native.Nat.{ℕ}
 use Prim.Native.String.{String}
 use mathlib.Core.Bool.{true, false, cond}
 use mathlib.Core.List.{List, [], _∷_, _++_}
 use lib.Dec.{eqb}
-use lib.ListN.{take, drop}
 use Rattle.syntax.specs.Kind.{WHITESPACE, IDENT, STRING-LIT, DOT, L-PAREN, R-PAREN, EQ-EQ, NEQ, GE, GT, LE, LT, INT-LIT, COMMA, AND-KW, OR-KW, NOT-KW, ERROR, ROOT, PIPELINE-EXPR, DOT-CALL, CALL-ARGS, BINARY-EXPR, UNARY-EXPR, COMPARE-EXPR, CALL-EXPR, PAREN-EXPR, LITERAL, IDENT-EXPR, CONTAINS-EXPR, COUNT-COMPARE-EXPR}
-use Rattle.syntax.specs.Text.{ascii}
+use Rattle.syntax.specs.Text.{ascii, bytesBetween}
 use Rattle.syntax.specs.Form.{EXPECT, EXPECT-IDENT, LEFT-OVER, SOURCE, METHOD, ATOM}
 
 -- a kind and its name
@@ -64,10 +63,6 @@ unfoldable pub kindName : ℕ → List ℕ
 unfolding nameIn names
 kindName k = nameIn names k
 
--- the text of the token found: the rule's bytes from `first` to `end`, and none at the end of text
-abbrev pub textFound : (rule : List ℕ) (first end : ℕ) → List ℕ
-textFound rule first end = take (end - first) (drop first rule)
-
 -- `'{}'`
 abbrev pub quoted : List ℕ → List ℕ
 quoted text = ascii "'" ++ text ++ ascii "'"
@@ -93,6 +88,6 @@ messageWith form expected text =
     (cond (eqb form ATOM) (ascii "expected 'not', 'has', 'connected', 'category', 'kind', 'direction', 'severity', 'message', or '(', found " ++ quoted (textOrEOF text))
     [])))))
 
--- the message of a rule and an error row
+-- the message of a rule and an error row. The text found is the rule's bytes from `first` to `end`, and none at the end of text
 unfoldable pub messageOf : (rule : List ℕ) (form expected first end : ℕ) → List ℕ
-messageOf rule form expected first end = messageWith form expected (textFound rule first end)
+messageOf rule form expected first end = messageWith form expected (bytesBetween rule first end)

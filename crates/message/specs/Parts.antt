@@ -9,7 +9,7 @@ use lib.ListN.{length, take, drop}
 use lib.Seq.{sets}
 use Rattle.syntax.specs.Text.{ascii, is}
 use Rattle.syntax.specs.Form.{EXPECT, EXPECT-IDENT, LEFT-OVER, SOURCE, METHOD, ATOM}
-use Rattle.message.specs.Message.{kindName, textFound}
+use Rattle.message.specs.Message.{kindName}
 
 -- the room that the code has for what stands before the text found
 abbrev pub HEAD : ℕ
@@ -21,10 +21,6 @@ LONGEST-NAME = 18
 
 abbrev pub LONGEST-END : ℕ
 LONGEST-END = 5
-
--- a text is the one found in a rule
-pub record Finds (rule : List ℕ) (first end : ℕ) (text : List ℕ) : Type 0 where
-  pub same : text ≡ textFound rule first end
 
 -- a piece is copied to `at`, and `next` is the place past it
 pub record Puts (piece before : List ℕ) (at : ℕ) (after : List ℕ) (next : ℕ) : Type 0 where

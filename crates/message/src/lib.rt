@@ -1,14 +1,14 @@
 // parser.rs: the messages of its parse errors, as text, from a rule and a row of the error table.
 use syntax::form;
 use syntax::kind;
-ghost use mathlib.Core.Path.{_≡_};
+use syntax::text;
 ghost use mathlib.Core.List.{_++_};
-ghost use Prim.Native.Nat.{_+_, _^_, _≤_, _<_, min};
+ghost use Prim.Native.Nat.{_+_, _^_, _≤_, _<_};
 ghost use lib.ListN.{length};
 ghost use Rattle.syntax.specs.Form.{EXPECT};
 ghost use Rattle.message.specs.Message.{kindName, messageOf};
 ghost use Rattle.message.specs.Write.{Writes};
-ghost use Rattle.message.specs.Parts.{HEAD, LONGEST-NAME, LONGEST-END, Finds, Puts, Begins, Ends, word, headOf, endOf};
+ghost use Rattle.message.specs.Parts.{HEAD, LONGEST-NAME, LONGEST-END, Puts, Begins, Ends, word, headOf, endOf};
 
 // The room for what stands before the text found: more than any form needs.
 const HEAD: usize = 128;
@@ -31,7 +31,7 @@ pub fn write_message(
 ) -> Message
     ensures { λ r. ⌜ Writes (messageOf (now (rule .entry)) form expected first end) (now (out .entry)) (now (out .exit)) r ⌝ }
 {
-    let text = text_found(rule, first, end);
+    let text = text::part(rule, first as usize, end as usize);
     let mut head = [0u8; HEAD];
     let n = put_head(&mut head, form, expected);
     if n == 0 {
@@ -43,25 +43,6 @@ pub fn write_message(
     }
     let opened = put(&mut head, n, b"'");
     write_pieces(out, &head[..opened], text, b"'")
-}
-
-// The bytes of a rule from `first` to `end`, as far as the rule goes.
-fn text_found(rule: &[u8], first: u32, end: u32) -> &[u8]
-    ensures { λ r. ⌜ Finds (now (rule .entry)) first end (now r) ⌝ }
-{
-    let last = least(end as usize, rule.len());
-    let from = least(first as usize, last);
-    &rule[from..last]
-}
-
-// The lesser of two numbers.
-fn least(a: usize, b: usize) -> usize
-    ensures { λ r. ⌜ r ≡ min a b ⌝ }
-{
-    if a < b {
-        return a;
-    }
-    b
 }
 
 // Writes three pieces one after the other, where there is room for all of them.

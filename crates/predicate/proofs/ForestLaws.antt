@@ -3,7 +3,7 @@
 use mathlib.Core.Path.{_≡_, refl, sym, ap, _∙_}
 use mathlib.Core.Bool.{Bool, true, false, _&&_, cond}
 use mathlib.Core.List.{List, [], _∷_, cons≢nil}
-use Prim.Native.Nat.{ℕ, _+_, _-_, _≤_, _<_}
+use Prim.Native.Nat.{ℕ, _+_, _≤_, _<_}
 use native.Mathlib.Omega.{arith}
 use lib.Dec.{eqb, ltb}
 use lib.ListN.{length, getD, drop, drop-of-length-le}
@@ -11,7 +11,8 @@ use borrow.Author.Tests.{lt-ltb, le-ltb, eqb-true, eqb-false, ltb-true, ltb-fals
 use Rattle.syntax.specs.Kind.{ROOT}
 use Rattle.syntax.proofs.BoolLaws.{both}
 use Rattle.trees.specs.Green.{Forest, nil, leaf, node}
-use Rattle.predicate.specs.Rows.{ROW, Place, below, past, token, child, placeOf, grown, bytesBetween, forest, kindAt, levelAt, textAt, forestFrom, childrenAt, isRow, isBelow, rowsFrom, pastBelow}
+use Rattle.syntax.specs.Text.{bytesBetween}
+use Rattle.predicate.specs.Rows.{ROW, Place, below, past, token, child, placeOf, grown, forest, kindAt, levelAt, textAt, forestFrom, childrenAt, isRow, isBelow, rowsFrom, pastBelow}
 use Rattle.predicate.specs.Eval.{FoundAt, FoundNowhere, Skips}
 use Rattle.predicate.proofs.RowLaws.{row-there, row-missing, drop-row, few, short-forest}
 

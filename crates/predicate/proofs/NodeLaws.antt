@@ -6,12 +6,12 @@ use Prim.Native.Nat.{ℕ, suc, _+_, _-_, _≤_, _<_}
 use native.Mathlib.Omega.{arith}
 use lib.Dec.{eqb, ltb}
 use lib.ListN.{length, take, drop, length-drop, drop-of-length-le}
-use lib.Seq.{take-all, take-nil, drop-drop}
+use lib.Seq.{drop-drop}
 use borrow.Author.Tests.{eqb-true}
 use Rattle.syntax.specs.Kind.{STRING-LIT, ROOT, LITERAL}
 use Rattle.matching.specs.declared.search.Found.{Found}
 use Rattle.predicate.specs.Truth.{content, firstText, literalOf}
-use Rattle.predicate.specs.Rows.{ROW, bytesBetween, kindAt, levelAt, textAt, forestFrom, childrenAt, isRow, ofKind, rowsFrom, placeIn, firstRow}
+use Rattle.predicate.specs.Rows.{ROW, kindAt, levelAt, textAt, forestFrom, childrenAt, isRow, ofKind, rowsFrom, placeIn, firstRow}
 use Rattle.predicate.specs.Eval.{FoundAt, FoundNowhere, Finds}
 use Rattle.predicate.proofs.RowLaws.{row-missing, rowAnd, drop-row}
 use Rattle.predicate.proofs.ForestLaws.{forest-token, forest-node, found-level, found-kind, Ignores, ignored-none, ignored-found}
@@ -101,21 +101,6 @@ child-first test tree at Found.Absent e h = first-nowhere h ∙ ap (λ (l : ℕ)
 pub child-missing : (test : ℕ → Bool) (tree : List ℕ) (level at : ℕ) → isRow tree at ≡ false → Found.Absent ≡ firstRow test tree level (at + ROW)
 unfolding firstRow placeIn rowsFrom
 child-missing test tree level at h = sym (ap (λ (rows : List ℕ). placeIn tree (rowsFrom test level rows)) (drop-of-length-le tree {i = at + ROW} (omega (arith, row-missing tree at h))))
-
--- the bytes between two places, as far as there are any
-module _ (rule : List ℕ) (first end : ℕ) where
-  pub bytes-none : end < first → [] ≡ bytesBetween rule first end
-  bytes-none h =
-      let e : end - first ≡ 0 = omega arith in
-      sym (ap (λ (n : ℕ). take n (drop first rule)) e)
-
-  pub bytes-past : length rule < first → [] ≡ bytesBetween rule first end
-  bytes-past h = sym (ap (take (end - first)) (drop-of-length-le rule {i = first} (omega arith)) ∙ take-nil (end - first))
-
-  pub bytes-long : length rule < end → take (length rule - first) (drop first rule) ≡ bytesBetween rule first end
-  bytes-long h =
-      take-all (length rule - first) (drop first rule) (omega (arith, length-drop first rule))
-      ∙ sym (take-all (end - first) (drop first rule) (omega (arith, length-drop first rule)))
 
 -- a string's content
 pub content-none : (string : List ℕ) → length string < 2 → [] ≡ content string

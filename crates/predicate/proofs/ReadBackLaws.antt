@@ -15,7 +15,8 @@ use Rattle.trees.specs.Parse.{Parsed, Parser, done, next, fails, failsAhead, jo
 use Rattle.trees.specs.Look.{isBlank}
 use Rattle.trees.specs.Rows.{treeRows}
 use Rattle.trees.proofs.TreeLaws.{Kinds, kinds-lex, tree-tokens}
-use Rattle.predicate.specs.Rows.{bytesBetween, forest}
+use Rattle.syntax.specs.Text.{bytesBetween}
+use Rattle.predicate.specs.Rows.{forest}
 use Rattle.predicate.proofs.ForestLaws.{place-below, place-past, place-token, place-child}
 
 -- ---- the kinds of nodes are kinds of nodes

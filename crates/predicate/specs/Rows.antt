@@ -1,10 +1,11 @@
 -- Tree rows read back as a green tree. Assumes nothing: these are definitions.
 use Prim.Native.Nat.{ℕ, _+_, _-_}
-use mathlib.Core.Bool.{Bool, true, false, _&&_, cond}
+use mathlib.Core.Bool.{Bool, _&&_, cond}
 use mathlib.Core.List.{List, [], _∷_}
 use lib.Dec.{eqb, ltb, leb}
-use lib.ListN.{length, getD, take, drop}
+use lib.ListN.{length, getD, drop}
 use Rattle.syntax.specs.Kind.{ROOT}
+pub use Rattle.syntax.specs.Text.{bytesBetween}
 use Rattle.matching.specs.declared.search.Found.{Found}
 use Rattle.trees.specs.Green.{Forest, nil, leaf, node}
 
@@ -26,10 +27,6 @@ grown below kind text inner rest = rest
 grown past kind text inner rest = nil
 grown token kind text inner rest = leaf (record { kind = kind; text = text }) rest
 grown child kind text inner rest = node kind inner rest
-
--- the bytes of a rule from one place to another
-abbrev pub bytesBetween : List ℕ → ℕ → ℕ → List ℕ
-bytesBetween rule first end = take (end - first) (drop first rule)
 
 -- the forest at a level that rows begin with; rows below it may come first
 unfoldable pub forest : List ℕ → ℕ → List ℕ → Forest

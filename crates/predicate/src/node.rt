@@ -3,6 +3,7 @@
 use crate::rows;
 use matching::search::Found;
 use syntax::kind;
+use syntax::text;
 ghost use mathlib.Core.Path.{_≡_};
 ghost use Prim.Native.Nat.{_+_, _≤_, _<_};
 ghost use lib.ListN.{length};
@@ -76,16 +77,7 @@ fn token_text<'a>(rule: &'a [u8], tree: &[u32], at: usize) -> &'a [u8]
 {
     let first = tree[at + 2] as usize;
     let end = tree[at + 3] as usize;
-    if end < first {
-        return &rule[0..0];
-    }
-    if rule.len() < first {
-        return &rule[0..0];
-    }
-    if rule.len() < end {
-        return &rule[first..];
-    }
-    &rule[first..end]
+    text::part(rule, first, end)
 }
 
 // The bytes between the quotes of a string.

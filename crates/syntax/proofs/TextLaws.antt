@@ -1,15 +1,16 @@
--- Texts at a place, and two texts compared byte by byte. Assumes nothing.
+-- Texts at a place, two texts compared byte by byte, and a part of a text. Assumes nothing.
 use mathlib.Core.Path.{_≡_, refl, sym, ap, _∙_}
 use mathlib.Core.Bool.{true, false, and-false}
 use mathlib.Core.List.{List, [], _∷_}
-use Prim.Native.Nat.{ℕ, suc, _+_, _≤_, _<_}
+use Prim.Native.Nat.{ℕ, suc, _+_, _-_, _≤_, _<_, min}
 use native.Mathlib.Numerals.{add-one}
 use native.Mathlib.Omega.{arith}
-use borrow.Author.Tests.{eq-eqb, ne-eqb}
-use lib.Dec.{eqb}
-use lib.ListN.{length, drop, getD, drop-of-length-le}
-use lib.Seq.{drop-cons}
-use Rattle.syntax.specs.Text.{same}
+use borrow.Author.Tests.{eq-eqb, ne-eqb, leb-true, leb-false, ltb-true, ltb-false}
+use lib.Dec.{eqb, ltb, leb}
+use lib.ListN.{length, take, drop, getD, length-take, length-drop, drop-of-length-le}
+use lib.Seq.{take-all, take-nil, drop-cons}
+use Rattle.syntax.specs.Text.{same, bytesBetween}
+use Rattle.syntax.proofs.BoolLaws.{whether}
 
 -- the text from a place on: its first byte, and the text from the next place on
 pub from : (s : List ℕ) (i : ℕ) → i < length s → drop i s ≡ getD s i 0 ∷ drop (i + 1) s
@@ -49,3 +50,30 @@ same-lengths [] [] h = absurd (h refl)
 same-lengths [] (b ∷ y) h = refl
 same-lengths (a ∷ x) [] h = refl
 same-lengths (a ∷ x) (b ∷ y) h = rw (same-lengths x y (λ e. h (ap suc e))) (and-false (eqb a b))
+
+-- a part of a text, from its start and its end as far as the text goes
+module _ (text : List ℕ) (first end last from : ℕ) (l : last ≡ min end (length text)) (f : from ≡ min first last) where
+  part-none : last ≤ first → [] ≡ bytesBetween text first end
+  part-none h =
+      whether (leb end first)
+      (λ t. let z : end - first ≡ 0 = omega (arith, leb-true end first t) in rw z)
+      (λ t. let past : length text ≤ first = omega (arith, leb-false end first t) in sym (rw (drop-of-length-le text past) (take-nil (end - first))))
+
+  part-some : first < last → take (last - first) (drop first text) ≡ bytesBetween text first end
+  part-some h =
+      whether (leb end (length text))
+      (λ t. let z : last ≡ end = omega (arith, leb-true end (length text) t) in rw z)
+      (λ t.
+      let long = leb-false end (length text) t in
+      take-all (last - first) (drop first text) (simp length-drop (omega arith))
+      ∙ sym (take-all (end - first) (drop first text) (simp length-drop (omega arith))))
+
+  pub part-within : take (last - from) (drop from text) ≡ bytesBetween text first end
+  part-within =
+      whether (ltb first last)
+      (λ t. let z : from ≡ first = omega (arith, ltb-true first last t) in rw z (part-some (ltb-true first last t)))
+      (λ t. let z : last - from ≡ 0 = omega (arith, ltb-false first last t) in rw z (part-none (ltb-false first last t)))
+
+-- it is no longer than its end is far, nor than the text
+pub part-length : (text : List ℕ) (first end : ℕ) → (length (bytesBetween text first end) ≤ end) × (length (bytesBetween text first end) ≤ length text)
+part-length text first end = simp (length-take, length-drop) (omega arith, omega arith)

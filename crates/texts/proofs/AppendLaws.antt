@@ -1,17 +1,18 @@
 -- Texts appended one after the other, with whatever is cut, and loops that append. Assumes nothing.
 use mathlib.Core.Path.{_≡_, refl, sym, ap, _∙_}
 use mathlib.Core.List.{List, [], _∷_, _++_}
-use Prim.Native.Nat.{ℕ, suc, _+_, _-_, _≤_, _<_, min}
+use Prim.Native.Nat.{ℕ, suc, _+_, _-_, _≤_, _<_}
 use native.Mathlib.Omega.{arith}
 use borrow.Author.Tests.{leb-true, leb-false}
 use lib.Dec.{leb}
-use lib.ListN.{length, drop, getD, length-append}
+use lib.ListN.{length, getD, length-append}
 use lib.Seq.{sets, length-sets, set-out, take-length}
 use Rattle.syntax.proofs.BoolLaws.{whether}
 use Rattle.syntax.proofs.TextLaws.{from}
 use Rattle.syntax.proofs.TableLaws.{sets-append}
+use Rattle.syntax.specs.Text.{bytesBetween}
 use Rattle.texts.specs.Append.{Appends}
-use Rattle.texts.specs.Text.{each, part}
+use Rattle.texts.specs.Text.{each}
 
 -- past the end nothing is stored
 sets-past : (text out : List ℕ) (at : ℕ) → length out ≤ at → sets out at text ≡ out
@@ -50,16 +51,16 @@ each-itself [] = refl
 each-itself (b ∷ s) = ap (_∷_ b) (each-itself s)
 
 -- a text is the part of it from its first byte to its last
-part-whole : (s : List ℕ) → part 0 (length s) s ≡ s
+part-whole : (s : List ℕ) → bytesBetween s 0 (length s) ≡ s
 part-whole s = let all : length s - 0 ≡ length s = omega arith in rw all (take-length s)
 
 -- a loop over the bytes of s up to `end` that appends f of each is at i: appending the rest ends as appending the whole text does
 pub record Walks (f : ℕ → List ℕ) (s : List ℕ) (end : ℕ) (text out₀ : List ℕ) (at : ℕ) (out : List ℕ) (next i : ℕ) : Type 0 where
   pub within : end ≤ length s
   pub long : length out ≡ length out₀
-  pub whole : {after : List ℕ} {last : ℕ} → Appends (each f (part i end s)) out next after last → Appends text out₀ at after last
+  pub whole : {after : List ℕ} {last : ℕ} → Appends (each f (bytesBetween s i end)) out next after last → Appends text out₀ at after last
 
-pub walks-part : {f : ℕ → List ℕ} {s out : List ℕ} {from end at : ℕ} → end ≤ length s → Walks f s end (each f (part from end s)) out at out at from
+pub walks-part : {f : ℕ → List ℕ} {s out : List ℕ} {from end at : ℕ} → end ≤ length s → Walks f s end (each f (bytesBetween s from end)) out at out at from
 walks-part h = record { within = h; long = refl; whole = λ p. p }
 
 pub walks-all : {f : ℕ → List ℕ} {s out : List ℕ} {at : ℕ} → Walks f s (length s) (each f s) out at out at 0
@@ -70,7 +71,7 @@ walks-itself {s} = record { within = omega arith; long = refl; whole = λ p. rw 
 
 module _ {f : ℕ → List ℕ} {s text out₀ out : List ℕ} {end at next i : ℕ} (w : Walks f s end text out₀ at out next i) where
   -- the bytes that are left: the next, and those behind it
-  rest : i < end → each f (part i end s) ≡ f (getD s i 0) ++ each f (part (i + 1) end s)
+  rest : i < end → each f (bytesBetween s i end) ≡ f (getD s i 0) ++ each f (bytesBetween s (i + 1) end)
   unfolding each
   rest h =
       let inside : i < length s = omega (arith, w .within) in

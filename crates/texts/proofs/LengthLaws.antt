@@ -1,16 +1,18 @@
 -- How long texts are, and that a text which has room is not cut. Assumes nothing.
-use mathlib.Core.Path.{_≡_, refl, ap, _∙_}
+use mathlib.Core.Path.{_≡_, _∙_}
 use mathlib.Core.List.{List, [], _∷_, _++_}
 use Prim.Native.Nat.{ℕ, zero, suc, zero-le, _+_, _*_, _/_, _≤_}
 use native.Mathlib.Omega.{arith}
 use borrow.Author.Tests.{ltb-true, ltb-false}
 use lib.Dec.{eqb, leb, ltb}
-use lib.ListN.{length, take, drop, length-append, length-take, length-drop}
+use lib.ListN.{length, take, drop, length-append}
 use lib.Seq.{sets-eq}
 use mathlib.Core.Bool.{_&&_}
 use Rattle.syntax.proofs.BoolLaws.{whether}
+use Rattle.syntax.specs.Text.{bytesBetween}
+use Rattle.syntax.proofs.TextLaws.{part-length}
 use Rattle.texts.specs.Append.{Appends}
-use Rattle.texts.specs.Text.{BLANK, TAB, MOST-DIGITS, part, each, digits, numberText, shown}
+use Rattle.texts.specs.Text.{BLANK, TAB, MOST-DIGITS, each, digits, numberText, shown}
 use Rattle.texts.specs.Place.{CARET, markPlace, lineStart, lineEnd, markEnd, column, columns, placeText}
 use Rattle.texts.proofs.NumberLaws.{digits-one, digits-more}
 
@@ -51,9 +53,6 @@ columns-length : (mark : ℕ) (s : List ℕ) → length (columns mark s) ≤ len
 unfolding columns
 columns-length mark s = each-length (column mark) (column-length mark) s
 
-part-length : (from end : ℕ) (s : List ℕ) → length (part from end s) ≤ length s
-part-length from end s = simp (length-take, length-drop) (omega arith)
-
 -- the two lines of a place
 pub place-length : (rule : List ℕ) (first end : ℕ) → length (placeText rule first end) ≤ 3 * length rule + 7
 unfolding placeText
@@ -65,10 +64,10 @@ place-length rule first end =
     simp length-append
     (omega (
       arith,
-      shown-length (part start stop rule),
-      part-length start stop rule,
-      columns-length BLANK (part start mark rule),
-      part-length start mark rule,
-      columns-length CARET (part (mark + 1) past rule),
-      part-length (mark + 1) past rule,
+      shown-length (bytesBetween rule start stop),
+      part-length rule start stop,
+      columns-length BLANK (bytesBetween rule start mark),
+      part-length rule start mark,
+      columns-length CARET (bytesBetween rule (mark + 1) past),
+      part-length rule (mark + 1) past,
     ))

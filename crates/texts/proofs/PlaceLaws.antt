@@ -1,17 +1,17 @@
 -- The line that holds a place, found byte by byte, and the columns under it. Assumes nothing.
-use mathlib.Core.Path.{_≡_, refl, sym, ap, _∙_}
+use mathlib.Core.Path.{_≡_, refl, sym, _∙_}
 use mathlib.Core.Bool.{Bool, true, false}
 use mathlib.Core.List.{List, [], _∷_, _++_}
-use Prim.Native.Nat.{ℕ, zero, suc, zero-le, suc-le-suc, _+_, _-_, _≤_, _<_, min}
+use Prim.Native.Nat.{ℕ, zero, suc, zero-le, suc-le-suc, _+_, _-_, _≤_, _<_}
 use native.Mathlib.Omega.{arith}
-use borrow.Author.Tests.{eq-eqb, ne-eqb, lt-ltb, le-ltb, ltb-true, ltb-false}
+use borrow.Author.Tests.{eq-eqb, ne-eqb, lt-ltb, le-ltb, ltb-true}
 use lib.Dec.{eqb, ltb}
 use lib.ListN.{length, drop, getD, drop-of-length-le, length-drop}
-use Rattle.syntax.specs.Text.{ascii}
+use Rattle.syntax.specs.Text.{ascii, bytesBetween}
 use Rattle.syntax.proofs.BoolLaws.{whether}
 use Rattle.syntax.proofs.TextLaws.{from}
 use Rattle.texts.specs.Append.{Appends}
-use Rattle.texts.specs.Text.{BLANK, part, shown, indented, line}
+use Rattle.texts.specs.Text.{BLANK, shown, indented, line}
 use Rattle.texts.specs.Place.{LINE-FEED, CARET, behindLast, markPlace, lineStart, lineLength, lineEnd, markEnd, columns, placeText}
 use Rattle.texts.proofs.AppendLaws.{appends-then}
 
@@ -135,8 +135,8 @@ module _ (rule : List ℕ) (first : ℕ) {mark start stop : ℕ} (m : mark ≡ m
       (λ u. omega (arith, rw u at e))
 
   -- its two lines appended
-  pub place-appended : (end : ℕ) {past at next last : ℕ} {out between after : List ℕ} → past ≡ markEnd rule first end stop → Appends (line (indented (shown (part start stop rule)))) out at between next
-      → Appends (line (indented (columns BLANK (part start mark rule) ++ ascii "^" ++ columns CARET (part (mark + 1) past rule)))) between next after last
+  pub place-appended : (end : ℕ) {past at next last : ℕ} {out between after : List ℕ} → past ≡ markEnd rule first end stop → Appends (line (indented (shown (bytesBetween rule start stop)))) out at between next
+      → Appends (line (indented (columns BLANK (bytesBetween rule start mark) ++ ascii "^" ++ columns CARET (bytesBetween rule (mark + 1) past)))) between next after last
       → Appends (placeText rule first end) out at after last
   unfolding placeText
   place-appended end e p q = rw (← m, ← s, ← t, ← e) (appends-then p q)

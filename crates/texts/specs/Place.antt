@@ -4,8 +4,8 @@ use mathlib.Core.Bool.{Bool, cond, _&&_}
 use mathlib.Core.List.{List, [], _∷_, _++_}
 use lib.Dec.{eqb, leb, ltb}
 use lib.ListN.{length, drop, getD}
-use Rattle.syntax.specs.Text.{ascii}
-use Rattle.texts.specs.Text.{BLANK, TAB, part, each, shown, indented, line}
+use Rattle.syntax.specs.Text.{ascii, bytesBetween}
+use Rattle.texts.specs.Text.{BLANK, TAB, each, shown, indented, line}
 
 abbrev pub LINE-FEED : ℕ
 LINE-FEED = 0x0a
@@ -56,5 +56,5 @@ placeText rule first end =
     let mark = markPlace rule first in
     let start = lineStart rule mark in
     let stop = lineEnd rule mark in
-    line (indented (shown (part start stop rule)))
-    ++ line (indented (columns BLANK (part start mark rule) ++ ascii "^" ++ columns CARET (part (mark + 1) (markEnd rule first end stop) rule)))
+    line (indented (shown (bytesBetween rule start stop)))
+    ++ line (indented (columns BLANK (bytesBetween rule start mark) ++ ascii "^" ++ columns CARET (bytesBetween rule (mark + 1) (markEnd rule first end stop))))

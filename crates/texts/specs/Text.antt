@@ -1,10 +1,9 @@
 -- Numbers and texts of others, as they are shown. Assumes nothing: these are definitions.
-use Prim.Native.Nat.{ℕ, zero, suc, _+_, _-_, _/_, _%_}
+use Prim.Native.Nat.{ℕ, zero, suc, _+_, _/_, _%_}
 use Prim.Native.Char.{code}
 use mathlib.Core.Bool.{cond}
 use mathlib.Core.List.{List, [], _∷_, _++_}
 use lib.Dec.{eqb, ltb}
-use lib.ListN.{take, drop}
 use Rattle.syntax.specs.Text.{ascii}
 
 -- a digit as its character
@@ -33,10 +32,6 @@ TAB = 0x09
 
 abbrev pub DELETE : ℕ
 DELETE = 0x7f
-
--- the bytes of a text from one place to another
-abbrev pub part : (from end : ℕ) → List ℕ → List ℕ
-part from end text = take (end - from) (drop from text)
 
 -- what stands for each byte of a text, one after the other
 unfoldable pub each : (ℕ → List ℕ) → List ℕ → List ℕ

@@ -6,9 +6,9 @@ ghost use mathlib.Core.Path.{_≡_};
 ghost use mathlib.Core.List.{_++_};
 ghost use Prim.Native.Nat.{_+_, _≤_};
 ghost use lib.ListN.{length};
-ghost use Rattle.syntax.specs.Text.{ascii};
 ghost use Rattle.texts.specs.Append.{Appends};
-ghost use Rattle.texts.specs.Text.{BLANK, part, shown, indented, line};
+ghost use Rattle.syntax.specs.Text.{ascii, bytesBetween};
+ghost use Rattle.texts.specs.Text.{BLANK, shown, indented, line};
 ghost use Rattle.texts.specs.Place.{CARET, markPlace, lineStart, lineEnd, markEnd, column, columns, placeText};
 
 // The line of the rule that holds byte `first`, and below it blanks up to there and a `^` under each character of the token found, as
@@ -103,7 +103,7 @@ fn write_mark(
     at: usize,
 ) -> usize
     requires { ⌜ (mark ≤ length (now rule)) × (end ≤ length (now rule)) ⌝ }
-    ensures { λ r. ⌜ Appends (line (indented (columns BLANK (part start mark (now (rule .entry))) ++ ascii "^" ++ columns CARET (part (mark + 1) end (now (rule .entry)))))) (now (out .entry)) at (now (out .exit)) r ⌝ }
+    ensures { λ r. ⌜ Appends (line (indented (columns BLANK (bytesBetween (now (rule .entry)) start mark) ++ ascii "^" ++ columns CARET (bytesBetween (now (rule .entry)) (mark + 1) end)))) (now (out .entry)) at (now (out .exit)) r ⌝ }
 {
     let first = append(b"  ", out, at);
     let caret = write_columns(rule, start, mark, b' ', out, first);
@@ -115,7 +115,7 @@ fn write_mark(
 // What stands under the bytes of the rule from one place to another.
 fn write_columns(rule: &[u8], from: usize, end: usize, mark: u8, out: &mut [u8], at: usize) -> usize
     requires { ⌜ end ≤ length (now rule) ⌝ }
-    ensures { λ r. ⌜ Appends (columns mark (part from end (now (rule .entry)))) (now (out .entry)) at (now (out .exit)) r ⌝ }
+    ensures { λ r. ⌜ Appends (columns mark (bytesBetween (now (rule .entry)) from end)) (now (out .entry)) at (now (out .exit)) r ⌝ }
 {
     let mut next = at;
     let mut i = from;

@@ -1,21 +1,18 @@
--- The last call of a tree, found row by row, and parts of a rule. Assumes nothing.
+-- The last call of a tree, found row by row, and the text made of its parts. Assumes nothing.
 use mathlib.Core.Path.{_≡_, refl, sym, ap, _∙_, subst}
 use mathlib.Core.Bool.{true, false}
 use mathlib.Core.List.{List, [], _∷_, _++_}
-use Prim.Native.Nat.{ℕ, _+_, _*_, _-_, _/_, _≤_, _<_, min}
+use Prim.Native.Nat.{ℕ, _+_, _*_, _/_, _≤_, _<_}
 use native.Mathlib.Omega.{arith}
-use lib.ListN.{length, getD, take, drop, List·getD-eq-default}
-use lib.Dec.{leb}
-use borrow.Author.Tests.{leb-true, leb-false, eq-eqb, ne-eqb}
-use Rattle.syntax.proofs.BoolLaws.{whether}
-use Rattle.predicate.proofs.NodeLaws.{bytes-none, bytes-past, bytes-long}
+use lib.ListN.{length, getD, drop, List·getD-eq-default}
+use borrow.Author.Tests.{eq-eqb, ne-eqb}
 use Rattle.syntax.specs.Kind.{IDENT, DOT-CALL, CALL-ARGS}
-use Rattle.syntax.specs.Text.{ascii, same}
+use Rattle.syntax.specs.Text.{ascii, same, bytesBetween}
 use Rattle.matching.specs.declared.search.Found.{Found}
 use Rattle.texts.specs.Append.{Appends}
 use Rattle.texts.proofs.AppendLaws.{appends-none}
 use Rattle.predicate.specs.Truth.{firstText}
-use Rattle.predicate.specs.Rows.{ROW, bytesBetween, kindAt, levelAt, childrenAt, ofKind, firstRow}
+use Rattle.predicate.specs.Rows.{ROW, kindAt, levelAt, childrenAt, ofKind, firstRow}
 use Rattle.predicate.proofs.RowLaws.{drop-row, few}
 use Rattle.witness.specs.Witness.{CALL-LEVEL, lastFrom, lastCall, laterCall, textIn, argsText, byWord, witnessText}
 
@@ -49,34 +46,6 @@ module _ {tree : List ℕ} {found i : ℕ} (l : Looked tree found i) where
 
   pub looked-all : length tree / ROW ≤ i → found ≡ lastCall tree
   looked-all h = short (ROW * i) (drop (ROW * i) tree) (few tree (ROW * i) (omega arith)) ∙ l .rest
-
--- a part of a rule, as far as it goes
-pub part-is : (rule : List ℕ) (first end last from : ℕ) → last ≡ min end (length rule) → from ≡ min first last → take (last - from) (drop from rule) ≡ bytesBetween rule first end
-part-is rule first end last from e f =
-    whether (leb first end)
-    (λ a.
-    let ordered : first ≤ end = leb-true first end a in
-    whether (leb end (length rule))
-    (λ b.
-    let within : end ≤ length rule = leb-true end (length rule) b in
-    let p : last ≡ end = omega arith in
-    let q : from ≡ first = omega arith in
-    λ i. take (p i - q i) (drop (q i) rule))
-    (λ b.
-    let beyond : length rule < end = leb-false end (length rule) b in
-    let p : last ≡ length rule = omega arith in
-    whether (leb first (length rule))
-    (λ c.
-    let q : from ≡ first = omega (arith, leb-true first (length rule) c) in
-    (λ i. take (p i - q i) (drop (q i) rule)) ∙ bytes-long rule first end beyond)
-    (λ c.
-    let past : length rule < first = leb-false first (length rule) c in
-    let none : last - from ≡ 0 = omega arith in
-    ap (λ (n : ℕ). take n (drop from rule)) none ∙ bytes-past rule first end past)))
-    (λ a.
-    let before : end < first = leb-false first end a in
-    let none : last - from ≡ 0 = omega arith in
-    ap (λ (n : ℕ). take n (drop from rule)) none ∙ bytes-none rule first end before)
 
 -- a number of a row that the table does not have is 0
 pub number-missing : (tree : List ℕ) (at : ℕ) → length tree ≤ at → 0 ≡ getD tree at 0

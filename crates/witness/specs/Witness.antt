@@ -7,10 +7,10 @@ use mathlib.Core.List.{List, [], _∷_, _++_}
 use lib.Dec.{eqb}
 use lib.ListN.{length, getD}
 use Rattle.syntax.specs.Kind.{IDENT, DOT-CALL, CALL-ARGS}
-use Rattle.syntax.specs.Text.{ascii, same}
+use Rattle.syntax.specs.Text.{ascii, same, bytesBetween}
 use Rattle.matching.specs.declared.search.Found.{Found}
 use Rattle.predicate.specs.Truth.{firstText}
-use Rattle.predicate.specs.Rows.{ROW, bytesBetween, kindAt, levelAt, childrenAt, ofKind, firstRow}
+use Rattle.predicate.specs.Rows.{ROW, kindAt, levelAt, textAt, childrenAt, ofKind, firstRow}
 
 -- the calls of a pipeline stand in it, and it in the root
 abbrev pub CALL-LEVEL : ℕ
@@ -33,13 +33,9 @@ unfoldable pub lastCall : List ℕ → ℕ
 unfolding lastFrom
 lastCall tree = lastFrom 0 (length tree) tree
 
--- the bytes of a rule that the row at a place spans
-abbrev pub rowText : (rule tree : List ℕ) → ℕ → List ℕ
-rowText rule tree at = bytesBetween rule (getD tree (at + 2) 0) (getD tree (at + 3) 0)
-
 -- what stands behind a call's method
 abbrev pub textIn : (rule tree : List ℕ) → Found → List ℕ
-textIn rule tree (Found.At at) = rowText rule tree at
+textIn rule tree (Found.At at) = textAt rule tree at
 textIn rule tree Found.Absent = []
 
 unfoldable pub argsText : (rule tree : List ℕ) → ℕ → List ℕ

@@ -5,10 +5,9 @@ use syntax::kind;
 use syntax::text;
 use texts;
 ghost use mathlib.Core.Path.{_≡_};
-ghost use Prim.Native.Nat.{_+_, _≤_, min};
+ghost use Prim.Native.Nat.{_+_, _≤_};
 ghost use lib.ListN.{getD};
 ghost use Rattle.texts.specs.Append.{Appends};
-ghost use Rattle.predicate.specs.Rows.{bytesBetween};
 ghost use Rattle.witness.specs.Witness.{lastCall, laterCall, argsText, byWord, witnessText};
 
 // The numbers of a row of the tree table.
@@ -22,7 +21,7 @@ pub fn write_witness(rule: &[u8], tree: &[u32], out: &mut [u8], at: usize) -> us
     ensures { λ r. ⌜ Appends (witnessText (now (rule .entry)) (now (tree .entry))) (now (out .entry)) at (now (out .exit)) r ⌝ }
 {
     let call = last_call(tree);
-    let before = part(rule, 0, number_at(tree, call, 2));
+    let before = text::part(rule, 0, number_at(tree, call, 2) as usize);
     let args = args_text(rule, tree, call);
     write_by_word(node::ident(rule, tree, call), before, args, out, at)
 }
@@ -79,7 +78,11 @@ fn args_text<'a>(rule: &'a [u8], tree: &[u32], call: usize) -> &'a [u8]
     let Found::At(at) = args else {
         return &rule[0..0];
     };
-    part(rule, number_at(tree, at, 2), number_at(tree, at, 3))
+    text::part(
+        rule,
+        number_at(tree, at, 2) as usize,
+        number_at(tree, at, 3) as usize,
+    )
 }
 
 // A number of the row at a place; 0 where the table does not have it.
@@ -94,23 +97,4 @@ fn number_at(tree: &[u32], at: usize, number: usize) -> u32
         return 0;
     }
     tree[at + number]
-}
-
-// The bytes of a rule from one place to another, as far as it goes.
-fn part(rule: &[u8], first: u32, end: u32) -> &[u8]
-    ensures { λ r. ⌜ now r ≡ bytesBetween (now (rule .entry)) first end ⌝ }
-{
-    let last = least(end as usize, rule.len());
-    let from = least(first as usize, last);
-    &rule[from..last]
-}
-
-// The lesser of two numbers.
-fn least(a: usize, b: usize) -> usize
-    ensures { λ r. ⌜ r ≡ min a b ⌝ }
-{
-    if a < b {
-        return a;
-    }
-    b
 }

@@ -30,8 +30,14 @@ returns c = args-none (now (c .before .before .before .before .before .before .a
 number-at-requires : tie.Need-number-at-requires
 number-at-requires c κs = search needs
 
+cast-part : tie.Need-cast-part
+cast-part c = search needs
+
 number-at-requires-2 : tie.Need-number-at-requires-2
 number-at-requires-2 c κs = search needs
+
+cast-part-2 : tie.Need-cast-part-2
+cast-part-2 c = search needs
 
 part-requires : tie.Need-part-requires
 part-requires c κs = search needs
@@ -51,6 +57,8 @@ args-text-spec =
     part-result-end
     returns
     number-at-requires
+    cast-part
     number-at-requires-2
+    cast-part-2
     part-requires
     returns-2)

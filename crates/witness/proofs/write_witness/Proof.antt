@@ -1,6 +1,6 @@
 -- `write_witness` appends the text of the last call. Assumes nothing.
 use Rattle.witness.proofs.WitnessLaws.{witness-appends}
-use Rattle.predicate.specs.Rows.{bytesBetween}
+use Rattle.syntax.specs.Text.{bytesBetween}
 use mathlib.Core.Path.{ap, _∙_}
 use denote.Ref.{now}
 use borrow.Author.Needs.{needs}
@@ -12,6 +12,9 @@ last-call-requires c κs = search needs
 
 number-at-requires : tie.Need-number-at-requires
 number-at-requires c κs = search needs
+
+cast-part : tie.Need-cast-part
+cast-part c = search needs
 
 part-requires : tie.Need-part-requires
 part-requires c κs = search needs
@@ -37,6 +40,7 @@ write-witness-spec =
     (tie.spec
     last-call-requires
     number-at-requires
+    cast-part
     part-requires
     args-text-requires
     ident-requires

@@ -1,7 +1,7 @@
 -- `write_columns` appends what stands under each byte. Assumes nothing.
 use Prim.Native.Nat.{_-_}
 use native.Mathlib.Omega.{arith}
-use Rattle.texts.specs.Text.{part}
+use Rattle.syntax.specs.Text.{bytesBetween}
 use Rattle.texts.specs.Place.{column, columns}
 use Rattle.texts.proofs.AppendLaws.{Walks, walks-part, walks-on, walks-end}
 use borrow.Author.Needs.{needs}
@@ -9,7 +9,7 @@ use Rattle.texts.proofs.place.write_columns.Statement.{statement}
 use Rattle.texts.proofs.place.write_columns.Tie as tie
 
 abbrev Inv-loop : tie.InvT-loop
-Inv-loop rule from end mark out₀ at next₀ i₀ out next i = Walks (column mark) rule end (columns mark (part from end rule)) out₀ at out next i
+Inv-loop rule from end mark out₀ at next₀ i₀ out next i = Walks (column mark) rule end (columns mark (bytesBetween rule from end)) out₀ at out next i
 
 abbrev μ-loop : tie.MeasureT-loop
 μ-loop rule from end mark out₀ at next₀ i₀ out next i = end - i

@@ -1,9 +1,9 @@
--- `part` lends the bytes between two places. Assumes nothing.
-use Rattle.witness.proofs.WitnessLaws.{part-is}
+-- `part` lends the bytes between two places: its start and its end lie within the text. Assumes nothing.
 use denote.Ref.{now}
+use Rattle.syntax.proofs.TextLaws.{part-within}
 use borrow.Author.Needs.{needs}
-use Rattle.witness.proofs.part.Statement.{statement}
-use Rattle.witness.proofs.part.Tie as tie
+use Rattle.syntax.proofs.text.part.Statement.{statement}
+use Rattle.syntax.proofs.text.part.Tie as tie
 
 least-requires : tie.Need-least-requires
 least-requires c κs = search needs
@@ -21,7 +21,7 @@ part-result-end : tie.Need-part-result-end
 part-result-end c = search needs
 
 returns : tie.Need-returns
-returns c = part-is (now (c .before .before .before .before .args .rule)) (c .before .before .before .before .args .first) (c .before .before .before .before .args .end) _ _ (c .before .before .least .ensures) (c .before .least2 .ensures)
+returns c = part-within (now (c .before .before .before .before .args .text)) (c .before .before .before .before .args .first) (c .before .before .before .before .args .end) (c .before .before .least .result) (c .before .least2 .result) (c .before .before .least .ensures) (c .before .least2 .ensures)
 
 pub part-spec : {M : Type 1} → statement M
 part-spec =
