@@ -1,11 +1,11 @@
 // Members sent through the calls of a pipeline, one source member at a time: each `where`, then its features, each further `where`. No
 // collection but the last is kept, and no member is sent after one that decides a quantifier.
+use crate::memo;
 use crate::ready;
 use board::image;
 use board::image::Section;
 use calls::method;
 use instance;
-use predicate;
 use predicate::atom::Member;
 use predicate::node;
 use syntax::kind;
@@ -26,10 +26,14 @@ ghost use Rattle.meaning.specs.Pipeline.{isOfAnalysis};
 ghost use Rattle.meaning.specs.Walk.{isLast};
 ghost use Rattle.calls.specs.Table.{methodAt};
 ghost use Rattle.eval.specs.Ready.{CALL-ROW, callsIn, callsFrom, sourceMembers};
+ghost use Rattle.eval.specs.Memo.{argsOf, Notes};
 ghost use Rattle.eval.specs.Feed.{stateOf, begin, fed, decided, Decides, Fits, Stands, Arrives, Named, AnalysisOf, walked};
 
 // The numbers of a row of the collection table.
 const COLLECTION_ROW: usize = 2;
+
+// The bytes for what is known of predicates: those of four calls. The predicate of a later call is asked of each member.
+const NOTES: usize = memo::CALL_NOTES * 4;
 
 // How many members arrived where the result is settled, and of how many of them the last call's predicate is true.
 pub(crate) struct Tally {
@@ -143,6 +147,7 @@ fn feed_each_component(
     ensures { λ r. ⌜ Stands (methodAt last) (stateOf r (now (collection .exit))) (fed (now (image .entry)) (callsFrom (now (rule .entry)) (now (tree .entry)) (now (calls .entry)) 0) (map Member.Component (upFrom 0 (componentCount (now (image .entry))))) (begin (now (collection .entry)))) ⌝ }
 {
     let count = image::record_count(image, Section::Components);
+    let mut notes = [0u8; NOTES];
     let mut tally = Tally {
         arrived: 0,
         passed: 0,
@@ -150,7 +155,18 @@ fn feed_each_component(
     let mut component = 0;
     while component < count {
         let member = Member::Component(component);
-        tally = feed(rule, image, tree, calls, last, 0, member, collection, tally);
+        tally = feed(
+            rule,
+            image,
+            tree,
+            calls,
+            last,
+            0,
+            member,
+            collection,
+            &mut notes,
+            tally,
+        );
         if is_decided(last, tally) {
             return tally;
         }
@@ -173,6 +189,7 @@ fn feed_diagnostics(
     ensures { λ r. ⌜ Stands (methodAt last) (stateOf r (now (collection .exit))) (fed (now (image .entry)) (callsFrom (now (rule .entry)) (now (tree .entry)) (now (calls .entry)) 0) (kept (isOfAnalysis (now (image .entry)) (now (name .entry))) (map Member.Diagnostic (upFrom 0 (diagnosticCount (now (image .entry)))))) (begin (now (collection .entry)))) ⌝ }
 {
     let count = image::record_count(image, Section::Diagnostics);
+    let mut notes = [0u8; NOTES];
     let mut tally = Tally {
         arrived: 0,
         passed: 0,
@@ -190,6 +207,7 @@ fn feed_diagnostics(
             diagnostic,
             analysis.named,
             collection,
+            &mut notes,
             tally,
         );
         if is_decided(last, tally) {
@@ -232,14 +250,26 @@ fn feed_diagnostic(
     diagnostic: u32,
     named: bool,
     collection: &mut [u32],
+    notes: &mut [u8],
     tally: Tally,
 ) -> Tally
-    requires { ⌜ Fits (methodAt last) (now image) (callsFrom (now rule) (now tree) (now calls) 0) (keep named (Member.Diagnostic diagnostic) []) (stateOf tally (now collection)) ⌝ }
-    ensures { λ r. ⌜ Stands (methodAt last) (stateOf r (now (collection .exit))) (fed (now (image .entry)) (callsFrom (now (rule .entry)) (now (tree .entry)) (now (calls .entry)) 0) (keep named (Member.Diagnostic diagnostic) []) (stateOf tally (now (collection .entry)))) ⌝ }
+    requires { ⌜ Fits (methodAt last) (now image) (callsFrom (now rule) (now tree) (now calls) 0) (keep named (Member.Diagnostic diagnostic) []) (stateOf tally (now collection)) × Notes (now rule) (now image) (now tree) (now calls) (now notes) ⌝ }
+    ensures { λ r. ⌜ Stands (methodAt last) (stateOf r (now (collection .exit))) (fed (now (image .entry)) (callsFrom (now (rule .entry)) (now (tree .entry)) (now (calls .entry)) 0) (keep named (Member.Diagnostic diagnostic) []) (stateOf tally (now (collection .entry)))) × Notes (now (rule .entry)) (now (image .entry)) (now (tree .entry)) (now (calls .entry)) (now (notes .exit)) ⌝ }
 {
     if named {
         let member = Member::Diagnostic(diagnostic);
-        return feed(rule, image, tree, calls, last, 0, member, collection, tally);
+        return feed(
+            rule,
+            image,
+            tree,
+            calls,
+            last,
+            0,
+            member,
+            collection,
+            notes,
+            tally,
+        );
     }
     tally
 }
@@ -254,10 +284,11 @@ fn feed(
     i: usize,
     member: Member,
     collection: &mut [u32],
+    notes: &mut [u8],
     tally: Tally,
 ) -> Tally
-    requires { ⌜ Fits (methodAt last) (now image) (callsFrom (now rule) (now tree) (now calls) (CALL-ROW * i)) (member ∷ []) (stateOf tally (now collection)) ⌝ }
-    ensures { λ r. ⌜ Stands (methodAt last) (stateOf r (now (collection .exit))) (fed (now (image .entry)) (callsFrom (now (rule .entry)) (now (tree .entry)) (now (calls .entry)) (CALL-ROW * i)) (member ∷ []) (stateOf tally (now (collection .entry)))) ⌝ }
+    requires { ⌜ Fits (methodAt last) (now image) (callsFrom (now rule) (now tree) (now calls) (CALL-ROW * i)) (member ∷ []) (stateOf tally (now collection)) × Notes (now rule) (now image) (now tree) (now calls) (now notes) ⌝ }
+    ensures { λ r. ⌜ Stands (methodAt last) (stateOf r (now (collection .exit))) (fed (now (image .entry)) (callsFrom (now (rule .entry)) (now (tree .entry)) (now (calls .entry)) (CALL-ROW * i)) (member ∷ []) (stateOf tally (now (collection .entry)))) × Notes (now (rule .entry)) (now (image .entry)) (now (tree .entry)) (now (calls .entry)) (now (notes .exit)) ⌝ }
 {
     if calls.len() / ready::CALL_ROW <= i {
         put_member(collection, tally.arrived, member);
@@ -267,10 +298,9 @@ fn feed(
         };
     }
     let method = calls[ready::CALL_ROW * i] as usize;
-    let args = calls[ready::CALL_ROW * i + 1] as usize;
     let next = i + 1;
     if method == method::WHERE {
-        if predicate::eval_args(rule, image, tree, member, args) {
+        if memo::ask(rule, image, tree, calls, i, member, notes) {
             return feed(
                 rule,
                 image,
@@ -280,6 +310,7 @@ fn feed(
                 next,
                 member,
                 collection,
+                notes,
                 tally,
             );
         }
@@ -296,6 +327,7 @@ fn feed(
                 next,
                 component,
                 collection,
+                notes,
                 tally,
             ),
             Member::Feature(_, _) => tally,
@@ -312,10 +344,11 @@ fn feed(
             next,
             member,
             collection,
+            notes,
             tally,
         );
     }
-    arrive(rule, image, tree, method, args, member, tally)
+    arrive(rule, image, tree, calls, i, method, member, notes, tally)
 }
 
 // Sends the features of a component through the calls from the i-th on.
@@ -328,17 +361,29 @@ fn feed_features(
     i: usize,
     component: u32,
     collection: &mut [u32],
+    notes: &mut [u8],
     tally: Tally,
 ) -> Tally
-    requires { ⌜ Fits (methodAt last) (now image) (callsFrom (now rule) (now tree) (now calls) (CALL-ROW * i)) (featuresOf (now image) component) (stateOf tally (now collection)) ⌝ }
-    ensures { λ r. ⌜ Stands (methodAt last) (stateOf r (now (collection .exit))) (fed (now (image .entry)) (callsFrom (now (rule .entry)) (now (tree .entry)) (now (calls .entry)) (CALL-ROW * i)) (featuresOf (now (image .entry)) component) (stateOf tally (now (collection .entry)))) ⌝ }
+    requires { ⌜ Fits (methodAt last) (now image) (callsFrom (now rule) (now tree) (now calls) (CALL-ROW * i)) (featuresOf (now image) component) (stateOf tally (now collection)) × Notes (now rule) (now image) (now tree) (now calls) (now notes) ⌝ }
+    ensures { λ r. ⌜ Stands (methodAt last) (stateOf r (now (collection .exit))) (fed (now (image .entry)) (callsFrom (now (rule .entry)) (now (tree .entry)) (now (calls .entry)) (CALL-ROW * i)) (featuresOf (now (image .entry)) component) (stateOf tally (now (collection .entry)))) × Notes (now (rule .entry)) (now (image .entry)) (now (tree .entry)) (now (calls .entry)) (now (notes .exit)) ⌝ }
 {
     let end = instance::features_end(image, component);
     let mut feature = image::field(image, Section::Components, component, image::FIRST_FEATURE);
     let mut tally = tally;
     while feature < end {
         let member = Member::Feature(component, feature);
-        tally = feed(rule, image, tree, calls, last, i, member, collection, tally);
+        tally = feed(
+            rule,
+            image,
+            tree,
+            calls,
+            last,
+            i,
+            member,
+            collection,
+            notes,
+            tally,
+        );
         if is_decided(last, tally) {
             return tally;
         }
@@ -352,13 +397,15 @@ fn arrive(
     rule: &[u8],
     image: &[u8],
     tree: &[u32],
+    calls: &[u32],
+    i: usize,
     method: usize,
-    args: usize,
     member: Member,
+    notes: &mut [u8],
     tally: Tally,
 ) -> Tally
-    requires { ⌜ (isLast (methodAt method) ≡ true) × (tally .arrived + 1 < 2 ^ 64) × (tally .passed ≤ tally .arrived) ⌝ }
-    ensures { λ r. ⌜ Arrives (now (rule .entry)) (now (image .entry)) (now (tree .entry)) method args member tally r ⌝ }
+    requires { ⌜ (isLast (methodAt method) ≡ true) × (tally .arrived + 1 < 2 ^ 64) × (tally .passed ≤ tally .arrived) × (CALL-ROW * (i + 1) ≤ length (now calls)) × Notes (now rule) (now image) (now tree) (now calls) (now notes) ⌝ }
+    ensures { λ r. ⌜ Arrives (now (rule .entry)) (now (image .entry)) (now (tree .entry)) method (argsOf (now (calls .entry)) i) member tally r × Notes (now (rule .entry)) (now (image .entry)) (now (tree .entry)) (now (calls .entry)) (now (notes .exit)) ⌝ }
 {
     if method == method::COUNT {
         return Tally {
@@ -366,7 +413,7 @@ fn arrive(
             passed: tally.passed,
         };
     }
-    if predicate::eval_args(rule, image, tree, member, args) {
+    if memo::ask(rule, image, tree, calls, i, member, notes) {
         return Tally {
             arrived: tally.arrived + 1,
             passed: tally.passed + 1,

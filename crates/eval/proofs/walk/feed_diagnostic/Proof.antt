@@ -9,17 +9,20 @@ use Rattle.eval.proofs.walk.feed_diagnostic.Statement.{statement}
 use Rattle.eval.proofs.walk.feed_diagnostic.Tie as tie
 
 feed-requires : tie.Need-feed-requires
-feed-requires c κs = fits-alike (keep-one (now (c .before .before .before .before .before .before .before .args .image)) (callsFrom (now (c .before .before .before .before .before .before .before .args .rule)) (now (c .before .before .before .before .before .before .before .args .tree)) (now (c .before .before .before .before .before .before .before .args .calls)) 0) (Diagnostic (c .before .before .before .before .before .before .before .args .diagnostic)) (c .before .if1 .taken)) (c .before .before .before .before .before .before .before .pre)
+feed-requires c κs = (fits-alike (keep-one (now (c .before .before .before .before .before .before .before .before .before .args .image)) (callsFrom (now (c .before .before .before .before .before .before .before .before .before .args .rule)) (now (c .before .before .before .before .before .before .before .before .before .args .tree)) (now (c .before .before .before .before .before .before .before .before .before .args .calls)) 0) (Diagnostic (c .before .before .before .before .before .before .before .before .before .args .diagnostic)) (c .before .before .if1 .taken)) (c .before .before .before .before .before .before .before .before .before .pre .0), c .before .before .before .before .before .before .before .before .before .pre .1)
 
 same-length : tie.Need-same-length
 same-length c = search needs
 
+same-length-2 : tie.Need-same-length-2
+same-length-2 c = search needs
+
 returns : tie.Need-returns
-returns c = stands-alike (stateOf (c .before .before .before .before .before .before .before .before .before .before .args .tally) (now (c .before .before .before .before .before .before .before .before .before .before .args .collection))) (keep-one (now (c .before .before .before .before .before .before .before .before .before .before .args .image)) (callsFrom (now (c .before .before .before .before .before .before .before .before .before .before .args .rule)) (now (c .before .before .before .before .before .before .before .before .before .before .args .tree)) (now (c .before .before .before .before .before .before .before .before .before .before .args .calls)) 0) (Diagnostic (c .before .before .before .before .before .before .before .before .before .before .args .diagnostic)) (c .before .before .before .before .if1 .taken)) (c .before .before .feed .ensures)
+returns c = (stands-alike (stateOf (c .before .before .before .before .before .before .before .before .before .before .before .before .before .before .args .tally) (now (c .before .before .before .before .before .before .before .before .before .before .before .before .before .before .args .collection))) (keep-one (now (c .before .before .before .before .before .before .before .before .before .before .before .before .before .before .args .image)) (callsFrom (now (c .before .before .before .before .before .before .before .before .before .before .before .before .before .before .args .rule)) (now (c .before .before .before .before .before .before .before .before .before .before .before .before .before .before .args .tree)) (now (c .before .before .before .before .before .before .before .before .before .before .before .before .before .before .args .calls)) 0) (Diagnostic (c .before .before .before .before .before .before .before .before .before .before .before .before .before .before .args .diagnostic)) (c .before .before .before .before .before .before .before .if1 .taken)) (c .before .before .before .before .feed .ensures .0), c .before .before .before .before .feed .ensures .1)
 
 returns-2 : tie.Need-returns-2
-returns-2 c = stands-fed (c .before .before .before .before .before .before .pre) (fed-lost (stateOf (c .before .before .before .before .before .before .args .tally) (now (c .before .before .before .before .before .before .args .collection))) (keep-none (now (c .before .before .before .before .before .before .args .image)) (callsFrom (now (c .before .before .before .before .before .before .args .rule)) (now (c .before .before .before .before .before .before .args .tree)) (now (c .before .before .before .before .before .before .args .calls)) 0) (Diagnostic (c .before .before .before .before .before .before .args .diagnostic)) (c .if1 .left)))
+returns-2 c = (stands-fed (c .before .before .before .before .before .before .before .pre .0) (fed-lost (stateOf (c .before .before .before .before .before .before .before .args .tally) (now (c .before .before .before .before .before .before .before .args .collection))) (keep-none (now (c .before .before .before .before .before .before .before .args .image)) (callsFrom (now (c .before .before .before .before .before .before .before .args .rule)) (now (c .before .before .before .before .before .before .before .args .tree)) (now (c .before .before .before .before .before .before .before .args .calls)) 0) (Diagnostic (c .before .before .before .before .before .before .before .args .diagnostic)) (c .if1 .left))), c .before .before .before .before .before .before .before .pre .1)
 
 pub feed-diagnostic-spec : {M : Type 1} → statement M
 feed-diagnostic-spec =
-    tie.close (tie.spec feed-requires same-length returns returns-2)
+    tie.close (tie.spec feed-requires same-length same-length-2 returns returns-2)
