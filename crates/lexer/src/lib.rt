@@ -12,8 +12,8 @@ use syntax::refusal::Refusal;
 use syntax::text;
 use syntax::utf8;
 ghost use mathlib.Core.Path.{_≡_};
-ghost use mathlib.Core.Bool.{_&&_};
-ghost use lib.Dec.{leb, ltb};
+ghost use mathlib.Core.Bool.{cond, _&&_};
+ghost use lib.Dec.{eqb, leb, ltb};
 ghost use mathlib.Core.List.{[], _∷_};
 ghost use Prim.Native.Nat.{_+_, _-_, _*_, _≤_, _<_};
 ghost use lib.ListN.{length, take, drop};
@@ -120,14 +120,18 @@ fn openers_bound(rule: &[u8]) -> u16
 fn openers_at(b: u8, next: u8) -> u16
     ensures { λ r. ⌜ r ≡ openersAt b next ⌝ }
 {
-    if b == b'(' {
-        return 1;
-    }
     if b == b'n' {
-        if next == b'o' {
-            return 1;
-        }
-        return 0;
+        return matches(next, b'o');
+    }
+    matches(b, b'(')
+}
+
+// 1 where two bytes are the same, else 0: a number and no branch, so that many bytes are counted at once.
+fn matches(b: u8, c: u8) -> u16
+    ensures { λ r. ⌜ r ≡ cond (eqb b c) 1 0 ⌝ }
+{
+    if b == c {
+        return 1;
     }
     0
 }
@@ -241,16 +245,19 @@ fn shape_of(b: u8) -> Shape
     }
 }
 
-// Where a token of this shape ends whose first byte stands before `from`.
+// Where a token of this shape ends whose first byte stands before `from`. Each run has its own arm, so that the shape is asked once.
 fn token_end(rule: &[u8], from: usize, shape: Shape) -> usize
     requires { ⌜ from ≤ length (now rule) ⌝ }
     ensures { λ r. ⌜ r ≡ from + more shape (drop from (now (rule .entry))) ⌝ }
 {
     match shape {
+        Shape::Blanks => run_end(rule, from, Shape::Blanks),
         Shape::Quoted => quote_end(rule, from),
         Shape::Symbol(_) => from,
         Shape::Operator(_, _) => equal_end(rule, from),
-        _ => run_end(rule, from, shape),
+        Shape::Digits => run_end(rule, from, Shape::Digits),
+        Shape::Word => run_end(rule, from, Shape::Word),
+        Shape::Character => run_end(rule, from, Shape::Character),
     }
 }
 
