@@ -40,9 +40,9 @@ unfolding numberText
 number-more n many fits = digits-more 19 n many ∙ ap (λ (front : List ℕ). front ++ (digit (n % 10) ∷ [])) (digits-enough 18 (n / 10) (omega arith))
 
 module _ {out after : List ℕ} {at last n : ℕ} where
-  pub number-few : n < 10 → Appends (digit n ∷ []) out at after last → Appends (numberText n) out at after last
-  number-few few p = rw (number-one n few) p
+  pub number-few : {b : ℕ} → n < 10 → Appends (b ∷ []) out at after last → b ≡ digit n → Appends (numberText n) out at after last
+  number-few few p e = rw (number-one n few, ← e) p
 
-  pub number-many : {between : List ℕ} {next : ℕ} → 10 ≤ n → n < 2 ^ 64 → Appends (numberText (n / 10)) out at between next
-      → Appends (digit (n % 10) ∷ []) between next after last → Appends (numberText n) out at after last
-  number-many many fits p q = rw (number-more n many fits) (appends-then p q)
+  pub number-many : {between : List ℕ} {next b : ℕ} → 10 ≤ n → n < 2 ^ 64 → Appends (numberText (n / 10)) out at between next
+      → Appends (b ∷ []) between next after last → b ≡ digit (n % 10) → Appends (numberText n) out at after last
+  number-many many fits p q e = rw (number-more n many fits, ← e) (appends-then p q)

@@ -1,5 +1,5 @@
 -- `write_number` writes the digits of the tenth, and then the last; the number falls. Assumes nothing.
-use mathlib.Core.Path.{_∙_}
+use mathlib.Core.Path.{refl, _∙_}
 use native.Mathlib.Omega.{arith}
 use Rattle.texts.proofs.AppendLaws.{appends-long}
 use Rattle.texts.proofs.NumberLaws.{number-few, number-many}
@@ -45,7 +45,7 @@ write-number-same-length : (t : ℕ) → write-number-lts.Need-same-length (writ
 write-number-same-length t c = appends-long (c .before .before .append-byte .ensures)
 
 write-number-returns : (t : ℕ) → write-number-lts.Need-returns (write-number-calls t) (write-number-at t) write-number.Post
-write-number-returns t c = number-few (c .before .before .before .before .if1 .taken) (c .before .before .append-byte .ensures)
+write-number-returns t c = number-few (c .before .before .before .before .if1 .taken) (c .before .before .append-byte .ensures) refl
 
 write-number-write-number-requires : (t : ℕ) → write-number-lts.Need-write-number-requires (write-number-calls t) (write-number-at t) write-number.Post
 write-number-write-number-requires t c κs = (omega (arith, c .before .before .before .pre .0), tt)
@@ -63,7 +63,7 @@ write-number-same-length-2 : (t : ℕ) → write-number-lts.Need-same-length-2 (
 write-number-same-length-2 t c = appends-long (c .before .before .append-byte2 .ensures) ∙ appends-long (c .before .before .before .before .before .before .write-number .ensures)
 
 write-number-returns-2 : (t : ℕ) → write-number-lts.Need-returns-2 (write-number-calls t) (write-number-at t) write-number.Post
-write-number-returns-2 t c = number-many (c .before .before .before .before .before .before .before .before .if1 .left) (c .before .before .before .before .before .before .before .before .before .before .fits .n .fits) (c .before .before .before .before .before .before .write-number .ensures) (c .before .before .append-byte2 .ensures)
+write-number-returns-2 t c = number-many (c .before .before .before .before .before .before .before .before .if1 .left) (c .before .before .before .before .before .before .before .before .before .before .fits .n .fits) (c .before .before .before .before .before .before .write-number .ensures) (c .before .before .append-byte2 .ensures) refl
 
 pub +write-number-spec : {M : Type 1} → statement M
 +write-number-spec = close μ-write-number λ t. write-number-lts.spec (write-number-calls t)

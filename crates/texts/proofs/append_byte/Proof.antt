@@ -1,6 +1,6 @@
 -- `append_byte` appends one byte, or none past the end. Assumes nothing.
 use native.Mathlib.Omega.{arith}
-use mathlib.Core.Path.{sym}
+use mathlib.Core.Path.{refl, sym}
 use lib.Seq.{set-out}
 use borrow.Author.Needs.{needs}
 use Rattle.texts.proofs.append_byte.Statement.{statement}
@@ -16,7 +16,7 @@ same-length : tie.Need-same-length
 same-length c = search needs
 
 returns : tie.Need-returns
-returns c = search needs
+returns c = record { place = omega arith; bytes = refl }
 
 returns-2 : tie.Need-returns-2
 returns-2 c = record { place = omega arith; bytes = sym (set-out _ _ _ (c .if1 .left)) }

@@ -1,12 +1,12 @@
 -- `shown_byte` gives `shownByte`, test by test. Assumes nothing.
 use borrow.Author.Tests.{eq-eqb, ne-eqb, lt-ltb, le-ltb}
-use Rattle.texts.specs.Text.{shownByte}
+use Rattle.texts.specs.Text.{TAB, shownByte}
 use Rattle.texts.proofs.shown_byte.Statement.{statement}
 use Rattle.texts.proofs.shown_byte.Tie as tie
 
 returns : tie.Need-returns
 unfolding shownByte
-returns c = rw (eq-eqb _ _ (c .if1 .taken))
+returns c = rw (eq-eqb (c .before .args .b) TAB (c .if1 .taken))
 
 returns-2 : tie.Need-returns-2
 unfolding shownByte
