@@ -49,8 +49,8 @@ pub fn eval_args(rule: &[u8], image: &[u8], tree: &[u32], member: Member, at: us
         return false;
     }
     let level = rows::level_at(tree, at);
-    let inner = eval_inner(rule, image, tree, member, level, at + rows::ROW);
-    inner.value
+    let predicate = eval_inner(rule, image, tree, member, level, at + rows::ROW);
+    predicate.value
 }
 
 fn eval_node(rule: &[u8], image: &[u8], tree: &[u32], member: Member, at: usize) -> Truth

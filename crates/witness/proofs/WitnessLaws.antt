@@ -73,14 +73,14 @@ module _ (rule tree : List ℕ) (call : ℕ) {found : Found} (e : found ≡ firs
   args-at h f g = (λ i. bytesBetween rule (f i) (g i)) ∙ sym (ap (textIn rule tree) (sym e ∙ h))
 
 -- the text by the word of the last call
-module _ (word before args : List ℕ) {out after : List ℕ} {at next : ℕ} where
-  pub all-appends : same word (ascii "all") ≡ true → Appends (before ++ (ascii ".where(not " ++ (args ++ ascii ")"))) out at after next → Appends (byWord word before args) out at after next
+module _ (word before args : List ℕ) {text out after : List ℕ} {at next : ℕ} where
+  pub all-appends : same word (ascii "all") ≡ true → Appends text out at after next → text ≡ before ++ (ascii ".where(not " ++ (args ++ ascii ")")) → Appends (byWord word before args) out at after next
   unfolding byWord
-  all-appends e h = rw e h
+  all-appends e h t = rw (e, ← t) h
 
-  pub none-appends : same word (ascii "all") ≡ false → same word (ascii "none") ≡ true → Appends (before ++ (ascii ".where" ++ args)) out at after next → Appends (byWord word before args) out at after next
+  pub none-appends : same word (ascii "all") ≡ false → same word (ascii "none") ≡ true → Appends text out at after next → text ≡ before ++ (ascii ".where" ++ args) → Appends (byWord word before args) out at after next
   unfolding byWord
-  none-appends e f h = rw (e, f) h
+  none-appends e f h t = rw (e, f, ← t) h
 
 pub other-appends : (word before args : List ℕ) {out : List ℕ} {at : ℕ} → same word (ascii "all") ≡ false → same word (ascii "none") ≡ false → Appends (byWord word before args) out at out at
 unfolding byWord

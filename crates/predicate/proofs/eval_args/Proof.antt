@@ -21,7 +21,7 @@ add-eval-inner : tie.Need-add-eval-inner
 add-eval-inner c = omega (arith, row-there _ _ (sym (c .before .before .is-row .ensures) ∙ not-false _ (c .before .if1 .left)))
 
 eval-inner-requires : tie.Need-eval-inner-requires
-eval-inner-requires c κs = (row-there _ _ (sym (c .before .before .is-row .ensures) ∙ not-false _ (c .before .if1 .left)), c .level-at .ensures .1)
+eval-inner-requires c κs = (omega (arith, row-there _ _ (sym (c .before .before .is-row .ensures) ∙ not-false _ (c .before .if1 .left))), c .level-at .ensures .1)
 
 returns-2 : tie.Need-returns-2
 returns-2 c = inner-value _ (c .before .level-at .ensures .0) (c .eval-inner .ensures)

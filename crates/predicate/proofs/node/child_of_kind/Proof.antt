@@ -25,7 +25,7 @@ add-find-row : tie.Need-add-find-row
 add-find-row c = omega (arith, row-there _ _ (sym (c .before .before .is-row .ensures) ∙ not-false _ (c .before .if1 .left)))
 
 find-row-requires : tie.Need-find-row-requires
-find-row-requires c κs = row-there _ _ (sym (c .before .before .is-row .ensures) ∙ not-false _ (c .before .if1 .left))
+find-row-requires c κs = omega (arith, row-there _ _ (sym (c .before .before .is-row .ensures) ∙ not-false _ (c .before .if1 .left)))
 
 returns-2 : tie.Need-returns-2
 returns-2 c = child-first (ofKind _) _ _ _ (c .before .level-at .ensures .0) (c .find-row .ensures)

@@ -25,7 +25,7 @@ add-find-child : tie.Need-add-find-child
 add-find-child c = omega (arith, row-there _ _ (sym (c .before .before .is-row .ensures) ∙ not-false _ (c .before .if1 .left)))
 
 find-child-requires : tie.Need-find-child-requires
-find-child-requires c κs = row-there _ _ (sym (c .before .before .is-row .ensures) ∙ not-false _ (c .before .if1 .left))
+find-child-requires c κs = omega (arith, row-there _ _ (sym (c .before .before .is-row .ensures) ∙ not-false _ (c .before .if1 .left)))
 
 returns-2 : tie.Need-returns-2
 returns-2 c = child-first ofNode _ _ _ (c .before .level-at .ensures .0) (c .find-child .ensures)

@@ -2,7 +2,8 @@
 use mathlib.Core.Path.{refl}
 use Prim.Native.Nat.{_+_}
 use native.Mathlib.Omega.{arith}
-use borrow.Author.Needs.{needs}
+use mir.Syntax.{w64}
+use borrow.Author.Needs.{needs, fits-under}
 use Rattle.predicate.proofs.rows.level_at.Statement.{statement}
 use Rattle.predicate.proofs.rows.level_at.Tie as tie
 
@@ -16,7 +17,7 @@ shared-slice-read-result : tie.Need-shared-slice-read-result
 shared-slice-read-result c = search needs
 
 cast-result : tie.Need-cast-result
-cast-result c = omega (arith, c .shared-slice-known .given (c .before .args .at + 1))
+cast-result c = fits-under w64 _ _ (c .shared-slice-known .given _ .fits) tt
 
 returns : tie.Need-returns
 returns c = (refl, omega (arith, c .shared-slice-known .given (c .before .args .at + 1)))
