@@ -1,4 +1,5 @@
-// The board image, checked: refusals 5 to 8. Nothing is altered, and each section is passed over once.
+// The board image, checked: refusals 5 to 8. Nothing is altered. Each section is passed over once; the strings once more where their
+// letters are not ASCII alone.
 pub mod image;
 
 use image::Section;
