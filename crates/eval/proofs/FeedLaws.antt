@@ -29,7 +29,7 @@ use Rattle.calls.specs.Table.{methodAt}
 use Rattle.eval.specs.declared.walk.Tally.{Tally}
 use Rattle.eval.specs.declared.walk.Analysis.{Analysis}
 use Rattle.eval.specs.Ready.{CALL-ROW, callIn, callsFrom}
-use Rattle.eval.specs.Feed.{State, stateOf, listed, arrive, fed, decided, Decides, Fits, Stands, Arrives, Named, AnalysisOf}
+use Rattle.eval.specs.Feed.{State, stateOf, listed, arrive, fed, decided, Fits, Stands, Arrives, Named, AnalysisOf}
 use Rattle.eval.proofs.ReadyLaws.{calls-at, calls-over, method-is, method-past, last-between, quantifier-of, count-no-quantifier}
 
 -- a state by its parts
