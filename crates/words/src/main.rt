@@ -1,5 +1,6 @@
 // Prints every text that a report is made of: each verdict and refusal, each kind of outcome, the members of a board that has each
-// word, and the parse errors of the rules on standard input, which a line of `---` ends.
+// word, and of the rules on standard input, which a line of `---` ends, the parse errors, or where there are none the rule that names the
+// members for which a quantifier fails.
 use board::image::Section;
 use calls::value::Outcome;
 use calls::value::Value;
@@ -43,7 +44,7 @@ fn main() {
 fn print_verdict(verdict: Verdict) {
     let mut out = io::buffer();
     let n = answer::write_verdict(verdict, &mut out, 0);
-    print_front(&out, n);
+    io::write_all(STDOUT_FILENO, text::part(&out, 0, n));
     io::write_all(STDOUT_FILENO, b"\n");
 }
 
@@ -58,7 +59,7 @@ fn print_value(value: Value) {
 fn print_head(outcome: Outcome) {
     let mut out = io::buffer();
     let n = answer::write_head(outcome, &mut out, 0);
-    print_front(&out, n);
+    io::write_all(STDOUT_FILENO, text::part(&out, 0, n));
 }
 
 fn print_board_refusals() {
@@ -164,7 +165,7 @@ fn print_members(image: &[u8], section: Section, value: Value) {
 fn print_member(image: &[u8], value: Value, first: u32, second: u32) {
     let mut out = io::buffer();
     let n = members::write_member(image, value, first, second, &mut out, 0);
-    print_front(&out, n);
+    io::write_all(STDOUT_FILENO, text::part(&out, 0, n));
 }
 
 // A board with a component of each category, a feature of each kind in each direction, and a diagnostic of each severity.
@@ -238,7 +239,7 @@ fn write_word(n: u32, out: &mut [u8], at: usize) -> usize {
     )
 }
 
-// Prints the parse errors of the rules on standard input, and of numbers that are no row of one.
+// Prints what is said of the rules on standard input, and the parse errors of numbers that are no row of one.
 fn print_rules() {
     let mut space = io::buffer();
     let n = io::read_full(0, &mut space);
@@ -251,7 +252,7 @@ fn print_each(input: &[u8]) {
     let mut at = 0;
     while at < input.len() {
         let end = rule_end(input, at);
-        print_errors(&input[at..end]);
+        print_rule(&input[at..end]);
         if input.len() - end < 5 {
             return;
         }
@@ -282,8 +283,8 @@ fn starts(text: &[u8]) -> bool {
     text::same(&text[..5], b"\n---\n")
 }
 
-// Prints the errors of a rule, or why it is refused.
-fn print_errors(rule: &[u8]) {
+// Prints the errors of a rule, the rule that names members for one that has none, or why it is refused.
+fn print_rule(rule: &[u8]) {
     let mut tokens = token_table();
     let mut tree = row_table();
     let mut errors = row_table();
@@ -292,7 +293,12 @@ fn print_errors(rule: &[u8]) {
             tokens: _,
             tree: _,
             errors: found,
-        } => print_rows(rule, &errors, found),
+        } => {
+            print_rows(rule, &errors, found);
+            if found == 0 {
+                print_witness(rule, &tree);
+            }
+        }
         Reading::Refused(r) => print_refusal(r),
     }
 }
@@ -317,17 +323,16 @@ fn print_rows(rule: &[u8], errors: &[u32], n: usize) {
     }
 }
 
+// Prints the rule that names members, on a line that is empty where there is none. The rows past the tree's are zeros, and no call's.
+fn print_witness(rule: &[u8], tree: &[u32]) {
+    let mut out = io::buffer();
+    let n = witness::write_witness(rule, tree, &mut out, 0);
+    io::write_all(STDOUT_FILENO, text::part(&out, 0, n));
+    io::write_all(STDOUT_FILENO, b"\n");
+}
+
 fn print_error(rule: &[u8], form: u32, expected: u32, first: u32, end: u32) {
     let mut out = io::buffer();
     let n = error::write_error(rule, form, expected, first, end, &mut out, 0);
-    print_front(&out, n);
-}
-
-// Prints the first n bytes, or as many as there are.
-fn print_front(bytes: &[u8], n: usize) {
-    if n <= bytes.len() {
-        io::write_all(STDOUT_FILENO, &bytes[..n]);
-        return;
-    }
-    io::write_all(STDOUT_FILENO, bytes);
+    io::write_all(STDOUT_FILENO, text::part(&out, 0, n));
 }
