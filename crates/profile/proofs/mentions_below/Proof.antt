@@ -1,0 +1,98 @@
+-- `mentions_below` looks at the rows below, by the laws of `Looking`. Assumes nothing.
+use mathlib.Core.Path.{refl, sym, _∙_}
+use Prim.Native.Nat.{_+_, _-_}
+use native.Mathlib.Omega.{arith}
+use lib.ListN.{length, drop}
+use borrow.Author.Needs.{needs}
+use Rattle.predicate.specs.Rows.{ROW, levelAt}
+use Rattle.predicate.proofs.RowLaws.{row-there, below-row}
+use Rattle.profile.specs.Profile.{asksMore, rowsMention}
+use Rattle.profile.proofs.ProfileLaws.{mentions-missing, Looking, looking-hit, looking-on, looking-end}
+use Rattle.profile.proofs.mentions_below.Statement.{statement}
+use Rattle.profile.proofs.mentions_below.Tie as tie
+
+abbrev Inv-loop : tie.InvT-loop
+Inv-loop tree at member level row₀ row =
+    Looking (asksMore member) tree level row (rowsMention (asksMore member) (levelAt tree at) (drop (at + ROW) tree))
+
+abbrev μ-loop : tie.MeasureT-loop
+μ-loop tree at member level row₀ row = length tree - row
+
+returns : tie.Need-returns Inv-loop μ-loop
+returns c = mentions-missing _ _ _ (c .before .before .args .at) (omega (arith, c .if1 .taken))
+
+sub-if2 : tie.Need-sub-if2 Inv-loop μ-loop
+sub-if2 c = search needs
+
+returns-2 : tie.Need-returns-2 Inv-loop μ-loop
+returns-2 c = mentions-missing _ _ _ (c .before .before .before .args .at) (omega (arith, c .before .if1 .left, c .if2 .taken))
+
+add-level : tie.Need-add-level Inv-loop μ-loop
+add-level c = search needs
+
+mul-level : tie.Need-mul-level Inv-loop μ-loop
+mul-level c = search needs
+
+shared-slice-read-level : tie.Need-shared-slice-read-level Inv-loop μ-loop
+shared-slice-read-level c = search needs
+
+cast-level : tie.Need-cast-level Inv-loop μ-loop
+cast-level c = omega (arith, c .shared-slice-known2 .given (c .before .before .before .before .args .at + 1))
+
+add-row : tie.Need-add-row Inv-loop μ-loop
+add-row c = search needs
+
+loop-holds : tie.Need-loop-holds Inv-loop μ-loop
+loop-holds c = record { rest = refl }
+
+is-below-requires : tie.Need-is-below-requires Inv-loop μ-loop
+is-below-requires c κs = tt
+
+mul-asks-more : tie.Need-mul-asks-more Inv-loop μ-loop
+mul-asks-more c = omega (arith, row-there _ _ (below-row _ _ _ (sym (c .before .is-below .ensures) ∙ c .if3 .taken) .0))
+
+shared-slice-read-asks-more : tie.Need-shared-slice-read-asks-more Inv-loop μ-loop
+shared-slice-read-asks-more c = omega (arith, row-there _ _ (below-row _ _ _ (sym (c .before .before .is-below .ensures) ∙ c .before .if3 .taken) .0))
+
+asks-more-requires : tie.Need-asks-more-requires Inv-loop μ-loop
+asks-more-requires c κs = tt
+
+returns-3 : tie.Need-returns-3 Inv-loop μ-loop
+returns-3 c = looking-hit (c .before .before .before .before .before .loop .inv) (sym (c .before .before .before .before .is-below .ensures) ∙ c .before .before .before .if3 .taken) (sym (c .before .asks-more .ensures) ∙ c .if4 .taken)
+
+add-row-2 : tie.Need-add-row-2 Inv-loop μ-loop
+add-row-2 c = omega (arith, row-there _ _ (below-row _ _ _ (sym (c .before .before .before .before .is-below .ensures) ∙ c .before .before .before .if3 .taken) .0))
+
+loop-less : tie.Need-loop-less Inv-loop μ-loop
+loop-less c = omega (arith, row-there _ _ (below-row _ _ _ (sym (c .before .before .before .before .is-below .ensures) ∙ c .before .before .before .if3 .taken) .0))
+
+loop-again : tie.Need-loop-again Inv-loop μ-loop
+loop-again c = looking-on (c .before .before .before .before .before .loop .inv) (sym (c .before .before .before .before .is-below .ensures) ∙ c .before .before .before .if3 .taken) (sym (c .before .asks-more .ensures) ∙ c .if4 .left)
+
+returns-4 : tie.Need-returns-4 Inv-loop μ-loop
+returns-4 c = looking-end (c .before .before .loop .inv) (sym (c .before .is-below .ensures) ∙ c .if3 .left)
+
+pub mentions-below-spec : {M : Type 1} → statement M
+mentions-below-spec =
+    tie.close
+    (tie.spec
+    Inv-loop
+    μ-loop
+    returns
+    sub-if2
+    returns-2
+    add-level
+    mul-level
+    shared-slice-read-level
+    cast-level
+    add-row
+    loop-holds
+    is-below-requires
+    mul-asks-more
+    shared-slice-read-asks-more
+    asks-more-requires
+    returns-3
+    add-row-2
+    loop-less
+    loop-again
+    returns-4)
