@@ -8,3 +8,4 @@ pub mod ValueLaws
 pub mod PipelineLaws
 pub mod RunLaws
 pub mod AmountLaws
+pub mod MemoLaws

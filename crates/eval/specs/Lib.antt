@@ -2,3 +2,4 @@ pub mod Ready
 pub mod Feed
 pub mod Pipeline
 pub mod Run
+pub mod Memo

@@ -1,13 +1,13 @@
 -- Members with the same profile have the same truth of every predicate that asks for no more; and rows that mention nothing make a
 -- forest that mentions nothing. Assumes nothing.
-use mathlib.Core.Path.{_≡_, refl, sym, ap, _∙_, subst}
-use mathlib.Core.Bool.{Bool, true, false, not, _&&_, _||_, cond, true≢false}
+use mathlib.Core.Path.{_≡_, refl, sym, ap, _∙_}
+use mathlib.Core.Bool.{Bool, true, false, _&&_, _||_, cond, true≢false}
 use mathlib.Core.List.{List, [], _∷_}
 use Prim.Native.Nat.{ℕ, _+_, _*_, _≤_, _<_}
 use native.Mathlib.Omega.{arith}
 use lib.Dec.{eqb, ltb}
 use lib.ListN.{length, drop, length-drop}
-use borrow.Author.Tests.{lt-ltb, le-ltb, eqb-true, ltb-true, ltb-false}
+use borrow.Author.Tests.{lt-ltb, eqb-true, ltb-true, ltb-false}
 use Rattle.syntax.specs.Kind.{BINARY-EXPR, UNARY-EXPR, COMPARE-EXPR, CALL-EXPR, PAREN-EXPR, IDENT-EXPR, CONTAINS-EXPR}
 use Rattle.syntax.specs.Text.{ascii, same}
 use Rattle.syntax.proofs.BoolLaws.{both}
@@ -19,10 +19,9 @@ use Rattle.predicate.specs.declared.atom.Member.{Member}
 use Rattle.predicate.specs.declared.atom.Member.the-variants.{Component, Feature, Diagnostic}
 use Rattle.predicate.specs.Truth.{connected, has, compares, messageContains, firstOf, Sort, binary, unary, paren, ident, call, containing, compare, other, sortOf, settle, truths, truth}
 use Rattle.predicate.specs.Rows.{ROW, Place, below, past, token, child, placeOf, grown, bytesBetween, forest, kindAt, levelAt, forestFrom, childrenAt, isRow, isBelow}
-use Rattle.predicate.proofs.RowLaws.{row-there, row-missing, drop-row, rowAnd, few, below-row}
+use Rattle.predicate.proofs.RowLaws.{row-there, row-missing, drop-row, few, below-row}
 use Rattle.predicate.proofs.ForestLaws.{place-past}
-use Rattle.profile.specs.declared.Profile.{Profile}
-use Rattle.profile.specs.declared.Profile.the-variants.{Number, Unknown}
+use Rattle.profile.specs.declared.Profile.the-variants.{Number}
 use Rattle.profile.specs.Profile.{CATEGORIES, FEATURE-KINDS, DIRECTIONS, SEVERITIES, FIRST-OF-FEATURES, FIRST-OF-DIAGNOSTICS, PROFILES, numbered, ofComponent, ofFeature, ofDiagnostic, profileOf, asksMore, mentions, rowsMention}
 
 -- neither of two tests
@@ -52,6 +51,7 @@ bit-same true false e = absurd (omega arith)
 bit-same false true e = absurd (omega arith)
 bit-same false false e = refl
 
+-- the parts of a number, by the sort of member
 record ComponentIs (category : ℕ) (connected : Bool) (k : ℕ) : Type 0 where
   small : category < CATEGORIES
   is : 2 * category + cond connected 1 0 ≡ k

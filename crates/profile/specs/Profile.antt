@@ -4,10 +4,12 @@ use Prim.Native.Nat.{ℕ, _+_, _*_}
 use mathlib.Core.Bool.{Bool, true, false, _&&_, _||_, cond}
 use mathlib.Core.List.{List, [], _∷_}
 use lib.Dec.{eqb, ltb}
+use lib.ListN.{drop}
 use Rattle.syntax.specs.Kind.{CALL-EXPR, IDENT-EXPR, CONTAINS-EXPR}
 use Rattle.trees.specs.Green.{Forest, nil, leaf, node}
 use Rattle.board.specs.Image.{category, featureKind, direction, severity}
 use Rattle.instance.specs.Instance.{componentConnected}
+use Rattle.predicate.specs.Rows.{ROW, levelAt}
 use Rattle.predicate.specs.declared.atom.Member.{Member}
 use Rattle.predicate.specs.declared.atom.Member.the-variants.{Component, Feature, Diagnostic}
 use Rattle.profile.specs.declared.Profile.{Profile}
@@ -82,3 +84,7 @@ rowsMention test level (k ∷ []) = false
 rowsMention test level (k ∷ m ∷ []) = false
 rowsMention test level (k ∷ m ∷ first ∷ []) = false
 rowsMention test level (k ∷ m ∷ first ∷ end ∷ rows) = ltb level m && (test k || rowsMention test level rows)
+
+-- whether some node inside the one whose row is at a place asks for more than the profile of a member
+abbrev pub mentionsBelow : Member → List ℕ → ℕ → Bool
+mentionsBelow m tree at = rowsMention (asksMore m) (levelAt tree at) (drop (at + ROW) tree)

@@ -7,10 +7,7 @@ use predicate::atom::Member;
 use predicate::rows;
 use syntax::kind;
 ghost use mathlib.Core.Path.{_≡_};
-ghost use Prim.Native.Nat.{_+_};
-ghost use lib.ListN.{drop};
-ghost use Rattle.predicate.specs.Rows.{ROW, levelAt};
-ghost use Rattle.profile.specs.Profile.{ofComponent, ofFeature, ofDiagnostic, profileOf, asksMore, rowsMention};
+ghost use Rattle.profile.specs.Profile.{ofComponent, ofFeature, ofDiagnostic, profileOf, asksMore, mentionsBelow};
 
 // How many values each field has.
 pub const CATEGORIES: u32 = 14;
@@ -97,7 +94,7 @@ pub fn of_diagnostic(severity: u32) -> Profile
 
 // Whether a node inside the one whose row is at a place, at any depth, asks for more than the profile of a member.
 pub fn mentions_below(tree: &[u32], at: usize, member: Member) -> bool
-    ensures { λ r. ⌜ r ≡ rowsMention (asksMore member) (levelAt (now (tree .entry)) at) (drop (at + ROW) (now (tree .entry))) ⌝ }
+    ensures { λ r. ⌜ r ≡ mentionsBelow member (now (tree .entry)) at ⌝ }
 {
     if tree.len() < rows::ROW {
         return false;

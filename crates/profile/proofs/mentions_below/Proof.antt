@@ -2,18 +2,17 @@
 use mathlib.Core.Path.{refl, sym, _∙_}
 use Prim.Native.Nat.{_+_, _-_}
 use native.Mathlib.Omega.{arith}
-use lib.ListN.{length, drop}
+use lib.ListN.{length}
 use borrow.Author.Needs.{needs}
-use Rattle.predicate.specs.Rows.{ROW, levelAt}
 use Rattle.predicate.proofs.RowLaws.{row-there, below-row}
-use Rattle.profile.specs.Profile.{asksMore, rowsMention}
+use Rattle.profile.specs.Profile.{asksMore, mentionsBelow}
 use Rattle.profile.proofs.ProfileLaws.{mentions-missing, Looking, looking-hit, looking-on, looking-end}
 use Rattle.profile.proofs.mentions_below.Statement.{statement}
 use Rattle.profile.proofs.mentions_below.Tie as tie
 
 abbrev Inv-loop : tie.InvT-loop
 Inv-loop tree at member level row₀ row =
-    Looking (asksMore member) tree level row (rowsMention (asksMore member) (levelAt tree at) (drop (at + ROW) tree))
+    Looking (asksMore member) tree level row (mentionsBelow member tree at)
 
 abbrev μ-loop : tie.MeasureT-loop
 μ-loop tree at member level row₀ row = length tree - row
