@@ -1,6 +1,6 @@
 -- Members sent one after the other, and what is kept of each. Assumes nothing.
 use mathlib.Core.Path.{_≡_, refl, sym, ap, _∙_, subst}
-use mathlib.Core.Bool.{Bool, true, false, _&&_, cond}
+use mathlib.Core.Bool.{Bool, true, false, _&&_, cond, false≢true}
 use mathlib.Core.List.{List, [], _∷_, _++_, append-nil, map}
 use mathlib.Core.Option.{Option, none, some}
 use Prim.Native.Nat.{ℕ, _+_, _*_, _≤_, _<_}
@@ -8,30 +8,35 @@ use native.Mathlib.Nat.{add-zero}
 use native.Mathlib.Omega.{arith}
 use lib.ListN.{length, getD, length-append}
 use lib.Seq.{sets, length-sets}
+use lib.Dec.{eqb}
+use borrow.Author.Tests.{ltb-true, lt-ltb, ne-eqb}
 use Rattle.syntax.proofs.BoolLaws.{whether}
 use Rattle.syntax.proofs.TableLaws.{sets-append}
 use Rattle.board.specs.Check.{COLLECTION-ROW}
-use Rattle.board.specs.Image.{firstFeature}
+use Rattle.syntax.specs.Text.{same}
+use Rattle.board.specs.Image.{firstFeature, text, analysis}
 use Rattle.instance.specs.Instance.{featuresEnd}
 use Rattle.predicate.specs.declared.atom.Member.{Member}
 use Rattle.predicate.specs.declared.atom.Member.the-variants.{Component, Feature, Diagnostic}
 use Rattle.meaning.specs.Value.{rowOf, rowsOf}
-use Rattle.meaning.specs.Calls.{Where, Count, Features, Diagnostics, Call, methodNumber, keep, kept, upFrom, trueFor, featuresOf}
+use Rattle.meaning.specs.Calls.{Method, Where, All, Any, None, Count, Features, Diagnostics, Call, methodNumber, keep, kept, upFrom, trueFor, featuresOf}
+use Rattle.meaning.specs.Pipeline.{isOfAnalysis}
 use Rattle.meaning.specs.Walk.{isQuantifier, isLast, arrivals, lastCall, testIn, howMany}
 use Rattle.meaning.proofs.WalkLaws.{upTo, arrivals-none, arrive-end, arrive-kept, arrive-dropped, arrive-passed, arrive-component, arrive-feature, arrive-diagnostic, arrive-last, last-here, last-later, how-many-append, how-many-most, rows-append, rows-length, up-all, features-made, made-turn, made-over, kept-turn, kept-skip, kept-over}
 use Rattle.predicate.specs.Truth.{truth}
 use Rattle.predicate.specs.Rows.{childrenAt}
 use Rattle.calls.specs.Table.{methodAt}
 use Rattle.eval.specs.declared.walk.Tally.{Tally}
+use Rattle.eval.specs.declared.walk.Analysis.{Analysis}
 use Rattle.eval.specs.Ready.{CALL-ROW, callIn, callsFrom}
-use Rattle.eval.specs.Feed.{State, stateOf, listed, arrive, fed, Fits, Arrives}
+use Rattle.eval.specs.Feed.{State, stateOf, listed, arrive, fed, decided, Decides, Fits, Stands, Arrives, Named, AnalysisOf}
 use Rattle.eval.proofs.ReadyLaws.{calls-at, calls-over, method-is, method-past, last-between, quantifier-of, count-no-quantifier}
 
 -- a state by its parts
-abbrev state : (arrived passed : ℕ) → List ℕ → State
+abbrev pub state : (arrived passed : ℕ) → List ℕ → State
 state arrived passed table = record { arrived = arrived; passed = passed; table = table }
 
-state-is : {a b c d : ℕ} {t u : List ℕ} → a ≡ b → c ≡ d → t ≡ u → state a c t ≡ state b d u
+pub state-is : {a b c d : ℕ} {t u : List ℕ} → a ≡ b → c ≡ d → t ≡ u → state a c t ≡ state b d u
 state-is p q r = λ i. state (p i) (q i) (r i)
 
 -- ---- members arrive: none, and some after others
@@ -94,9 +99,9 @@ fed-length : (image : List ℕ) (calls : List Call) (members : List Member) (s :
 unfolding fed arrive
 fed-length image calls members s = length-sets (s .table) (COLLECTION-ROW * s .arrived) (rowsOf (listed (lastCall calls) (arrivals image calls members)))
 
-pub same-length : (image : List ℕ) (calls : List Call) (members : List Member) (s : State) {r : Tally} {after : List ℕ} → stateOf r after ≡ fed image calls members s
-    → length after ≡ length (s .table)
-same-length image calls members s e = ap (λ (s : State). length (s .table)) e ∙ fed-length image calls members s
+pub same-length : {last : Method} (image : List ℕ) (calls : List Call) (members : List Member) (s : State) {t : State} → Stands last t (fed image calls members s)
+    → length (t .table) ≡ length (s .table)
+same-length image calls members s w = ap length (w .table) ∙ fed-length image calls members s
 
 -- ---- one member at a call
 
@@ -145,53 +150,149 @@ fewer-more : (image : List ℕ) (calls : List Call) (members : List Member) (s :
 unfolding fed arrive
 fewer-more image calls members s h = omega (arith, how-many-most (testIn image (lastCall calls)) (arrivals image calls members))
 
-module _ {image : List ℕ} {calls : List Call} {members first others : List Member} {s : State} (p : Parts image calls members first others)
-    (f : Fits image calls members s) where
+module _ {last : Method} {image : List ℕ} {calls : List Call} {members first others : List Member} {s : State} (p : Parts image calls members first others)
+    (f : Fits last image calls members s) where
   size : length (arrivals image calls members) ≡ length (arrivals image calls first) + length (arrivals image calls others)
   size = ap length (p .arrivals) ∙ length-append (arrivals image calls first) (arrivals image calls others)
 
-  pub fits-first : Fits image calls first s
-  fits-first = record { room = omega (arith, f .room, size); fewer = f .fewer }
+  pub fits-first : Fits last image calls first s
+  fits-first = record { room = omega (arith, f .room, size); fewer = f .fewer; decides = f .decides }
 
-  pub fits-others : Fits image calls others (fed image calls first s)
+  pub fits-others : Fits last image calls others (fed image calls first s)
   unfolding fed arrive
   fits-others =
       record {
         room = omega (arith, f .room, size, length-sets (s .table) (COLLECTION-ROW * s .arrived) (rowsOf (listed (lastCall calls) (arrivals image calls first))));
         fewer = fewer-more image calls first s (f .fewer);
+        decides = f .decides;
       }
 
 -- the same room for what arrives alike
-pub fits-alike : {image : List ℕ} {calls later : List Call} {members others : List Member} {s : State}
-    → Alike image calls members later others → Fits image calls members s → Fits image later others s
+pub fits-alike : {last : Method} {image : List ℕ} {calls later : List Call} {members others : List Member} {s : State}
+    → Alike image calls members later others → Fits last image calls members s → Fits last image later others s
 fits-alike {s = s} a f =
-    record { room = subst (λ (ms : List Member). COLLECTION-ROW * (s .arrived + length ms) ≤ length (s .table)) (a .arrivals) (f .room); fewer = f .fewer }
+    record {
+      room = subst (λ (ms : List Member). COLLECTION-ROW * (s .arrived + length ms) ≤ length (s .table)) (a .arrivals) (f .room);
+      fewer = f .fewer;
+      decides = record { unlisted = λ q ms. ap (λ (call : Option Call). listed call ms) (sym (a .last)) ∙ f .decides .unlisted q ms };
+    }
 
 -- room for one member more, at the end of the calls or at the last
-pub fits-one : {image : List ℕ} {calls : List Call} {m : Member} {s : State} → arrivals image calls (m ∷ []) ≡ m ∷ [] → Fits image calls (m ∷ []) s
+pub fits-one : {last : Method} {image : List ℕ} {calls : List Call} {m : Member} {s : State} → arrivals image calls (m ∷ []) ≡ m ∷ [] → Fits last image calls (m ∷ []) s
     → COLLECTION-ROW * (s .arrived + 1) ≤ length (s .table)
 fits-one {s = s} e f = subst (λ (ms : List Member). COLLECTION-ROW * (s .arrived + length ms) ≤ length (s .table)) e (f .room)
+
+-- ---- a quantifier that is decided
+
+-- it stays decided
+decided-more : (last : Method) (arrived passed more of : ℕ) → of ≤ more → decided last arrived passed ≡ true → decided last (arrived + more) (passed + of) ≡ true
+decided-more Where arrived passed more of h d = absurd (false≢true d)
+decided-more All arrived passed more of h d = lt-ltb (passed + of) (arrived + more) (omega (arith, ltb-true passed arrived d))
+decided-more Any arrived passed more of h d = lt-ltb 0 (passed + of) (omega (arith, ltb-true 0 passed d))
+decided-more None arrived passed more of h d = lt-ltb 0 (passed + of) (omega (arith, ltb-true 0 passed d))
+decided-more Count arrived passed more of h d = absurd (false≢true d)
+decided-more Features arrived passed more of h d = absurd (false≢true d)
+decided-more Diagnostics arrived passed more of h d = absurd (false≢true d)
+
+decided-quantifier : (last : Method) (arrived passed : ℕ) → decided last arrived passed ≡ true → isQuantifier last ≡ true
+decided-quantifier Where arrived passed d = absurd (false≢true d)
+decided-quantifier All arrived passed d = refl
+decided-quantifier Any arrived passed d = refl
+decided-quantifier None arrived passed d = refl
+decided-quantifier Count arrived passed d = absurd (false≢true d)
+decided-quantifier Features arrived passed d = absurd (false≢true d)
+decided-quantifier Diagnostics arrived passed d = absurd (false≢true d)
+
+-- by the number of the call
+module _ (arrived passed : ℕ) where
+  pub decided-at : (n : ℕ) (last : Method) {b : Bool} → n ≡ methodNumber last → b ≡ decided last arrived passed → b ≡ decided (methodAt n) arrived passed
+  decided-at n last e h = h ∙ ap (λ (m : Method). decided m arrived passed) (sym (method-is n last e))
+
+  pub decided-other : (n : ℕ) → ((Unit {0} × (n ≡ 1 → ⊥)) × (n ≡ 2 → ⊥)) × (n ≡ 3 → ⊥) → false ≡ decided (methodAt n) arrived passed
+  unfolding methodAt
+  decided-other n h = whether (eqb n 0) (λ e. rw e refl) (λ e. rw (e, ne-eqb n 1 (h .0 .0 .1), ne-eqb n 2 (h .0 .1), ne-eqb n 3 (h .1)) rest)
+    where
+      rest : false ≡ decided (cond (eqb n 4) Count (cond (eqb n 5) Features Diagnostics)) arrived passed
+      rest = whether (eqb n 4) (λ e. rw e refl) (λ e. rw e (whether (eqb n 5) (λ d. rw d refl) (λ d. rw d refl)))
+
+-- whether it is decided in a state
+abbrev decidedIn : Method → State → Bool
+decidedIn last s = decided last (s .arrived) (s .passed)
+
+-- a state stands for itself, and for what follows once it is decided
+stands-equal : {last : Method} {s t : State} → s .passed ≤ s .arrived → s ≡ t → Stands last s t
+stands-equal {last} h e =
+    record {
+      table = ap (λ (s : State). s .table) e;
+      fewer = h;
+      same = λ d. e;
+      done = λ d. subst (λ (s : State). decidedIn last s ≡ true) e d;
+    }
+
+stands-then : {last : Method} {s t u : State} → Stands last s t → Stands last t u → Stands last s u
+stands-then {last} {s} {t} {u} a b =
+    record {
+      table = a .table ∙ b .table;
+      fewer = a .fewer;
+      same = λ d. a .same d ∙ b .same (subst (λ (s : State). decidedIn last s ≡ false) (a .same d) d);
+      done = λ d. b .done (a .done d);
+    }
+
+stands-on : {last : Method} {image : List ℕ} {calls : List Call} {members : List Member} {s : State} → Fits last image calls members s
+    → decidedIn last s ≡ true → Stands last s (fed image calls members s)
+unfolding fed arrive rowsOf
+stands-on {last} {image} {calls} {members} {s} f d =
+    record {
+      table =
+          sym (ap (λ (ms : List Member). sets (s .table) (COLLECTION-ROW * s .arrived) (rowsOf ms))
+          (f .decides .unlisted (decided-quantifier last (s .arrived) (s .passed) d) (arrivals image calls members)));
+      fewer = f .fewer;
+      same = λ e. absurd (false≢true (sym e ∙ d));
+      done = decided-more last (s .arrived) (s .passed) (length (arrivals image calls members)) (howMany (testIn image (lastCall calls)) (arrivals image calls members)) (how-many-most (testIn image (lastCall calls)) (arrivals image calls members));
+    }
+
+pub stands-is : {last : Method} {s t u : State} → Stands last s t → t ≡ u → Stands last s u
+stands-is {last} {s} w e = subst (Stands last s) e w
+
+-- what is sent whole stands for it
+pub stands-fed : {last : Method} {image : List ℕ} {calls : List Call} {members : List Member} {s t : State} → Fits last image calls members s
+    → t ≡ fed image calls members s → Stands last t (fed image calls members s)
+stands-fed {image = image} {calls = calls} {members = members} {s = s} f e =
+    stands-equal (subst (λ (t : State). t .passed ≤ t .arrived) (sym e) (fewer-more image calls members s (f .fewer))) e
+
+pub stands-alike : {last : Method} {image : List ℕ} {calls later : List Call} {members others : List Member} (s : State) {t : State}
+    → Alike image calls members later others → Stands last t (fed image later others s) → Stands last t (fed image calls members s)
+stands-alike s a w = stands-is w (fed-alike s a)
 
 -- ---- a loop over members
 
 -- what is left to send comes to what all come to from the start, and has room
-pub record Feeding (image : List ℕ) (calls : List Call) (all : List Member) (start : State) (rest : List Member) (s : State) : Type 0 where
+pub record Feeding (last : Method) (image : List ℕ) (calls : List Call) (all : List Member) (start : State) (rest : List Member) (s : State) : Type 0 where
   pub same : fed image calls rest s ≡ fed image calls all start
-  pub fits : Fits image calls rest s
+  pub fits : Fits last image calls rest s
 
-pub feeding-start : {image : List ℕ} {calls : List Call} {all : List Member} {start : State} → Fits image calls all start → Feeding image calls all start all start
+pub feeding-start : {last : Method} {image : List ℕ} {calls : List Call} {all : List Member} {start : State} → Fits last image calls all start
+    → Feeding last image calls all start all start
 feeding-start f = record { same = refl; fits = f }
 
-module _ {image : List ℕ} {calls : List Call} {all : List Member} {start : State} {rest : List Member} {s : State} (p : Feeding image calls all start rest s) where
-  -- some are sent
-  pub feeding-on : {first others : List Member} {t : State} → Parts image calls rest first others → t ≡ fed image calls first s → Feeding image calls all start others t
-  feeding-on {first} {others} q e =
-      subst (Feeding image calls all start others) (sym e)
-      (record { same = sym (fed-parts s q) ∙ p .same; fits = fits-others q (p .fits) })
+module _ {last : Method} {image : List ℕ} {calls : List Call} {all : List Member} {start : State} {rest : List Member} {s : State}
+    (p : Feeding last image calls all start rest s) where
+  module _ {first others : List Member} {t : State} (q : Parts image calls rest first others) (w : Stands last t (fed image calls first s)) where
+    -- some are sent, and the quantifier is not decided
+    pub feeding-on : decidedIn last t ≡ false → Feeding last image calls all start others t
+    feeding-on d =
+        subst (Feeding last image calls all start others) (sym (w .same d))
+        (record { same = sym (fed-parts s q) ∙ p .same; fits = fits-others q (p .fits) })
+
+    -- or it is decided
+    pub feeding-stop : decidedIn last t ≡ true → Stands last t (fed image calls all start)
+    feeding-stop d =
+        stands-then w
+        (stands-is (stands-on (fits-others q (p .fits)) (w .done d)) (sym (fed-parts s q) ∙ p .same))
 
   -- none is left
-  pub feeding-end : Lost image calls rest → s ≡ fed image calls all start
-  feeding-end l = fed-lost s l ∙ p .same
+  pub feeding-end : Lost image calls rest → Stands last s (fed image calls all start)
+  feeding-end l = stands-equal (p .fits .fewer) (fed-lost s l ∙ p .same)
 
   -- the table keeps its length
   pub feeding-length : length (s .table) ≡ length (start .table)
@@ -207,17 +308,17 @@ module _ (image : List ℕ) (calls : List Call) (make : ℕ → Member) (first e
   over h = record { arrivals = made-over image calls make first end h }
 
 -- a component's features, by their first and their end
-pub features-start : (image : List ℕ) (calls : List Call) (c : ℕ) (s : State) (first end : ℕ) → first ≡ firstFeature image c → end ≡ featuresEnd image c
-    → Fits image calls (featuresOf image c) s → Feeding image calls (featuresOf image c) s (map (Feature c) (upTo first end)) s
-features-start image calls c s first end f e h =
-    subst (λ (rest : List Member). Feeding image calls (featuresOf image c) s rest s) made (feeding-start h)
+pub features-start : {last : Method} (image : List ℕ) (calls : List Call) (c : ℕ) (s : State) (first end : ℕ) → first ≡ firstFeature image c → end ≡ featuresEnd image c
+    → Fits last image calls (featuresOf image c) s → Feeding last image calls (featuresOf image c) s (map (Feature c) (upTo first end)) s
+features-start {last} image calls c s first end f e h =
+    subst (λ (rest : List Member). Feeding last image calls (featuresOf image c) s rest s) made (feeding-start h)
   where
     made : featuresOf image c ≡ map (Feature c) (upTo first end)
     made = features-made image c ∙ λ i. map (Feature c) (upTo (sym f i) (sym e i))
 
 -- and of those the ones that pass a test
 module _ (image : List ℕ) (calls : List Call) (passes : Member → Bool) (make : ℕ → Member) (first end : ℕ) where
-  pub turn-kept : first < end → Parts image calls (kept passes (map make (upTo first end))) (kept passes (make first ∷ [])) (kept passes (map make (upTo (first + 1) end)))
+  turn-kept : first < end → Parts image calls (kept passes (map make (upTo first end))) (kept passes (make first ∷ [])) (kept passes (map make (upTo (first + 1) end)))
   unfolding kept
   turn-kept h =
       whether (passes (make first))
@@ -227,20 +328,33 @@ module _ (image : List ℕ) (calls : List Call) (passes : Member → Bool) (make
   pub over-kept : end ≤ first → Lost image calls (kept passes (map make (upTo first end)))
   over-kept h = record { arrivals = kept-over image calls passes make first end h }
 
--- one that passes, and one that does not
-pub kept-one : (image : List ℕ) (calls : List Call) (passes : Member → Bool) (m : Member) → passes m ≡ true → Alike image calls (kept passes (m ∷ [])) calls (m ∷ [])
-unfolding kept
-kept-one image calls passes m t = record { arrivals = rw t refl; last = refl }
+  -- by what was found of the first
+  pub turn-asked : {b : Bool} → b ≡ passes (make first) → first < end
+      → Parts image calls (kept passes (map make (upTo first end))) (keep b (make first) []) (kept passes (map make (upTo (first + 1) end)))
+  unfolding kept
+  turn-asked e h =
+      subst (λ (b : Bool). Parts image calls (kept passes (map make (upTo first end))) (keep b (make first) []) (kept passes (map make (upTo (first + 1) end)))) (sym e)
+      (turn-kept h)
 
-pub kept-none : (image : List ℕ) (calls : List Call) (passes : Member → Bool) (m : Member) → passes m ≡ false → Lost image calls (kept passes (m ∷ []))
-unfolding kept
-kept-none image calls passes m t = record { arrivals = rw t (arrivals-none image calls) }
+-- one that is kept, and one that is not
+pub keep-one : (image : List ℕ) (calls : List Call) {b : Bool} (m : Member) → b ≡ true → Alike image calls (keep b m []) calls (m ∷ [])
+keep-one image calls m t = record { arrivals = rw t refl; last = refl }
+
+pub keep-none : (image : List ℕ) (calls : List Call) {b : Bool} (m : Member) → b ≡ false → Lost image calls (keep b m [])
+keep-none image calls m t = record { arrivals = rw t (arrivals-none image calls) }
+
+-- the analysis of a diagnostic, by the number of its string
+pub analysis-of : (image name : List ℕ) (diagnostic : ℕ) {string : ℕ} {a : Analysis} → string ≡ analysis image diagnostic → a .string ≡ string → Named image name a
+    → AnalysisOf image name diagnostic a
+unfolding isOfAnalysis
+analysis-of image name diagnostic e h n =
+    record { known = n; asked = n .named-is ∙ ap (λ (s : ℕ). same (text image s) name) (h ∙ e) }
 
 -- all that are made of the numbers up to a count
-pub all-start : (image : List ℕ) (calls : List Call) (of : List ℕ → List Member) (s : State) (n count : ℕ) → count ≡ n
-    → Fits image calls (of (upFrom 0 n)) s → Feeding image calls (of (upFrom 0 n)) s (of (upTo 0 count)) s
-all-start image calls of s n count e h =
-    subst (λ (rest : List Member). Feeding image calls (of (upFrom 0 n)) s rest s) (ap of (up-all n ∙ ap (upTo 0) (sym e))) (feeding-start h)
+pub all-start : {last : Method} (image : List ℕ) (calls : List Call) (of : List ℕ → List Member) (s : State) (n count : ℕ) → count ≡ n
+    → Fits last image calls (of (upFrom 0 n)) s → Feeding last image calls (of (upFrom 0 n)) s (of (upTo 0 count)) s
+all-start {last} image calls of s n count e h =
+    subst (λ (rest : List Member). Feeding last image calls (of (upFrom 0 n)) s rest s) (ap of (up-all n ∙ ap (upTo 0) (sym e))) (feeding-start h)
 
 -- ---- a member at the last call
 
@@ -311,16 +425,16 @@ module _ (rule image tree rows : List ℕ) (i : ℕ) where
         (fed-last image call later m (stateOf t table) (isQuantifier (methodAt method) && truth image m (childrenAt rule tree args)) l refl)
 
     -- there is room for it
-    pub here-room : (m : Member) (s : State) → isLast (methodAt method) ≡ true → Fits image calls (m ∷ []) s → COLLECTION-ROW * (s .arrived + 1) ≤ length (s .table)
-    here-room m s l f = here (λ cs. Fits image cs (m ∷ []) s → COLLECTION-ROW * (s .arrived + 1) ≤ length (s .table)) (fits-one (arrive-last image call later m l)) f
+    pub here-room : {last : Method} (m : Member) (s : State) → isLast (methodAt method) ≡ true → Fits last image calls (m ∷ []) s → COLLECTION-ROW * (s .arrived + 1) ≤ length (s .table)
+    here-room {last} m s l f = here (λ cs. Fits last image cs (m ∷ []) s → COLLECTION-ROW * (s .arrived + 1) ≤ length (s .table)) (fits-one (arrive-last image call later m l)) f
 
   -- no row is left
   module _ (h : length rows < CALL-ROW * i + CALL-ROW) where
     over-end : (P : List Call → Type 0) → P [] → P calls
     over-end P p = subst P (sym (calls-over rule tree rows i h)) p
 
-    pub end-room : (m : Member) (s : State) → Fits image calls (m ∷ []) s → COLLECTION-ROW * (s .arrived + 1) ≤ length (s .table)
-    end-room m s f = over-end (λ cs. Fits image cs (m ∷ []) s → COLLECTION-ROW * (s .arrived + 1) ≤ length (s .table)) (fits-one (arrive-end image (m ∷ []))) f
+    pub end-room : {last : Method} (m : Member) (s : State) → Fits last image calls (m ∷ []) s → COLLECTION-ROW * (s .arrived + 1) ≤ length (s .table)
+    end-room {last} m s f = over-end (λ cs. Fits last image cs (m ∷ []) s → COLLECTION-ROW * (s .arrived + 1) ≤ length (s .table)) (fits-one (arrive-end image (m ∷ []))) f
 
     pub end-put : (m : Member) (t : Tally) (table : List ℕ) {after : List ℕ} → after ≡ sets table (COLLECTION-ROW * t .arrived) (rowOf m)
         → stateOf (record { arrived = t .arrived + 1; passed = t .passed }) after ≡ fed image calls (m ∷ []) (stateOf t table)

@@ -1,4 +1,5 @@
 pub mod FeedLaws
+pub mod ComponentLaws
 pub mod ReadyLaws
 pub mod TableLaws
 pub mod SourceLaws

@@ -1,14 +1,14 @@
 -- What a pipeline, a comparison and a rule's tree come to, by what was planned and what arrived. Assumes nothing.
 use mathlib.Core.Path.{_≡_, refl, sym, ap, ap₂, _∙_, subst}
-use mathlib.Core.Bool.{Bool, false}
+use mathlib.Core.Bool.{Bool, true, false, false≢true}
 use mathlib.Core.List.{List, [], _∷_, _++_}
-use mathlib.Core.Option.{Option}
+use mathlib.Core.Option.{Option, none, some}
 use Prim.Native.Nat.{ℕ, suc, _+_, _*_, _≤_}
 use native.Mathlib.Omega.{arith}
 use lib.Dec.{eqb}
-use lib.ListN.{length, take, drop, set, length-append, length-take, length-drop}
+use lib.ListN.{length, take, drop, set, replicate, length-append, length-take, length-drop, length-replicate}
 use lib.Seq.{sets, sets-eq, length-sets, take-append-seam}
-use borrow.Author.Tests.{eq-eqb, ne-eqb}
+use borrow.Author.Tests.{eq-eqb, ne-eqb, ltb-true}
 use Rattle.syntax.specs.Kind.{INT-LIT, DOT-CALL, COUNT-COMPARE-EXPR}
 use Rattle.syntax.specs.declared.refusal.Refusal.{Refusal}
 use Rattle.syntax.specs.declared.refusal.Refusal.the-variants.{ParseErrors, ComparisonNotCountable, IntegerTooLarge}
@@ -16,6 +16,7 @@ use Rattle.syntax.proofs.BoolLaws.{whether}
 use Rattle.trees.specs.Green.{Forest}
 use Rattle.matching.specs.declared.search.Found.{Found}
 use Rattle.predicate.specs.declared.atom.Member.{Member}
+use Rattle.predicate.specs.declared.atom.Member.the-variants.{Component}
 use Rattle.predicate.specs.Truth.{firstText}
 use Rattle.predicate.specs.Rows.{ROW, Place, below, past, token, child, placeOf, grown, bytesBetween, forest, kindAt as treeKind, levelAt, forestFrom, childrenAt, ofNode, firstRow}
 use Rattle.predicate.specs.Eval.{FoundAt, FoundNowhere}
@@ -25,21 +26,21 @@ use Rattle.meaning.specs.Calls.{Method, Where, All, Any, None, Count, Features,
 use Rattle.meaning.specs.Pipeline.{callsOf, sourceOf, evalPipeline}
 use Rattle.meaning.specs.Compare.{operatorHolds, against, compared, operatorOf, integerOf}
 use Rattle.meaning.specs.Outcome.{firstKind, firstInner, evalCountCompare, evalNode}
-use Rattle.meaning.specs.Walk.{isLast, planOf, arrivals, arriveBy, lastCall, lastMethod, lastTest, howMany, judged, settled}
-use Rattle.meaning.proofs.WalkLaws.{Ends, calls-settled, plan-ends}
+use Rattle.meaning.specs.Walk.{isLast, isQuantifier, planOf, arrivals, arriveBy, lastCall, methodIn, lastMethod, lastTest, howMany, judged, settled}
+use Rattle.meaning.proofs.WalkLaws.{Ends, calls-settled, plan-ends, how-many-most}
 use Rattle.calls.specs.declared.value.Outcome.{Outcome as Answer}
 use Rattle.calls.specs.declared.value.Value.{Value}
 use Rattle.calls.specs.declared.value.Integer.{Integer}
 use Rattle.calls.specs.Answer.{answerOf}
 use Rattle.calls.specs.Integer.{integerFor, againstFor}
-use Rattle.calls.specs.Table.{kindAt}
+use Rattle.calls.specs.Table.{methodAt, kindAt}
 use Rattle.calls.proofs.CompareLaws.{against-integer}
 use Rattle.calls.proofs.TableLaws.{method-at, kind-at}
 use Rattle.eval.specs.declared.walk.Tally.{Tally}
 use Rattle.eval.specs.Ready.{CALL-ROW, callIn, callsIn, sourceSort, sourceMembers, LastMethod, Ready, Refuses}
-use Rattle.eval.specs.Feed.{State, stateOf, listed, walked}
+use Rattle.eval.specs.Feed.{State, stateOf, listed, decided, Decides, Stands, walked}
 use Rattle.eval.specs.Pipeline.{MAX-ROWS, CALLS, Evaluates, Counts, OperatorAt, Gives}
-use Rattle.eval.proofs.ReadyLaws.{kind-number}
+use Rattle.eval.proofs.ReadyLaws.{kind-number, count-no-quantifier}
 use Rattle.eval.proofs.CallLaws.{calls-append}
 use Rattle.eval.proofs.PlanLaws.{node-first, node-none, source-found}
 
@@ -89,6 +90,52 @@ listing Kind.Diagnostics last e method arrived passed members table = rw e refl
 listing Kind.Boolean last e method arrived passed members table = rw (e .1) (sym (judged-table method arrived passed table))
 listing Kind.Count last e method arrived passed members table = rw (e .1) refl
 
+-- ---- a quantifier that is decided
+
+-- the last call decides nothing where rows are written, and `count` decides nothing at all
+pub last-decides : (rule tree : List ℕ) {rows : List ℕ} {n : ℕ} → LastMethod rows n → Decides (methodAt n) (callsIn rule tree rows)
+unfolding lastMethod
+last-decides rule tree {rows} l =
+    record { unlisted = λ q ms. go (lastCall (callsIn rule tree rows)) (subst (λ (m : Method). isQuantifier m ≡ true) (l .method rule tree) q) ms }
+  where
+    go : (last : Option Call) → isQuantifier (methodIn last) ≡ true → (ms : List Member) → listed last ms ≡ []
+    go none q ms = absurd (false≢true q)
+    go (some call) q ms = refl
+
+pub count-decides : (calls : List Call) → Decides (methodAt (methodNumber Count)) calls
+count-decides calls = record { unlisted = λ q ms. absurd (false≢true (sym (count-no-quantifier (methodNumber Count) refl) ∙ q)) }
+
+-- only a boolean is decided
+decided-boolean : (kind : Kind) (last : Option Call) (arrived passed : ℕ) → Ends kind last → decided (methodIn last) arrived passed ≡ true → kind ≡ Kind.Boolean
+decided-boolean Kind.Components last arrived passed e d = absurd (false≢true (rw e at d))
+decided-boolean Kind.Features last arrived passed e d = absurd (false≢true (rw e at d))
+decided-boolean Kind.Diagnostics last arrived passed e d = absurd (false≢true (rw e at d))
+decided-boolean Kind.Boolean last arrived passed e d = refl
+decided-boolean Kind.Count last arrived passed e d = absurd (false≢true (rw (ap methodIn (e .1) ∙ e .2) at d))
+
+-- and is judged by that alone
+abbrev decision : Method → Outcome
+decision Where = boolean false false
+decision All = boolean false false
+decision Any = boolean true false
+decision None = boolean false false
+decision Count = boolean false false
+decision Features = boolean false false
+decision Diagnostics = boolean false false
+
+judged-decided : (last : Method) (arrived passed : ℕ) → passed ≤ arrived → decided last arrived passed ≡ true → judged last arrived passed ≡ decision last
+judged-decided Where arrived passed h d = refl
+judged-decided All arrived passed h d =
+    let l = ltb-true passed arrived d in
+    rw (ne-eqb passed arrived (λ e. omega arith), ne-eqb arrived 0 (λ e. omega arith)) refl
+judged-decided Any arrived passed h d = rw d refl
+judged-decided None arrived passed h d =
+    let l = ltb-true 0 passed d in
+    rw (ne-eqb passed 0 (λ e. omega arith), ne-eqb arrived 0 (λ e. omega arith)) refl
+judged-decided Count arrived passed h d = refl
+judged-decided Features arrived passed h d = refl
+judged-decided Diagnostics arrived passed h d = refl
+
 -- a pipeline that is refused
 pub refuses : (image : List ℕ) {rule tree : List ℕ} {at : ℕ} {table : List ℕ} {r : Refusal} → Refuses rule tree at r
     → Evaluates (evalPipeline image (childrenAt rule tree at)) table table (Answer.Refused r)
@@ -116,27 +163,54 @@ module _ (rule image tree : List ℕ) (at : ℕ) {rows : List ℕ} {source count
       ap₂ (callsGive image) (sym (p .holds .calls)) (source-found rule image tree at (p .found))
       ∙ calls-settled image calls (sourceSort (treeKind tree source)) members (kindAt kind) plan-is
 
-  pub pipeline-given : {t : Tally} {method : ℕ} {table after : List ℕ} {r : Value} → stateOf t after ≡ walked image calls members table
+  ends : Ends (kindAt kind) (lastCall calls)
+  ends = plan-ends calls (sourceSort (treeKind tree source)) (kindAt kind) plan-is
+
+  abbrev passing : ℕ
+  passing = howMany (lastTest image calls) came
+
+  module _ (t : Tally) (method : ℕ) (table after : List ℕ) (r : Value) (w : Stands (methodAt method) (stateOf t after) (walked image calls members table))
+      (m : LastMethod (take (CALL-ROW * count) rows) method) (g : Gives kind method t r) where
+    -- all members were sent
+    given-whole : stateOf t after ≡ walked image calls members table
+        → Answer.Given r ≡ answerOf (settled (kindAt kind) (lastMethod calls) (length came) passing came)
+    unfolding walked lastTest
+    given-whole e =
+        g .given came (sym (ap (λ (s : State). s .arrived) e))
+        ∙ λ i. answerOf (settled (kindAt kind) (m .method rule tree i) (e i .arrived) (e i .passed) came)
+
+    -- or the quantifier was decided before
+    given-decided : decided (methodAt method) (t .arrived) (t .passed) ≡ true
+        → Answer.Given r ≡ answerOf (settled (kindAt kind) (lastMethod calls) (length came) passing came)
+    unfolding walked lastTest lastMethod settled
+    given-decided d =
+        g .given (replicate (t .arrived) (Component 0)) (length-replicate (t .arrived) (Component 0))
+        ∙ ap answerOf
+        ((λ i. settled (is i) (m .method rule tree i) (t .arrived) (t .passed) (replicate (t .arrived) (Component 0)))
+        ∙ judged-decided (lastMethod calls) (t .arrived) (t .passed) (w .fewer) first
+        ∙ sym (judged-decided (lastMethod calls) (length came) passing (how-many-most (lastTest image calls) came) (rw (m .method rule tree) at (w .done d)))
+        ∙ λ i. settled (sym is i) (lastMethod calls) (length came) passing came)
+      where
+        first : decided (lastMethod calls) (t .arrived) (t .passed) ≡ true
+        first = rw (m .method rule tree) at d
+
+        is : kindAt kind ≡ Kind.Boolean
+        is = decided-boolean (kindAt kind) (lastCall calls) (t .arrived) (t .passed) ends first
+
+  pub pipeline-given : {t : Tally} {method : ℕ} {table after : List ℕ} {r : Value} → Stands (methodAt method) (stateOf t after) (walked image calls members table)
       → LastMethod (take (CALL-ROW * count) rows) method → Gives kind method t r
       → Evaluates (evalPipeline image (childrenAt rule tree at)) table after (Answer.Given r)
-  unfolding walked lastTest
+  unfolding walked
   pipeline-given {t} {method} {table} {after} {r} w m g =
       record {
         outcome =
-            g .given came (sym arrived)
-            ∙ (λ i. answerOf (settled (kindAt kind) (m .method rule tree i) (arrived i) (passed i) came))
+            whether (decided (methodAt method) (t .arrived) (t .passed)) (given-decided t method table after r w m g) (λ e. given-whole t method table after r w m g (w .same e))
             ∙ ap answerOf (sym pipeline-settled);
         table =
-            ap (λ (s : State). s .table) w
-            ∙ listing (kindAt kind) (lastCall calls) (plan-ends calls (sourceSort (treeKind tree source)) (kindAt kind) plan-is) (lastMethod calls) (length came) (howMany (lastTest image calls) came) came table
+            w .table
+            ∙ listing (kindAt kind) (lastCall calls) ends (lastMethod calls) (length came) passing came table
             ∙ ap (λ (o : Outcome). collectionTable o table) (sym pipeline-settled);
       }
-    where
-      arrived : t .arrived ≡ length came
-      arrived = ap (λ (s : State). s .arrived) w
-
-      passed : t .passed ≡ howMany (lastTest image calls) came
-      passed = ap (λ (s : State). s .passed) w
 
 -- ---- a `count` behind the calls
 
@@ -184,17 +258,17 @@ module _ (rule image tree : List ℕ) (source : ℕ) (rows : List ℕ) (count : 
   counted-calls = ap (callsIn rule tree) counted-taken ∙ calls-append rule tree count (take (CALL-ROW * count) rows) (methodNumber Count ∷ 0 ∷ []) front
 
   pub counts : {t : Tally} {table after : List ℕ}
-      → stateOf t after ≡ walked image (callsIn rule tree (take (CALL-ROW * count + CALL-ROW) counted)) (sourceMembers image (treeKind tree source) (childrenAt rule tree source)) table
+      → Stands (methodAt (methodNumber Count)) (stateOf t after) (walked image (callsIn rule tree (take (CALL-ROW * count + CALL-ROW) counted)) (sourceMembers image (treeKind tree source) (childrenAt rule tree source)) table)
       → Counts rule image tree source rows count table after (t .arrived)
   unfolding walked
   counts {t} {table} {after} w =
       record {
         members =
-            ap (λ (s : State). s .arrived) w
+            ap (λ (s : State). s .arrived) (w .same (ap (λ (m : Method). decided m (t .arrived) (t .passed)) (method-at Count)))
             ∙ ap (λ (cs : List Call). length (arrivals image cs ms)) counted-calls
             ∙ ap length (count-behind image first last ms (method-at Count));
         table =
-            ap (λ (s : State). s .table) w
+            w .table
             ∙ ap (λ (cs : List Call). withMembers (listed (lastCall cs) (arrivals image cs ms)) table) counted-calls
             ∙ ap (λ (ms : List Member). withMembers ms table) (count-lists first last (arrivals image (first ++ (last ∷ [])) ms) (method-at Count));
       }

@@ -1,5 +1,5 @@
 -- All members of a source, sent into cleared rows. Assumes nothing.
-use mathlib.Core.Path.{_≡_, refl, ap, _∙_}
+use mathlib.Core.Path.{_≡_, refl, sym, ap, _∙_, subst}
 use mathlib.Core.List.{List, map}
 use mathlib.Core.Option.{Option, none, some}
 use Prim.Native.Nat.{ℕ, _≤_}
@@ -16,12 +16,12 @@ use Rattle.predicate.specs.declared.atom.Member.{Member}
 use Rattle.predicate.specs.declared.atom.Member.the-variants.{Component, Diagnostic}
 use Rattle.predicate.specs.Truth.{literalOf}
 use Rattle.meaning.specs.Value.{rowsOf, wholeRows, withMembers}
-use Rattle.meaning.specs.Calls.{Call, kept, upFrom}
+use Rattle.meaning.specs.Calls.{Method, Call, kept, upFrom}
 use Rattle.meaning.specs.Pipeline.{isOfAnalysis}
 use Rattle.meaning.specs.Walk.{arrivals, lastCall, testIn, howMany}
 use Rattle.meaning.proofs.WalkLaws.{components-rows, diagnostics-rows, rows-length, whole-within}
 use Rattle.eval.specs.Ready.{callsIn, callsFrom, sourceMembers}
-use Rattle.eval.specs.Feed.{begin, listed, arrive, fed, Fits, walked}
+use Rattle.eval.specs.Feed.{begin, listed, arrive, fed, Decides, Fits, walked}
 use Rattle.eval.proofs.ReadyLaws.{calls-all}
 use Rattle.eval.proofs.TableLaws.{cleared, members-written, cleared-length}
 
@@ -30,11 +30,12 @@ pub record Rows (image : List ℕ) (calls : List Call) (members : List Member) (
   pub fit : length (rowsOf (arrivals image calls members)) ≤ wholeRows table
 
 module _ {image : List ℕ} {calls : List Call} {members : List Member} {table : List ℕ} (r : Rows image calls members table) where
-  pub rows-fits : {t : List ℕ} → t ≡ cleared table → Fits image calls members (begin t)
-  rows-fits {t} e =
+  pub rows-fits : {last : Method} {t : List ℕ} → Decides last calls → t ≡ cleared table → Fits last image calls members (begin t)
+  rows-fits {t = t} d e =
       record {
         room = omega (arith, r .fit, rows-length (arrivals image calls members), whole-within table, cleared-length table, ap length e);
         fewer = omega arith;
+        decides = d;
       }
 
   listed-fit : (last : Option Call) → length (rowsOf (listed last (arrivals image calls members))) ≤ wholeRows table
@@ -55,6 +56,10 @@ module _ {image : List ℕ} {calls : List Call} {members : List Member} {table :
       rows =
           ap (λ (t : List ℕ). sets t 0 (rowsOf (listed (lastCall calls) (arrivals image calls members)))) e
           ∙ members-written (listed (lastCall calls) (arrivals image calls members)) table (listed-fit (lastCall calls))
+
+-- all calls are those from the first on
+pub decides-all : {last : Method} (rule tree rows : List ℕ) → Decides last (callsIn rule tree rows) → Decides last (callsFrom rule tree rows 0)
+decides-all {last} rule tree rows d = subst (Decides last) (sym (calls-all rule tree rows)) d
 
 -- the two sources
 module _ (rule image tree rows table : List ℕ) (kind : ℕ) (f : Forest) where

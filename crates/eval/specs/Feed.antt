@@ -3,19 +3,25 @@
 use Prim.Native.Nat.{ℕ, _+_, _*_, _≤_}
 use mathlib.Core.List.{List, []}
 use mathlib.Core.Option.{Option, none, some}
-use mathlib.Core.Bool.{cond, _&&_}
+use mathlib.Core.Bool.{Bool, true, false, cond, _&&_}
 use mathlib.Core.Path.{_≡_}
+use lib.Dec.{ltb}
 use lib.ListN.{length}
 use lib.Seq.{sets}
+use Rattle.syntax.specs.Text.{same}
+use Rattle.board.specs.Image.{text}
 use Rattle.board.specs.Check.{COLLECTION-ROW}
 use Rattle.predicate.specs.declared.atom.Member.{Member}
+use Rattle.predicate.specs.declared.atom.Member.the-variants.{Diagnostic}
 use Rattle.predicate.specs.Truth.{truth}
 use Rattle.predicate.specs.Rows.{childrenAt}
 use Rattle.meaning.specs.Value.{rowsOf, withMembers}
-use Rattle.meaning.specs.Calls.{Call}
+use Rattle.meaning.specs.Calls.{Method, Where, All, Any, None, Count, Features, Diagnostics, Call}
+use Rattle.meaning.specs.Pipeline.{isOfAnalysis}
 use Rattle.meaning.specs.Walk.{isQuantifier, arrivals, lastCall, testIn, howMany}
 use Rattle.calls.specs.Table.{methodAt}
 use Rattle.eval.specs.declared.walk.Tally.{Tally}
+use Rattle.eval.specs.declared.walk.Analysis.{Analysis}
 
 -- how far members were sent: how many arrived, how many of those passed, and the collection table
 pub record State : Type 0 where
@@ -50,15 +56,47 @@ unfoldable pub fed : (image : List ℕ) → List Call → List Member → State 
 unfolding arrive arrivals lastCall
 fed image calls members s = arrive image (lastCall calls) (arrivals image calls members) s
 
--- the table has a row for each that arrives, and no more passed than arrived
-pub record Fits (image : List ℕ) (calls : List Call) (members : List Member) (s : State) : Type 0 where
+-- whether a quantifier is decided, whoever else arrives: `all` by a member that does not pass, `any` and `none` by one that does
+abbrev pub decided : Method → (arrived passed : ℕ) → Bool
+decided Where arrived passed = false
+decided All arrived passed = ltb passed arrived
+decided Any arrived passed = ltb 0 passed
+decided None arrived passed = ltb 0 passed
+decided Count arrived passed = false
+decided Features arrived passed = false
+decided Diagnostics arrived passed = false
+
+-- where a quantifier may be decided, no rows are written
+pub record Decides (last : Method) (calls : List Call) : Type 0 where
+  pub unlisted : isQuantifier last ≡ true → (members : List Member) → listed (lastCall calls) members ≡ []
+
+-- the table has a row for each that arrives, no more passed than arrived, and a quantifier may be decided early
+pub record Fits (last : Method) (image : List ℕ) (calls : List Call) (members : List Member) (s : State) : Type 0 where
   pub room : COLLECTION-ROW * (s .arrived + length (arrivals image calls members)) ≤ length (s .table)
   pub fewer : s .passed ≤ s .arrived
+  pub decides : Decides last calls
+
+-- s, reached by sending members until the quantifier is decided, stands for t, where all were sent: it is t, or both are decided; the table
+-- is the same
+pub record Stands (last : Method) (s t : State) : Type 0 where
+  pub table : s .table ≡ t .table
+  pub fewer : s .passed ≤ s .arrived
+  pub same : decided last (s .arrived) (s .passed) ≡ false → s ≡ t
+  pub done : decided last (s .arrived) (s .passed) ≡ true → decided last (t .arrived) (t .passed) ≡ true
 
 -- a member arrived at a call that gives no collection
 pub record Arrives (rule image tree : List ℕ) (method args : ℕ) (m : Member) (t r : Tally) : Type 0 where
   pub arrived : r .arrived ≡ t .arrived + 1
   pub passed : r .passed ≡ t .passed + cond (isQuantifier (methodAt method) && truth image m (childrenAt rule tree args)) 1 0
+
+-- what is known of an analysis: whether its text is a name
+pub record Named (image name : List ℕ) (a : Analysis) : Type 0 where
+  pub named-is : a .named ≡ same (text image (a .string)) name
+
+-- and that it is the analysis of a diagnostic
+pub record AnalysisOf (image name : List ℕ) (diagnostic : ℕ) (a : Analysis) : Type 0 where
+  pub known : Named image name a
+  pub asked : a .named ≡ isOfAnalysis image name (Diagnostic diagnostic)
 
 -- all members of a source were sent, from a table that held `table`
 unfoldable pub walked : (image : List ℕ) → List Call → List Member → List ℕ → State

@@ -65,8 +65,9 @@ fn eval_pipeline(
             kind,
         } => {
             let end = ready::CALL_ROW * count;
-            let tally = walk::walk(rule, image, tree, source, &calls[..end], collection);
             let method = ready::last_method(&calls[..end]);
+            let last = method as usize;
+            let tally = walk::walk(rule, image, tree, source, &calls[..end], last, collection);
             Outcome::Given(value(kind, method, tally))
         }
     }
@@ -125,7 +126,15 @@ fn count_members(
     calls[last] = method::COUNT as u32;
     calls[last + 1] = 0;
     let end = last + ready::CALL_ROW;
-    let tally = walk::walk(rule, image, tree, source, &calls[..end], collection);
+    let tally = walk::walk(
+        rule,
+        image,
+        tree,
+        source,
+        &calls[..end],
+        method::COUNT,
+        collection,
+    );
     tally.arrived
 }
 

@@ -1,11 +1,11 @@
 // Members sent through the calls of a pipeline, one source member at a time: each `where`, then its features, each further `where`. No
-// collection but the last is kept.
+// collection but the last is kept, and no member is sent after one that decides a quantifier.
+use crate::memo;
 use crate::ready;
 use board::image;
 use board::image::Section;
 use calls::method;
 use instance;
-use predicate;
 use predicate::atom::Member;
 use predicate::node;
 use syntax::kind;
@@ -21,15 +21,19 @@ ghost use Rattle.board.specs.Check.{COLLECTION-ROW};
 ghost use Rattle.board.specs.WellFormed.{WellFormed, Room};
 ghost use Rattle.predicate.specs.Rows.{ROW, kindAt, childrenAt};
 ghost use Rattle.meaning.specs.Value.{rowOf, wholeRows};
-ghost use Rattle.meaning.specs.Calls.{kept, upFrom, featuresOf};
+ghost use Rattle.meaning.specs.Calls.{Where, keep, kept, upFrom, featuresOf};
 ghost use Rattle.meaning.specs.Pipeline.{isOfAnalysis};
 ghost use Rattle.meaning.specs.Walk.{isLast};
 ghost use Rattle.calls.specs.Table.{methodAt};
 ghost use Rattle.eval.specs.Ready.{CALL-ROW, callsIn, callsFrom, sourceMembers};
-ghost use Rattle.eval.specs.Feed.{stateOf, begin, fed, Fits, Arrives, walked};
+ghost use Rattle.eval.specs.Memo.{argsOf, Notes};
+ghost use Rattle.eval.specs.Feed.{stateOf, begin, fed, decided, Decides, Fits, Stands, Arrives, Named, AnalysisOf, walked};
 
 // The numbers of a row of the collection table.
 const COLLECTION_ROW: usize = 2;
+
+// The bytes for what is known of predicates: those of four calls. The predicate of a later call is asked of each member.
+const NOTES: usize = memo::CALL_NOTES * 4;
 
 // How many members arrived where the result is settled, and of how many of them the last call's predicate is true.
 pub(crate) struct Tally {
@@ -37,24 +41,32 @@ pub(crate) struct Tally {
     pub passed: usize,
 }
 
-// Sends all members of a source through the calls, into a collection table whose rows become 0 first.
+// The number of an analysis' string, and whether its text is the name asked for.
+struct Analysis {
+    string: u32,
+    named: bool,
+}
+
+// Sends the members of a source through the calls, into a collection table whose rows become 0 first: all of them, or as many as decide
+// the quantifier whose number is `last`.
 pub(crate) fn walk(
     rule: &[u8],
     image: &[u8],
     tree: &[u32],
     source: usize,
     calls: &[u32],
+    last: usize,
     collection: &mut [u32],
 ) -> Tally
-    requires { ⌜ (source + ROW ≤ length (now tree)) × WellFormed (now image) × Room (now image) (length (now collection)) ⌝ }
-    ensures { λ r. ⌜ stateOf r (now (collection .exit)) ≡ walked (now (image .entry)) (callsIn (now (rule .entry)) (now (tree .entry)) (now (calls .entry))) (sourceMembers (now (image .entry)) (kindAt (now (tree .entry)) source) (childrenAt (now (rule .entry)) (now (tree .entry)) source)) (now (collection .entry)) ⌝ }
+    requires { ⌜ (source + ROW ≤ length (now tree)) × WellFormed (now image) × Room (now image) (length (now collection)) × Decides (methodAt last) (callsIn (now rule) (now tree) (now calls)) ⌝ }
+    ensures { λ r. ⌜ Stands (methodAt last) (stateOf r (now (collection .exit))) (walked (now (image .entry)) (callsIn (now (rule .entry)) (now (tree .entry)) (now (calls .entry))) (sourceMembers (now (image .entry)) (kindAt (now (tree .entry)) source) (childrenAt (now (rule .entry)) (now (tree .entry)) source)) (now (collection .entry))) ⌝ }
 {
     clear(collection);
     if tree[source] == kind::IDENT_EXPR {
-        return feed_components(rule, image, tree, calls, collection);
+        return feed_components(rule, image, tree, calls, last, collection);
     }
     let name = node::find_string_literal(rule, tree, source);
-    feed_diagnostics(rule, image, tree, name, calls, collection)
+    feed_diagnostics(rule, image, tree, name, calls, last, collection)
 }
 
 // Sets all whole rows of the collection table to 0.
@@ -69,18 +81,73 @@ fn clear(collection: &mut [u32])
     }
 }
 
-// `components`: every component of the board.
+// Whether the quantifier with this number is decided, whoever else arrives.
+fn is_decided(last: usize, tally: Tally) -> bool
+    ensures { λ r. ⌜ r ≡ decided (methodAt last) (tally .arrived) (tally .passed) ⌝ }
+{
+    match last {
+        method::ALL => tally.passed < tally.arrived,
+        method::ANY => 0 < tally.passed,
+        method::NONE => 0 < tally.passed,
+        _ => false,
+    }
+}
+
+// `components`: every component of the board. Where there is no call all have rows, and a first call `count` gives their number.
 fn feed_components(
     rule: &[u8],
     image: &[u8],
     tree: &[u32],
     calls: &[u32],
+    last: usize,
     collection: &mut [u32],
 ) -> Tally
-    requires { ⌜ Fits (now image) (callsFrom (now rule) (now tree) (now calls) 0) (map Member.Component (upFrom 0 (componentCount (now image)))) (begin (now collection)) ⌝ }
-    ensures { λ r. ⌜ stateOf r (now (collection .exit)) ≡ fed (now (image .entry)) (callsFrom (now (rule .entry)) (now (tree .entry)) (now (calls .entry)) 0) (map Member.Component (upFrom 0 (componentCount (now (image .entry))))) (begin (now (collection .entry))) ⌝ }
+    requires { ⌜ Fits (methodAt last) (now image) (callsFrom (now rule) (now tree) (now calls) 0) (map Member.Component (upFrom 0 (componentCount (now image)))) (begin (now collection)) ⌝ }
+    ensures { λ r. ⌜ Stands (methodAt last) (stateOf r (now (collection .exit))) (fed (now (image .entry)) (callsFrom (now (rule .entry)) (now (tree .entry)) (now (calls .entry)) 0) (map Member.Component (upFrom 0 (componentCount (now (image .entry))))) (begin (now (collection .entry)))) ⌝ }
+{
+    if calls.len() < ready::CALL_ROW {
+        return list_components(image, collection);
+    }
+    if calls[0] as usize == method::COUNT {
+        return Tally {
+            arrived: image::record_count(image, Section::Components) as usize,
+            passed: 0,
+        };
+    }
+    feed_each_component(rule, image, tree, calls, last, collection)
+}
+
+// Writes the rows of all components.
+fn list_components(image: &[u8], collection: &mut [u32]) -> Tally
+    requires { ⌜ Fits Where (now image) [] (map Member.Component (upFrom 0 (componentCount (now image)))) (begin (now collection)) ⌝ }
+    ensures { λ r. ⌜ stateOf r (now (collection .exit)) ≡ fed (now (image .entry)) [] (map Member.Component (upFrom 0 (componentCount (now (image .entry))))) (begin (now (collection .entry))) ⌝ }
 {
     let count = image::record_count(image, Section::Components);
+    let mut component = 0;
+    while component < count {
+        put_member(collection, component as usize, Member::Component(component));
+        component += 1;
+    }
+    Tally {
+        arrived: component as usize,
+        passed: 0,
+    }
+}
+
+// Sends every component through the calls.
+fn feed_each_component(
+    rule: &[u8],
+    image: &[u8],
+    tree: &[u32],
+    calls: &[u32],
+    last: usize,
+    collection: &mut [u32],
+) -> Tally
+    requires { ⌜ Fits (methodAt last) (now image) (callsFrom (now rule) (now tree) (now calls) 0) (map Member.Component (upFrom 0 (componentCount (now image)))) (begin (now collection)) ⌝ }
+    ensures { λ r. ⌜ Stands (methodAt last) (stateOf r (now (collection .exit))) (fed (now (image .entry)) (callsFrom (now (rule .entry)) (now (tree .entry)) (now (calls .entry)) 0) (map Member.Component (upFrom 0 (componentCount (now (image .entry))))) (begin (now (collection .entry)))) ⌝ }
+{
+    let count = image::record_count(image, Section::Components);
+    let mut notes = [0u8; NOTES];
     let mut tally = Tally {
         arrived: 0,
         passed: 0,
@@ -88,7 +155,21 @@ fn feed_components(
     let mut component = 0;
     while component < count {
         let member = Member::Component(component);
-        tally = feed(rule, image, tree, calls, 0, member, collection, tally);
+        tally = feed(
+            rule,
+            image,
+            tree,
+            calls,
+            last,
+            0,
+            member,
+            collection,
+            &mut notes,
+            tally,
+        );
+        if is_decided(last, tally) {
+            return tally;
+        }
         component += 1;
     }
     tally
@@ -101,59 +182,96 @@ fn feed_diagnostics(
     tree: &[u32],
     name: &[u8],
     calls: &[u32],
+    last: usize,
     collection: &mut [u32],
 ) -> Tally
-    requires { ⌜ Fits (now image) (callsFrom (now rule) (now tree) (now calls) 0) (kept (isOfAnalysis (now image) (now name)) (map Member.Diagnostic (upFrom 0 (diagnosticCount (now image))))) (begin (now collection)) ⌝ }
-    ensures { λ r. ⌜ stateOf r (now (collection .exit)) ≡ fed (now (image .entry)) (callsFrom (now (rule .entry)) (now (tree .entry)) (now (calls .entry)) 0) (kept (isOfAnalysis (now (image .entry)) (now (name .entry))) (map Member.Diagnostic (upFrom 0 (diagnosticCount (now (image .entry)))))) (begin (now (collection .entry))) ⌝ }
+    requires { ⌜ Fits (methodAt last) (now image) (callsFrom (now rule) (now tree) (now calls) 0) (kept (isOfAnalysis (now image) (now name)) (map Member.Diagnostic (upFrom 0 (diagnosticCount (now image))))) (begin (now collection)) ⌝ }
+    ensures { λ r. ⌜ Stands (methodAt last) (stateOf r (now (collection .exit))) (fed (now (image .entry)) (callsFrom (now (rule .entry)) (now (tree .entry)) (now (calls .entry)) 0) (kept (isOfAnalysis (now (image .entry)) (now (name .entry))) (map Member.Diagnostic (upFrom 0 (diagnosticCount (now (image .entry)))))) (begin (now (collection .entry)))) ⌝ }
 {
     let count = image::record_count(image, Section::Diagnostics);
+    let mut notes = [0u8; NOTES];
     let mut tally = Tally {
         arrived: 0,
         passed: 0,
     };
+    let mut analysis = compare_name(image, name, 0);
     let mut diagnostic = 0;
     while diagnostic < count {
+        analysis = analysis_of(image, name, diagnostic, analysis);
         tally = feed_diagnostic(
             rule,
             image,
             tree,
-            name,
             calls,
+            last,
             diagnostic,
+            analysis.named,
             collection,
+            &mut notes,
             tally,
         );
+        if is_decided(last, tally) {
+            return tally;
+        }
         diagnostic += 1;
     }
     tally
 }
 
-// Sends a diagnostic if it is of the analysis with this name.
+// The analysis of a diagnostic; its text is compared only where it is not the analysis known already.
+fn analysis_of(image: &[u8], name: &[u8], diagnostic: u32, known: Analysis) -> Analysis
+    requires { ⌜ Named (now image) (now name) known ⌝ }
+    ensures { λ r. ⌜ AnalysisOf (now (image .entry)) (now (name .entry)) diagnostic r ⌝ }
+{
+    let string = image::field(image, Section::Diagnostics, diagnostic, image::ANALYSIS);
+    if string == known.string {
+        return known;
+    }
+    compare_name(image, name, string)
+}
+
+// The analysis whose text is the string with this number.
+fn compare_name(image: &[u8], name: &[u8], string: u32) -> Analysis
+    ensures { λ r. ⌜ (r .string ≡ string) × Named (now (image .entry)) (now (name .entry)) r ⌝ }
+{
+    Analysis {
+        string: string,
+        named: text::same(image::string(image, string), name),
+    }
+}
+
+// Sends a diagnostic whose analysis has the name asked for.
 fn feed_diagnostic(
     rule: &[u8],
     image: &[u8],
     tree: &[u32],
-    name: &[u8],
     calls: &[u32],
+    last: usize,
     diagnostic: u32,
+    named: bool,
     collection: &mut [u32],
+    notes: &mut [u8],
     tally: Tally,
 ) -> Tally
-    requires { ⌜ Fits (now image) (callsFrom (now rule) (now tree) (now calls) 0) (kept (isOfAnalysis (now image) (now name)) (Member.Diagnostic diagnostic ∷ [])) (stateOf tally (now collection)) ⌝ }
-    ensures { λ r. ⌜ stateOf r (now (collection .exit)) ≡ fed (now (image .entry)) (callsFrom (now (rule .entry)) (now (tree .entry)) (now (calls .entry)) 0) (kept (isOfAnalysis (now (image .entry)) (now (name .entry))) (Member.Diagnostic diagnostic ∷ [])) (stateOf tally (now (collection .entry))) ⌝ }
+    requires { ⌜ Fits (methodAt last) (now image) (callsFrom (now rule) (now tree) (now calls) 0) (keep named (Member.Diagnostic diagnostic) []) (stateOf tally (now collection)) × Notes (now rule) (now image) (now tree) (now calls) (now notes) ⌝ }
+    ensures { λ r. ⌜ Stands (methodAt last) (stateOf r (now (collection .exit))) (fed (now (image .entry)) (callsFrom (now (rule .entry)) (now (tree .entry)) (now (calls .entry)) 0) (keep named (Member.Diagnostic diagnostic) []) (stateOf tally (now (collection .entry)))) × Notes (now (rule .entry)) (now (image .entry)) (now (tree .entry)) (now (calls .entry)) (now (notes .exit)) ⌝ }
 {
-    if is_of_analysis(image, name, diagnostic) {
+    if named {
         let member = Member::Diagnostic(diagnostic);
-        return feed(rule, image, tree, calls, 0, member, collection, tally);
+        return feed(
+            rule,
+            image,
+            tree,
+            calls,
+            last,
+            0,
+            member,
+            collection,
+            notes,
+            tally,
+        );
     }
     tally
-}
-
-fn is_of_analysis(image: &[u8], name: &[u8], diagnostic: u32) -> bool
-    ensures { λ r. ⌜ r ≡ isOfAnalysis (now (image .entry)) (now (name .entry)) (Member.Diagnostic diagnostic) ⌝ }
-{
-    let analysis = image::field(image, Section::Diagnostics, diagnostic, image::ANALYSIS);
-    text::same(image::string(image, analysis), name)
 }
 
 // Sends one member through the calls from the i-th on.
@@ -162,13 +280,15 @@ fn feed(
     image: &[u8],
     tree: &[u32],
     calls: &[u32],
+    last: usize,
     i: usize,
     member: Member,
     collection: &mut [u32],
+    notes: &mut [u8],
     tally: Tally,
 ) -> Tally
-    requires { ⌜ Fits (now image) (callsFrom (now rule) (now tree) (now calls) (CALL-ROW * i)) (member ∷ []) (stateOf tally (now collection)) ⌝ }
-    ensures { λ r. ⌜ stateOf r (now (collection .exit)) ≡ fed (now (image .entry)) (callsFrom (now (rule .entry)) (now (tree .entry)) (now (calls .entry)) (CALL-ROW * i)) (member ∷ []) (stateOf tally (now (collection .entry))) ⌝ }
+    requires { ⌜ Fits (methodAt last) (now image) (callsFrom (now rule) (now tree) (now calls) (CALL-ROW * i)) (member ∷ []) (stateOf tally (now collection)) × Notes (now rule) (now image) (now tree) (now calls) (now notes) ⌝ }
+    ensures { λ r. ⌜ Stands (methodAt last) (stateOf r (now (collection .exit))) (fed (now (image .entry)) (callsFrom (now (rule .entry)) (now (tree .entry)) (now (calls .entry)) (CALL-ROW * i)) (member ∷ []) (stateOf tally (now (collection .entry)))) × Notes (now (rule .entry)) (now (image .entry)) (now (tree .entry)) (now (calls .entry)) (now (notes .exit)) ⌝ }
 {
     if calls.len() / ready::CALL_ROW <= i {
         put_member(collection, tally.arrived, member);
@@ -178,10 +298,21 @@ fn feed(
         };
     }
     let method = calls[ready::CALL_ROW * i] as usize;
-    let args = calls[ready::CALL_ROW * i + 1] as usize;
+    let next = i + 1;
     if method == method::WHERE {
-        if predicate::eval_args(rule, image, tree, member, args) {
-            return feed(rule, image, tree, calls, i + 1, member, collection, tally);
+        if memo::ask(rule, image, tree, calls, i, member, notes) {
+            return feed(
+                rule,
+                image,
+                tree,
+                calls,
+                last,
+                next,
+                member,
+                collection,
+                notes,
+                tally,
+            );
         }
         return tally;
     }
@@ -192,9 +323,11 @@ fn feed(
                 image,
                 tree,
                 calls,
-                i + 1,
+                last,
+                next,
                 component,
                 collection,
+                notes,
                 tally,
             ),
             Member::Feature(_, _) => tally,
@@ -202,9 +335,20 @@ fn feed(
         };
     }
     if method::FEATURES < method {
-        return feed(rule, image, tree, calls, i + 1, member, collection, tally);
+        return feed(
+            rule,
+            image,
+            tree,
+            calls,
+            last,
+            next,
+            member,
+            collection,
+            notes,
+            tally,
+        );
     }
-    arrive(rule, image, tree, method, args, member, tally)
+    arrive(rule, image, tree, calls, i, method, member, notes, tally)
 }
 
 // Sends the features of a component through the calls from the i-th on.
@@ -213,20 +357,36 @@ fn feed_features(
     image: &[u8],
     tree: &[u32],
     calls: &[u32],
+    last: usize,
     i: usize,
     component: u32,
     collection: &mut [u32],
+    notes: &mut [u8],
     tally: Tally,
 ) -> Tally
-    requires { ⌜ Fits (now image) (callsFrom (now rule) (now tree) (now calls) (CALL-ROW * i)) (featuresOf (now image) component) (stateOf tally (now collection)) ⌝ }
-    ensures { λ r. ⌜ stateOf r (now (collection .exit)) ≡ fed (now (image .entry)) (callsFrom (now (rule .entry)) (now (tree .entry)) (now (calls .entry)) (CALL-ROW * i)) (featuresOf (now (image .entry)) component) (stateOf tally (now (collection .entry))) ⌝ }
+    requires { ⌜ Fits (methodAt last) (now image) (callsFrom (now rule) (now tree) (now calls) (CALL-ROW * i)) (featuresOf (now image) component) (stateOf tally (now collection)) × Notes (now rule) (now image) (now tree) (now calls) (now notes) ⌝ }
+    ensures { λ r. ⌜ Stands (methodAt last) (stateOf r (now (collection .exit))) (fed (now (image .entry)) (callsFrom (now (rule .entry)) (now (tree .entry)) (now (calls .entry)) (CALL-ROW * i)) (featuresOf (now (image .entry)) component) (stateOf tally (now (collection .entry)))) × Notes (now (rule .entry)) (now (image .entry)) (now (tree .entry)) (now (calls .entry)) (now (notes .exit)) ⌝ }
 {
     let end = instance::features_end(image, component);
     let mut feature = image::field(image, Section::Components, component, image::FIRST_FEATURE);
     let mut tally = tally;
     while feature < end {
         let member = Member::Feature(component, feature);
-        tally = feed(rule, image, tree, calls, i, member, collection, tally);
+        tally = feed(
+            rule,
+            image,
+            tree,
+            calls,
+            last,
+            i,
+            member,
+            collection,
+            notes,
+            tally,
+        );
+        if is_decided(last, tally) {
+            return tally;
+        }
         feature += 1;
     }
     tally
@@ -237,13 +397,15 @@ fn arrive(
     rule: &[u8],
     image: &[u8],
     tree: &[u32],
+    calls: &[u32],
+    i: usize,
     method: usize,
-    args: usize,
     member: Member,
+    notes: &mut [u8],
     tally: Tally,
 ) -> Tally
-    requires { ⌜ (isLast (methodAt method) ≡ true) × (tally .arrived + 1 < 2 ^ 64) × (tally .passed ≤ tally .arrived) ⌝ }
-    ensures { λ r. ⌜ Arrives (now (rule .entry)) (now (image .entry)) (now (tree .entry)) method args member tally r ⌝ }
+    requires { ⌜ (isLast (methodAt method) ≡ true) × (tally .arrived + 1 < 2 ^ 64) × (tally .passed ≤ tally .arrived) × (CALL-ROW * (i + 1) ≤ length (now calls)) × Notes (now rule) (now image) (now tree) (now calls) (now notes) ⌝ }
+    ensures { λ r. ⌜ Arrives (now (rule .entry)) (now (image .entry)) (now (tree .entry)) method (argsOf (now (calls .entry)) i) member tally r × Notes (now (rule .entry)) (now (image .entry)) (now (tree .entry)) (now (calls .entry)) (now (notes .exit)) ⌝ }
 {
     if method == method::COUNT {
         return Tally {
@@ -251,7 +413,7 @@ fn arrive(
             passed: tally.passed,
         };
     }
-    if predicate::eval_args(rule, image, tree, member, args) {
+    if memo::ask(rule, image, tree, calls, i, member, notes) {
         return Tally {
             arrived: tally.arrived + 1,
             passed: tally.passed + 1,

@@ -1,5 +1,5 @@
 -- `count_members` sends all members to a `count` behind the calls. Assumes nothing.
-use Rattle.eval.proofs.PipelineLaws.{counted-length, counted-part, counts}
+use Rattle.eval.proofs.PipelineLaws.{count-decides, counted-length, counted-part, counts}
 use lib.ListN.{length-set}
 use native.Mathlib.Omega.{arith}
 use Prim.Native.Nat.{_*_}
@@ -39,7 +39,7 @@ slice-aggregate-walk : tie.Need-slice-aggregate-walk
 slice-aggregate-walk c = counted-part (now (c .before .before .before .before .before .before .args .rule)) (now (c .before .before .before .before .before .before .args .image)) (now (c .before .before .before .before .before .before .args .tree)) (c .before .before .before .before .before .before .args .source) (now (c .before .before .before .before .before .before .args .calls)) (c .before .before .before .before .before .before .args .count) (c .before .before .before .before .before .before .pre .1)
 
 walk-requires : tie.Need-walk-requires
-walk-requires c κs = search needs
+walk-requires c κs = (c .before .before .before .before .before .before .before .pre .0, c .before .before .before .before .before .before .before .pre .2 .well, c .before .before .before .before .before .before .before .pre .2 .room, count-decides _)
 
 same-length : tie.Need-same-length
 same-length c = search needs

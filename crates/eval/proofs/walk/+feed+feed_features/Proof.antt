@@ -1,15 +1,17 @@
 -- A member through the calls from a place on, by itself or by its features: the calls left fall around the cycle. Assumes nothing.
-use Rattle.eval.proofs.FeedLaws.{same-length, fed-alike, fed-lost, fits-first, fits-alike, Feeding, feeding-on, feeding-end, feeding-length, turn, over, features-start, here-kept, here-dropped, here-passed, here-features, here-feature, here-diagnostic, here-last, here-arrives, here-room, end-room, end-put}
+use Rattle.eval.proofs.FeedLaws.{same-length, fed-lost, fits-first, fits-alike, stands-fed, stands-alike, Feeding, feeding-on, feeding-stop, feeding-end, feeding-length, turn, over, features-start, here-kept, here-dropped, here-passed, here-features, here-feature, here-diagnostic, here-last, here-arrives, here-room, end-room, end-put}
 use Rattle.eval.specs.Feed.{stateOf}
+use Rattle.eval.specs.Memo.{Notes}
 use Rattle.eval.specs.Ready.{CALL-ROW, callsFrom}
 use Rattle.meaning.proofs.WalkLaws.{upTo}
 use Rattle.meaning.specs.Calls.{featuresOf}
+use Rattle.calls.specs.Table.{methodAt}
 use Rattle.predicate.specs.declared.atom.Member.the-variants.{Feature}
 use borrow.Author.Needs.{needs}
 use lib.ListN.{length}
 use native.Mathlib.Omega.{arith}
 use mathlib.Core.List.{map}
-use mathlib.Core.Path.{sym, _∙_}
+use mathlib.Core.Path.{_≡_, refl, sym, _∙_}
 use denote.Ref.{now}
 use Prim.Native.Nat.{ℕ, _<_, _+_, _*_, _-_}
 use borrow.Fn.Kinds.{In}
@@ -21,54 +23,55 @@ use Rattle.eval.proofs.walk.feed_features.Reads as feed-features
 use Rattle.eval.proofs.walk.feed_features.Kinds as feed-features-kinds
 use Rattle.eval.proofs.walk.+feed+feed_features.Lts-feed_features as feed-features-lts
 use Rattle.board.proofs.image.field.Reads as field-reads
+use Rattle.eval.proofs.memo.ask.Reads as ask-reads
 use Rattle.eval.proofs.walk.arrive.Reads as arrive-reads
+use Rattle.eval.proofs.walk.is_decided.Reads as is-decided-reads
 use Rattle.eval.proofs.walk.put_member.Reads as put-member-reads
 use Rattle.instance.proofs.features_end.Reads as features-end-reads
-use Rattle.predicate.proofs.eval_args.Reads as eval-args-reads
 use Rattle.eval.proofs.walk.+feed+feed_features.{statement}
 use Rattle.eval.proofs.walk.+feed+feed_features.Tie.{close}
 
-abbrev μ-feed : Measures 5 feed-kinds.ps ℕ
-μ-feed κs a = 2 * (length (now (a .1 .1 .1 .0)) - a .1 .1 .1 .1 .0)
+abbrev μ-feed : Measures 6 feed-kinds.ps ℕ
+μ-feed κs a = 2 * (length (now (a .1 .1 .1 .0)) - a .1 .1 .1 .1 .1 .0)
 
-abbrev μ-feed-features : Measures 5 feed-features-kinds.ps ℕ
-μ-feed-features κs a = 2 * (length (now (a .1 .1 .1 .0)) - a .1 .1 .1 .1 .0) + 1
+abbrev μ-feed-features : Measures 6 feed-features-kinds.ps ℕ
+μ-feed-features κs a = 2 * (length (now (a .1 .1 .1 .0)) - a .1 .1 .1 .1 .1 .0) + 1
 
-abbrev feed-at : ℕ → In 5 feed-kinds.ps
-feed-at t = and 5 feed-kinds.ps (is 5 feed-kinds.ps μ-feed t) feed.Pre
+abbrev feed-at : ℕ → In 6 feed-kinds.ps
+feed-at t = and 6 feed-kinds.ps (is 6 feed-kinds.ps μ-feed t) feed.Pre
 
-abbrev feed-below : ℕ → In 5 feed-kinds.ps
-feed-below t = and 5 feed-kinds.ps (falls 5 feed-kinds.ps _<_ μ-feed t) feed.Pre
+abbrev feed-below : ℕ → In 6 feed-kinds.ps
+feed-below t = and 6 feed-kinds.ps (falls 6 feed-kinds.ps _<_ μ-feed t) feed.Pre
 
-abbrev feed-features-at : ℕ → In 5 feed-features-kinds.ps
+abbrev feed-features-at : ℕ → In 6 feed-features-kinds.ps
 feed-features-at t =
-    and 5 feed-features-kinds.ps (is 5 feed-features-kinds.ps μ-feed-features t) feed-features.Pre
+    and 6 feed-features-kinds.ps (is 6 feed-features-kinds.ps μ-feed-features t) feed-features.Pre
 
-abbrev feed-features-below : ℕ → In 5 feed-features-kinds.ps
+abbrev feed-features-below : ℕ → In 6 feed-features-kinds.ps
 feed-features-below t =
     and
-    5
+    6
     feed-features-kinds.ps
-    (falls 5 feed-features-kinds.ps _<_ μ-feed-features t)
+    (falls 6 feed-features-kinds.ps _<_ μ-feed-features t)
     feed-features.Pre
 
 abbrev feed-calls : ℕ → feed-lts.Claims
-feed-calls t = (put-member-reads.Asked, put-member-reads.Learnt, eval-args-reads.Asked, eval-args-reads.Learnt, feed-below t, feed.Post, feed-features-below t, feed-features.Post, arrive-reads.Asked, arrive-reads.Learnt)
+feed-calls t = (put-member-reads.Asked, put-member-reads.Learnt, ask-reads.Asked, ask-reads.Learnt, feed-below t, feed.Post, feed-features-below t, feed-features.Post, arrive-reads.Asked, arrive-reads.Learnt)
 
 abbrev feed-features-calls : ℕ → feed-features-lts.Claims
-feed-features-calls t = (features-end-reads.Asked, features-end-reads.Learnt, field-reads.Asked, field-reads.Learnt, feed-below t, feed.Post)
+feed-features-calls t = (features-end-reads.Asked, features-end-reads.Learnt, field-reads.Asked, field-reads.Learnt, feed-below t, feed.Post, is-decided-reads.Asked, is-decided-reads.Learnt)
 
 feed-put-member-requires : (t : ℕ) → feed-lts.Need-put-member-requires (feed-calls t) (feed-at t) feed.Post
-feed-put-member-requires t c κs = end-room (now (c .before .before .before .before .before .before .before .args .rule)) (now (c .before .before .before .before .before .before .before .args .image)) (now (c .before .before .before .before .before .before .before .args .tree)) (now (c .before .before .before .before .before .before .before .args .calls)) (c .before .before .before .before .before .before .before .args .i) (omega (arith, c .before .if1 .taken)) (c .before .before .before .before .before .before .before .args .member) (stateOf (c .before .before .before .before .before .before .before .args .tally) (now (c .before .before .before .before .before .before .before .args .collection))) (c .before .before .before .before .before .before .before .pre .1)
+feed-put-member-requires t c κs = end-room (now (c .before .before .before .before .before .before .before .before .args .rule)) (now (c .before .before .before .before .before .before .before .before .args .image)) (now (c .before .before .before .before .before .before .before .before .args .tree)) (now (c .before .before .before .before .before .before .before .before .args .calls)) (c .before .before .before .before .before .before .before .before .args .i) (omega (arith, c .before .if1 .taken)) (c .before .before .before .before .before .before .before .before .args .member) (stateOf (c .before .before .before .before .before .before .before .before .args .tally) (now (c .before .before .before .before .before .before .before .before .args .collection))) (c .before .before .before .before .before .before .before .before .pre .1 .0)
 
-feed-add-t18 : (t : ℕ) → feed-lts.Need-add-t18 (feed-calls t) (feed-at t) feed.Post
-feed-add-t18 t c = omega (arith, end-room (now (c .before .before .before .before .before .before .before .before .before .before .before .args .rule)) (now (c .before .before .before .before .before .before .before .before .before .before .before .args .image)) (now (c .before .before .before .before .before .before .before .before .before .before .before .args .tree)) (now (c .before .before .before .before .before .before .before .before .before .before .before .args .calls)) (c .before .before .before .before .before .before .before .before .before .before .before .args .i) (omega (arith, c .before .before .before .before .before .if1 .taken)) (c .before .before .before .before .before .before .before .before .before .before .before .args .member) (stateOf (c .before .before .before .before .before .before .before .before .before .before .before .args .tally) (now (c .before .before .before .before .before .before .before .before .before .before .before .args .collection))) (c .before .before .before .before .before .before .before .before .before .before .before .pre .1))
+feed-add-t20 : (t : ℕ) → feed-lts.Need-add-t20 (feed-calls t) (feed-at t) feed.Post
+feed-add-t20 t c = omega (arith, end-room (now (c .before .before .before .before .before .before .before .before .before .before .before .before .args .rule)) (now (c .before .before .before .before .before .before .before .before .before .before .before .before .args .image)) (now (c .before .before .before .before .before .before .before .before .before .before .before .before .args .tree)) (now (c .before .before .before .before .before .before .before .before .before .before .before .before .args .calls)) (c .before .before .before .before .before .before .before .before .before .before .before .before .args .i) (omega (arith, c .before .before .before .before .before .if1 .taken)) (c .before .before .before .before .before .before .before .before .before .before .before .before .args .member) (stateOf (c .before .before .before .before .before .before .before .before .before .before .before .before .args .tally) (now (c .before .before .before .before .before .before .before .before .before .before .before .before .args .collection))) (c .before .before .before .before .before .before .before .before .before .before .before .before .pre .1 .0))
 
 feed-same-length : (t : ℕ) → feed-lts.Need-same-length (feed-calls t) (feed-at t) feed.Post
 feed-same-length t c = search needs
 
 feed-returns : (t : ℕ) → feed-lts.Need-returns (feed-calls t) (feed-at t) feed.Post
-feed-returns t c = end-put (now (c .before .before .before .before .before .before .before .before .before .before .before .args .rule)) (now (c .before .before .before .before .before .before .before .before .before .before .before .args .image)) (now (c .before .before .before .before .before .before .before .before .before .before .before .args .tree)) (now (c .before .before .before .before .before .before .before .before .before .before .before .args .calls)) (c .before .before .before .before .before .before .before .before .before .before .before .args .i) (omega (arith, c .before .before .before .before .before .if1 .taken)) (c .before .before .before .before .before .before .before .before .before .before .before .args .member) (c .before .before .before .before .before .before .before .before .before .before .before .args .tally) (now (c .before .before .before .before .before .before .before .before .before .before .before .args .collection)) (c .before .before .before .put-member .ensures)
+feed-returns t c = (stands-fed (c .before .before .before .before .before .before .before .before .before .before .before .before .pre .1 .0) (end-put (now (c .before .before .before .before .before .before .before .before .before .before .before .before .args .rule)) (now (c .before .before .before .before .before .before .before .before .before .before .before .before .args .image)) (now (c .before .before .before .before .before .before .before .before .before .before .before .before .args .tree)) (now (c .before .before .before .before .before .before .before .before .before .before .before .before .args .calls)) (c .before .before .before .before .before .before .before .before .before .before .before .before .args .i) (omega (arith, c .before .before .before .before .before .if1 .taken)) (c .before .before .before .before .before .before .before .before .before .before .before .before .args .member) (c .before .before .before .before .before .before .before .before .before .before .before .before .args .tally) (now (c .before .before .before .before .before .before .before .before .before .before .before .before .args .collection)) (c .before .before .before .put-member .ensures)), c .before .before .before .before .before .before .before .before .before .before .before .before .pre .1 .1)
 
 feed-mul-method : (t : ℕ) → feed-lts.Need-mul-method (feed-calls t) (feed-at t) feed.Post
 feed-mul-method t c = search needs
@@ -80,49 +83,37 @@ feed-shared-slice-read-method : (t : ℕ) → feed-lts.Need-shared-slice-read-me
 feed-shared-slice-read-method t c = omega (arith, c .before .if1 .left)
 
 feed-cast-method : (t : ℕ) → feed-lts.Need-cast-method (feed-calls t) (feed-at t) feed.Post
-feed-cast-method t c = omega (arith, c .shared-slice-known5 .given (2 * c .before .before .before .before .before .before .before .args .i))
+feed-cast-method t c = omega (arith, c .shared-slice-known5 .given (2 * c .before .before .before .before .before .before .before .before .args .i))
 
-feed-mul-args : (t : ℕ) → feed-lts.Need-mul-args (feed-calls t) (feed-at t) feed.Post
-feed-mul-args t c = search needs
+feed-add-next : (t : ℕ) → feed-lts.Need-add-next (feed-calls t) (feed-at t) feed.Post
+feed-add-next t c = omega (arith, c .before .if1 .left)
 
-feed-add-args : (t : ℕ) → feed-lts.Need-add-args (feed-calls t) (feed-at t) feed.Post
-feed-add-args t c = omega (arith, c .before .if1 .left)
-
-feed-mul-args-2 : (t : ℕ) → feed-lts.Need-mul-args-2 (feed-calls t) (feed-at t) feed.Post
-feed-mul-args-2 t c = search needs
-
-feed-shared-slice-read-args : (t : ℕ) → feed-lts.Need-shared-slice-read-args (feed-calls t) (feed-at t) feed.Post
-feed-shared-slice-read-args t c = omega (arith, c .before .before .if1 .left)
-
-feed-cast-args : (t : ℕ) → feed-lts.Need-cast-args (feed-calls t) (feed-at t) feed.Post
-feed-cast-args t c = omega (arith, c .shared-slice-known6 .given (2 * c .before .before .before .before .before .before .before .before .args .i + 1))
-
-feed-eval-args-requires : (t : ℕ) → feed-lts.Need-eval-args-requires (feed-calls t) (feed-at t) feed.Post
-feed-eval-args-requires t c κs = search needs
-
-feed-add-feed : (t : ℕ) → feed-lts.Need-add-feed (feed-calls t) (feed-at t) feed.Post
-feed-add-feed t c = omega (arith, c .before .before .before .before .before .if1 .left)
+feed-ask-requires : (t : ℕ) → feed-lts.Need-ask-requires (feed-calls t) (feed-at t) feed.Post
+feed-ask-requires t c κs = (omega (arith, c .before .before .before .if1 .left), c .before .before .before .before .before .before .before .before .before .before .pre .1 .1)
 
 feed-feed-requires : (t : ℕ) → feed-lts.Need-feed-requires (feed-calls t) (feed-at t) feed.Post
-feed-feed-requires t c κs = (omega (arith, c .before .before .before .before .before .before .before .before .before .before .before .before .pre .0, c .before .before .before .before .before .before .if1 .left), fits-alike (here-kept (now (c .before .before .before .before .before .before .before .before .before .before .before .before .args .rule)) (now (c .before .before .before .before .before .before .before .before .before .before .before .before .args .image)) (now (c .before .before .before .before .before .before .before .before .before .before .before .before .args .tree)) (now (c .before .before .before .before .before .before .before .before .before .before .before .before .args .calls)) (c .before .before .before .before .before .before .before .before .before .before .before .before .args .i) (omega (arith, c .before .before .before .before .before .before .if1 .left)) (c .before .before .before .before .before .before .before .before .before .before .before .before .args .member) (c .before .before .before .if2 .taken) (sym (c .before .before .eval-args .ensures) ∙ c .before .if3 .taken)) (c .before .before .before .before .before .before .before .before .before .before .before .before .pre .1))
+feed-feed-requires t c κs = (omega (arith, c .before .before .before .before .before .before .before .before .before .before .before .before .before .before .before .before .pre .0, c .before .before .before .before .before .before .before .before .before .if1 .left), (fits-alike (here-kept (now (c .before .before .before .before .before .before .before .before .before .before .before .before .before .before .before .before .args .rule)) (now (c .before .before .before .before .before .before .before .before .before .before .before .before .before .before .before .before .args .image)) (now (c .before .before .before .before .before .before .before .before .before .before .before .before .before .before .before .before .args .tree)) (now (c .before .before .before .before .before .before .before .before .before .before .before .before .before .before .before .before .args .calls)) (c .before .before .before .before .before .before .before .before .before .before .before .before .before .before .before .before .args .i) (omega (arith, c .before .before .before .before .before .before .before .before .before .if1 .left)) (c .before .before .before .before .before .before .before .before .before .before .before .before .before .before .before .before .args .member) (c .before .before .before .before .before .before .before .if2 .taken) (sym (c .before .before .before .before .before .ask .ensures .value) ∙ c .before .before .if3 .taken)) (c .before .before .before .before .before .before .before .before .before .before .before .before .before .before .before .before .pre .1 .0), c .before .before .before .before .before .ask .ensures .notes))
 
 feed-same-length-2 : (t : ℕ) → feed-lts.Need-same-length-2 (feed-calls t) (feed-at t) feed.Post
-feed-same-length-2 t c = same-length _ _ _ (stateOf (c .before .before .before .before .before .before .before .before .before .before .before .before .before .before .before .args .tally) (now (c .before .before .before .before .before .before .before .before .before .before .before .before .before .before .before .args .collection))) (c .before .before .feed .ensures)
+feed-same-length-2 t c = same-length _ _ _ (stateOf (c .before .before .before .before .before .before .before .before .before .before .before .before .before .before .before .before .before .before .before .before .before .args .tally) (now (c .before .before .before .before .before .before .before .before .before .before .before .before .before .before .before .before .before .before .before .before .before .args .collection))) (c .before .before .before .before .feed .ensures .0)
+
+feed-same-length-3 : (t : ℕ) → feed-lts.Need-same-length-3 (feed-calls t) (feed-at t) feed.Post
+feed-same-length-3 t c = search needs
 
 feed-returns-2 : (t : ℕ) → feed-lts.Need-returns-2 (feed-calls t) (feed-at t) feed.Post
-feed-returns-2 t c = c .before .before .feed .ensures ∙ fed-alike (stateOf (c .before .before .before .before .before .before .before .before .before .before .before .before .before .before .before .args .tally) (now (c .before .before .before .before .before .before .before .before .before .before .before .before .before .before .before .args .collection))) (here-kept (now (c .before .before .before .before .before .before .before .before .before .before .before .before .before .before .before .args .rule)) (now (c .before .before .before .before .before .before .before .before .before .before .before .before .before .before .before .args .image)) (now (c .before .before .before .before .before .before .before .before .before .before .before .before .before .before .before .args .tree)) (now (c .before .before .before .before .before .before .before .before .before .before .before .before .before .before .before .args .calls)) (c .before .before .before .before .before .before .before .before .before .before .before .before .before .before .before .args .i) (omega (arith, c .before .before .before .before .before .before .before .before .before .if1 .left)) (c .before .before .before .before .before .before .before .before .before .before .before .before .before .before .before .args .member) (c .before .before .before .before .before .before .if2 .taken) (sym (c .before .before .before .before .before .eval-args .ensures) ∙ c .before .before .before .before .if3 .taken))
+feed-returns-2 t c = (stands-alike (stateOf (c .before .before .before .before .before .before .before .before .before .before .before .before .before .before .before .before .before .before .before .before .before .args .tally) (now (c .before .before .before .before .before .before .before .before .before .before .before .before .before .before .before .before .before .before .before .before .before .args .collection))) (here-kept (now (c .before .before .before .before .before .before .before .before .before .before .before .before .before .before .before .before .before .before .before .before .before .args .rule)) (now (c .before .before .before .before .before .before .before .before .before .before .before .before .before .before .before .before .before .before .before .before .before .args .image)) (now (c .before .before .before .before .before .before .before .before .before .before .before .before .before .before .before .before .before .before .before .before .before .args .tree)) (now (c .before .before .before .before .before .before .before .before .before .before .before .before .before .before .before .before .before .before .before .before .before .args .calls)) (c .before .before .before .before .before .before .before .before .before .before .before .before .before .before .before .before .before .before .before .before .before .args .i) (omega (arith, c .before .before .before .before .before .before .before .before .before .before .before .before .before .before .if1 .left)) (c .before .before .before .before .before .before .before .before .before .before .before .before .before .before .before .before .before .before .before .before .before .args .member) (c .before .before .before .before .before .before .before .before .before .before .before .before .if2 .taken) (sym (c .before .before .before .before .before .before .before .before .before .before .ask .ensures .value) ∙ c .before .before .before .before .before .before .before .if3 .taken)) (c .before .before .before .before .feed .ensures .0), c .before .before .before .before .feed .ensures .1)
+
+feed-same-length-4 : (t : ℕ) → feed-lts.Need-same-length-4 (feed-calls t) (feed-at t) feed.Post
+feed-same-length-4 t c = search needs
 
 feed-returns-3 : (t : ℕ) → feed-lts.Need-returns-3 (feed-calls t) (feed-at t) feed.Post
-feed-returns-3 t c = fed-lost (stateOf (c .before .before .before .before .before .before .before .before .before .before .before .args .tally) (now (c .before .before .before .before .before .before .before .before .before .before .before .args .collection))) (here-dropped (now (c .before .before .before .before .before .before .before .before .before .before .before .args .rule)) (now (c .before .before .before .before .before .before .before .before .before .before .before .args .image)) (now (c .before .before .before .before .before .before .before .before .before .before .before .args .tree)) (now (c .before .before .before .before .before .before .before .before .before .before .before .args .calls)) (c .before .before .before .before .before .before .before .before .before .before .before .args .i) (omega (arith, c .before .before .before .before .before .if1 .left)) (c .before .before .before .before .before .before .before .before .before .before .before .args .member) (c .before .before .if2 .taken) (sym (c .before .eval-args .ensures) ∙ c .if3 .left))
+feed-returns-3 t c = (stands-fed (c .before .before .before .before .before .before .before .before .before .before .before .before .before .before .pre .1 .0) (fed-lost (stateOf (c .before .before .before .before .before .before .before .before .before .before .before .before .before .before .args .tally) (now (c .before .before .before .before .before .before .before .before .before .before .before .before .before .before .args .collection))) (here-dropped (now (c .before .before .before .before .before .before .before .before .before .before .before .before .before .before .args .rule)) (now (c .before .before .before .before .before .before .before .before .before .before .before .before .before .before .args .image)) (now (c .before .before .before .before .before .before .before .before .before .before .before .before .before .before .args .tree)) (now (c .before .before .before .before .before .before .before .before .before .before .before .before .before .before .args .calls)) (c .before .before .before .before .before .before .before .before .before .before .before .before .before .before .args .i) (omega (arith, c .before .before .before .before .before .before .before .if1 .left)) (c .before .before .before .before .before .before .before .before .before .before .before .before .before .before .args .member) (c .before .before .before .before .before .if2 .taken) (sym (c .before .before .before .ask .ensures .value) ∙ c .if3 .left))), c .before .before .before .ask .ensures .notes)
 
 feed-enum-known-member : (t : ℕ) → feed-lts.Need-enum-known-member (feed-calls t) (feed-at t) feed.Post
 feed-enum-known-member t c = search needs
 
-feed-add-feed-features : (t : ℕ) → feed-lts.Need-add-feed-features (feed-calls t) (feed-at t) feed.Post
-feed-add-feed-features t c = omega (arith, c .before .before .before .before .before .before .before .if1 .left)
-
 feed-feed-features-requires : (t : ℕ) → feed-lts.Need-feed-features-requires (feed-calls t) (feed-at t) feed.Post
-feed-feed-features-requires t c κs = (omega (arith, c .before .before .before .before .before .before .before .before .before .before .before .before .before .before .pre .0, c .before .before .before .before .before .before .before .before .if1 .left), fits-alike (here-features (now (c .before .before .before .before .before .before .before .before .before .before .before .before .before .before .args .rule)) (now (c .before .before .before .before .before .before .before .before .before .before .before .before .before .before .args .image)) (now (c .before .before .before .before .before .before .before .before .before .before .before .before .before .before .args .tree)) (now (c .before .before .before .before .before .before .before .before .before .before .before .before .before .before .args .calls)) (c .before .before .before .before .before .before .before .before .before .before .before .before .before .before .args .i) (omega (arith, c .before .before .before .before .before .before .before .before .if1 .left)) (c .before .before .before .before .before .before .before .before .before .before .before .before .before .before .args .member) _ (c .before .before .before .before .if4 .taken) (c .before .before .member .given .1)) (c .before .before .before .before .before .before .before .before .before .before .before .before .before .before .pre .1))
+feed-feed-features-requires t c κs = (omega (arith, c .before .before .before .before .before .before .before .before .before .before .before .before .before .before .before .pre .0, c .before .before .before .before .before .before .before .before .if1 .left), (fits-alike (here-features (now (c .before .before .before .before .before .before .before .before .before .before .before .before .before .before .before .args .rule)) (now (c .before .before .before .before .before .before .before .before .before .before .before .before .before .before .before .args .image)) (now (c .before .before .before .before .before .before .before .before .before .before .before .before .before .before .before .args .tree)) (now (c .before .before .before .before .before .before .before .before .before .before .before .before .before .before .before .args .calls)) (c .before .before .before .before .before .before .before .before .before .before .before .before .before .before .before .args .i) (omega (arith, c .before .before .before .before .before .before .before .before .if1 .left)) (c .before .before .before .before .before .before .before .before .before .before .before .before .before .before .before .args .member) _ (c .before .before .before .before .before .if4 .taken) (c .before .before .before .member .given .1)) (c .before .before .before .before .before .before .before .before .before .before .before .before .before .before .before .pre .1 .0), c .before .before .before .before .before .before .before .before .before .before .before .before .before .before .before .pre .1 .1))
 
 feed-enum-told : (t : ℕ) → feed-lts.Need-enum-told (feed-calls t) (feed-at t) feed.Post
 feed-enum-told t c = search needs
@@ -130,42 +121,48 @@ feed-enum-told t c = search needs
 feed-enum-told-2 : (t : ℕ) → feed-lts.Need-enum-told-2 (feed-calls t) (feed-at t) feed.Post
 feed-enum-told-2 t c = search needs
 
-feed-same-length-3 : (t : ℕ) → feed-lts.Need-same-length-3 (feed-calls t) (feed-at t) feed.Post
-feed-same-length-3 t c = same-length _ _ _ (stateOf (c .before .before .before .before .before .before .before .before .before .before .before .before .before .before .before .before .before .args .tally) (now (c .before .before .before .before .before .before .before .before .before .before .before .before .before .before .before .before .before .args .collection))) (c .before .before .feed-features .ensures)
+feed-same-length-5 : (t : ℕ) → feed-lts.Need-same-length-5 (feed-calls t) (feed-at t) feed.Post
+feed-same-length-5 t c = same-length _ _ _ (stateOf (c .before .before .before .before .before .before .before .before .before .before .before .before .before .before .before .before .before .before .before .before .args .tally) (now (c .before .before .before .before .before .before .before .before .before .before .before .before .before .before .before .before .before .before .before .before .args .collection))) (c .before .before .before .before .feed-features .ensures .0)
+
+feed-same-length-6 : (t : ℕ) → feed-lts.Need-same-length-6 (feed-calls t) (feed-at t) feed.Post
+feed-same-length-6 t c = search needs
 
 feed-returns-4 : (t : ℕ) → feed-lts.Need-returns-4 (feed-calls t) (feed-at t) feed.Post
-feed-returns-4 t c = c .before .before .feed-features .ensures ∙ fed-alike (stateOf (c .before .before .before .before .before .before .before .before .before .before .before .before .before .before .before .before .before .args .tally) (now (c .before .before .before .before .before .before .before .before .before .before .before .before .before .before .before .before .before .args .collection))) (here-features (now (c .before .before .before .before .before .before .before .before .before .before .before .before .before .before .before .before .before .args .rule)) (now (c .before .before .before .before .before .before .before .before .before .before .before .before .before .before .before .before .before .args .image)) (now (c .before .before .before .before .before .before .before .before .before .before .before .before .before .before .before .before .before .args .tree)) (now (c .before .before .before .before .before .before .before .before .before .before .before .before .before .before .before .before .before .args .calls)) (c .before .before .before .before .before .before .before .before .before .before .before .before .before .before .before .before .before .args .i) (omega (arith, c .before .before .before .before .before .before .before .before .before .before .before .if1 .left)) (c .before .before .before .before .before .before .before .before .before .before .before .before .before .before .before .before .before .args .member) _ (c .before .before .before .before .before .before .before .if4 .taken) (c .before .before .before .before .before .member .given .1))
+feed-returns-4 t c = (stands-alike (stateOf (c .before .before .before .before .before .before .before .before .before .before .before .before .before .before .before .before .before .before .before .before .args .tally) (now (c .before .before .before .before .before .before .before .before .before .before .before .before .before .before .before .before .before .before .before .before .args .collection))) (here-features (now (c .before .before .before .before .before .before .before .before .before .before .before .before .before .before .before .before .before .before .before .before .args .rule)) (now (c .before .before .before .before .before .before .before .before .before .before .before .before .before .before .before .before .before .before .before .before .args .image)) (now (c .before .before .before .before .before .before .before .before .before .before .before .before .before .before .before .before .before .before .before .before .args .tree)) (now (c .before .before .before .before .before .before .before .before .before .before .before .before .before .before .before .before .before .before .before .before .args .calls)) (c .before .before .before .before .before .before .before .before .before .before .before .before .before .before .before .before .before .before .before .before .args .i) (omega (arith, c .before .before .before .before .before .before .before .before .before .before .before .before .before .if1 .left)) (c .before .before .before .before .before .before .before .before .before .before .before .before .before .before .before .before .before .before .before .before .args .member) _ (c .before .before .before .before .before .before .before .before .before .before .if4 .taken) (c .before .before .before .before .before .before .before .before .member .given .1)) (c .before .before .before .before .feed-features .ensures .0), c .before .before .before .before .feed-features .ensures .1)
 
 feed-returns-5 : (t : ℕ) → feed-lts.Need-returns-5 (feed-calls t) (feed-at t) feed.Post
-feed-returns-5 t c = fed-lost (stateOf (c .before .before .before .before .before .before .before .before .before .before .before .before .args .tally) (now (c .before .before .before .before .before .before .before .before .before .before .before .before .args .collection))) (here-feature (now (c .before .before .before .before .before .before .before .before .before .before .before .before .args .rule)) (now (c .before .before .before .before .before .before .before .before .before .before .before .before .args .image)) (now (c .before .before .before .before .before .before .before .before .before .before .before .before .args .tree)) (now (c .before .before .before .before .before .before .before .before .before .before .before .before .args .calls)) (c .before .before .before .before .before .before .before .before .before .before .before .before .args .i) (omega (arith, c .before .before .before .before .before .before .if1 .left)) (c .before .before .before .before .before .before .before .before .before .before .before .before .args .member) _ _ (c .before .before .if4 .taken) (c .enum-told .given .1))
+feed-returns-5 t c = (stands-fed (c .before .before .before .before .before .before .before .before .before .before .before .before .pre .1 .0) (fed-lost (stateOf (c .before .before .before .before .before .before .before .before .before .before .before .before .args .tally) (now (c .before .before .before .before .before .before .before .before .before .before .before .before .args .collection))) (here-feature (now (c .before .before .before .before .before .before .before .before .before .before .before .before .args .rule)) (now (c .before .before .before .before .before .before .before .before .before .before .before .before .args .image)) (now (c .before .before .before .before .before .before .before .before .before .before .before .before .args .tree)) (now (c .before .before .before .before .before .before .before .before .before .before .before .before .args .calls)) (c .before .before .before .before .before .before .before .before .before .before .before .before .args .i) (omega (arith, c .before .before .before .before .before .if1 .left)) (c .before .before .before .before .before .before .before .before .before .before .before .before .args .member) _ _ (c .before .before .if4 .taken) (c .enum-told .given .1))), c .before .before .before .before .before .before .before .before .before .before .before .before .pre .1 .1)
 
 feed-returns-6 : (t : ℕ) → feed-lts.Need-returns-6 (feed-calls t) (feed-at t) feed.Post
-feed-returns-6 t c = fed-lost (stateOf (c .before .before .before .before .before .before .before .before .before .before .before .before .args .tally) (now (c .before .before .before .before .before .before .before .before .before .before .before .before .args .collection))) (here-diagnostic (now (c .before .before .before .before .before .before .before .before .before .before .before .before .args .rule)) (now (c .before .before .before .before .before .before .before .before .before .before .before .before .args .image)) (now (c .before .before .before .before .before .before .before .before .before .before .before .before .args .tree)) (now (c .before .before .before .before .before .before .before .before .before .before .before .before .args .calls)) (c .before .before .before .before .before .before .before .before .before .before .before .before .args .i) (omega (arith, c .before .before .before .before .before .before .if1 .left)) (c .before .before .before .before .before .before .before .before .before .before .before .before .args .member) _ (c .before .before .if4 .taken) (c .enum-told2 .given .1))
-
-feed-add-feed-2 : (t : ℕ) → feed-lts.Need-add-feed-2 (feed-calls t) (feed-at t) feed.Post
-feed-add-feed-2 t c = omega (arith, c .before .before .before .before .before .if1 .left)
+feed-returns-6 t c = (stands-fed (c .before .before .before .before .before .before .before .before .before .before .before .before .pre .1 .0) (fed-lost (stateOf (c .before .before .before .before .before .before .before .before .before .before .before .before .args .tally) (now (c .before .before .before .before .before .before .before .before .before .before .before .before .args .collection))) (here-diagnostic (now (c .before .before .before .before .before .before .before .before .before .before .before .before .args .rule)) (now (c .before .before .before .before .before .before .before .before .before .before .before .before .args .image)) (now (c .before .before .before .before .before .before .before .before .before .before .before .before .args .tree)) (now (c .before .before .before .before .before .before .before .before .before .before .before .before .args .calls)) (c .before .before .before .before .before .before .before .before .before .before .before .before .args .i) (omega (arith, c .before .before .before .before .before .if1 .left)) (c .before .before .before .before .before .before .before .before .before .before .before .before .args .member) _ (c .before .before .if4 .taken) (c .enum-told2 .given .1))), c .before .before .before .before .before .before .before .before .before .before .before .before .pre .1 .1)
 
 feed-feed-requires-2 : (t : ℕ) → feed-lts.Need-feed-requires-2 (feed-calls t) (feed-at t) feed.Post
-feed-feed-requires-2 t c κs = (omega (arith, c .before .before .before .before .before .before .before .before .before .before .before .before .pre .0, c .before .before .before .before .before .before .if1 .left), fits-alike (here-passed (now (c .before .before .before .before .before .before .before .before .before .before .before .before .args .rule)) (now (c .before .before .before .before .before .before .before .before .before .before .before .before .args .image)) (now (c .before .before .before .before .before .before .before .before .before .before .before .before .args .tree)) (now (c .before .before .before .before .before .before .before .before .before .before .before .before .args .calls)) (c .before .before .before .before .before .before .before .before .before .before .before .before .args .i) (omega (arith, c .before .before .before .before .before .before .if1 .left)) (c .before .before .before .before .before .before .before .before .before .before .before .before .args .member) (c .before .if5 .taken)) (c .before .before .before .before .before .before .before .before .before .before .before .before .pre .1))
+feed-feed-requires-2 t c κs = (omega (arith, c .before .before .before .before .before .before .before .before .before .before .before .before .before .pre .0, c .before .before .before .before .before .before .if1 .left), (fits-alike (here-passed (now (c .before .before .before .before .before .before .before .before .before .before .before .before .before .args .rule)) (now (c .before .before .before .before .before .before .before .before .before .before .before .before .before .args .image)) (now (c .before .before .before .before .before .before .before .before .before .before .before .before .before .args .tree)) (now (c .before .before .before .before .before .before .before .before .before .before .before .before .before .args .calls)) (c .before .before .before .before .before .before .before .before .before .before .before .before .before .args .i) (omega (arith, c .before .before .before .before .before .before .if1 .left)) (c .before .before .before .before .before .before .before .before .before .before .before .before .before .args .member) (c .before .before .if5 .taken)) (c .before .before .before .before .before .before .before .before .before .before .before .before .before .pre .1 .0), c .before .before .before .before .before .before .before .before .before .before .before .before .before .pre .1 .1))
 
-feed-same-length-4 : (t : ℕ) → feed-lts.Need-same-length-4 (feed-calls t) (feed-at t) feed.Post
-feed-same-length-4 t c = same-length _ _ _ (stateOf (c .before .before .before .before .before .before .before .before .before .before .before .before .before .before .before .args .tally) (now (c .before .before .before .before .before .before .before .before .before .before .before .before .before .before .before .args .collection))) (c .before .before .feed2 .ensures)
+feed-same-length-7 : (t : ℕ) → feed-lts.Need-same-length-7 (feed-calls t) (feed-at t) feed.Post
+feed-same-length-7 t c = same-length _ _ _ (stateOf (c .before .before .before .before .before .before .before .before .before .before .before .before .before .before .before .before .before .before .args .tally) (now (c .before .before .before .before .before .before .before .before .before .before .before .before .before .before .before .before .before .before .args .collection))) (c .before .before .before .before .feed2 .ensures .0)
+
+feed-same-length-8 : (t : ℕ) → feed-lts.Need-same-length-8 (feed-calls t) (feed-at t) feed.Post
+feed-same-length-8 t c = search needs
 
 feed-returns-7 : (t : ℕ) → feed-lts.Need-returns-7 (feed-calls t) (feed-at t) feed.Post
-feed-returns-7 t c = c .before .before .feed2 .ensures ∙ fed-alike (stateOf (c .before .before .before .before .before .before .before .before .before .before .before .before .before .before .before .args .tally) (now (c .before .before .before .before .before .before .before .before .before .before .before .before .before .before .before .args .collection))) (here-passed (now (c .before .before .before .before .before .before .before .before .before .before .before .before .before .before .before .args .rule)) (now (c .before .before .before .before .before .before .before .before .before .before .before .before .before .before .before .args .image)) (now (c .before .before .before .before .before .before .before .before .before .before .before .before .before .before .before .args .tree)) (now (c .before .before .before .before .before .before .before .before .before .before .before .before .before .before .before .args .calls)) (c .before .before .before .before .before .before .before .before .before .before .before .before .before .before .before .args .i) (omega (arith, c .before .before .before .before .before .before .before .before .before .if1 .left)) (c .before .before .before .before .before .before .before .before .before .before .before .before .before .before .before .args .member) (c .before .before .before .before .if5 .taken))
+feed-returns-7 t c = (stands-alike (stateOf (c .before .before .before .before .before .before .before .before .before .before .before .before .before .before .before .before .before .before .args .tally) (now (c .before .before .before .before .before .before .before .before .before .before .before .before .before .before .before .before .before .before .args .collection))) (here-passed (now (c .before .before .before .before .before .before .before .before .before .before .before .before .before .before .before .before .before .before .args .rule)) (now (c .before .before .before .before .before .before .before .before .before .before .before .before .before .before .before .before .before .before .args .image)) (now (c .before .before .before .before .before .before .before .before .before .before .before .before .before .before .before .before .before .before .args .tree)) (now (c .before .before .before .before .before .before .before .before .before .before .before .before .before .before .before .before .before .before .args .calls)) (c .before .before .before .before .before .before .before .before .before .before .before .before .before .before .before .before .before .before .args .i) (omega (arith, c .before .before .before .before .before .before .before .before .before .before .before .if1 .left)) (c .before .before .before .before .before .before .before .before .before .before .before .before .before .before .before .before .before .before .args .member) (c .before .before .before .before .before .before .before .if5 .taken)) (c .before .before .before .before .feed2 .ensures .0), c .before .before .before .before .feed2 .ensures .1)
 
 feed-arrive-requires : (t : ℕ) → feed-lts.Need-arrive-requires (feed-calls t) (feed-at t) feed.Post
-feed-arrive-requires t c κs = ((here-last (now (c .before .before .before .before .before .before .before .before .before .before .before .args .rule)) (now (c .before .before .before .before .before .before .before .before .before .before .before .args .image)) (now (c .before .before .before .before .before .before .before .before .before .before .before .args .tree)) (now (c .before .before .before .before .before .before .before .before .before .before .before .args .calls)) (c .before .before .before .before .before .before .before .before .before .before .before .args .i) (omega (arith, c .before .before .before .before .before .if1 .left)) (c .before .before .if2 .left) (c .before .if4 .left) (c .if5 .left)), omega (arith, here-room (now (c .before .before .before .before .before .before .before .before .before .before .before .args .rule)) (now (c .before .before .before .before .before .before .before .before .before .before .before .args .image)) (now (c .before .before .before .before .before .before .before .before .before .before .before .args .tree)) (now (c .before .before .before .before .before .before .before .before .before .before .before .args .calls)) (c .before .before .before .before .before .before .before .before .before .before .before .args .i) (omega (arith, c .before .before .before .before .before .if1 .left)) (c .before .before .before .before .before .before .before .before .before .before .before .args .member) (stateOf (c .before .before .before .before .before .before .before .before .before .before .before .args .tally) (now (c .before .before .before .before .before .before .before .before .before .before .before .args .collection))) (here-last (now (c .before .before .before .before .before .before .before .before .before .before .before .args .rule)) (now (c .before .before .before .before .before .before .before .before .before .before .before .args .image)) (now (c .before .before .before .before .before .before .before .before .before .before .before .args .tree)) (now (c .before .before .before .before .before .before .before .before .before .before .before .args .calls)) (c .before .before .before .before .before .before .before .before .before .before .before .args .i) (omega (arith, c .before .before .before .before .before .if1 .left)) (c .before .before .if2 .left) (c .before .if4 .left) (c .if5 .left)) (c .before .before .before .before .before .before .before .before .before .before .before .pre .1)), (c .before .before .before .before .before .before .before .before .before .before .before .pre .1) .fewer)
+feed-arrive-requires t c κs = ((here-last (now (c .before .before .before .before .before .before .before .before .before .before .before .before .args .rule)) (now (c .before .before .before .before .before .before .before .before .before .before .before .before .args .image)) (now (c .before .before .before .before .before .before .before .before .before .before .before .before .args .tree)) (now (c .before .before .before .before .before .before .before .before .before .before .before .before .args .calls)) (c .before .before .before .before .before .before .before .before .before .before .before .before .args .i) (omega (arith, c .before .before .before .before .before .if1 .left)) (c .before .before .before .if2 .left) (c .before .before .if4 .left) (c .before .if5 .left)), omega (arith, here-room (now (c .before .before .before .before .before .before .before .before .before .before .before .before .args .rule)) (now (c .before .before .before .before .before .before .before .before .before .before .before .before .args .image)) (now (c .before .before .before .before .before .before .before .before .before .before .before .before .args .tree)) (now (c .before .before .before .before .before .before .before .before .before .before .before .before .args .calls)) (c .before .before .before .before .before .before .before .before .before .before .before .before .args .i) (omega (arith, c .before .before .before .before .before .if1 .left)) (c .before .before .before .before .before .before .before .before .before .before .before .before .args .member) (stateOf (c .before .before .before .before .before .before .before .before .before .before .before .before .args .tally) (now (c .before .before .before .before .before .before .before .before .before .before .before .before .args .collection))) (here-last (now (c .before .before .before .before .before .before .before .before .before .before .before .before .args .rule)) (now (c .before .before .before .before .before .before .before .before .before .before .before .before .args .image)) (now (c .before .before .before .before .before .before .before .before .before .before .before .before .args .tree)) (now (c .before .before .before .before .before .before .before .before .before .before .before .before .args .calls)) (c .before .before .before .before .before .before .before .before .before .before .before .before .args .i) (omega (arith, c .before .before .before .before .before .if1 .left)) (c .before .before .before .if2 .left) (c .before .before .if4 .left) (c .before .if5 .left)) (c .before .before .before .before .before .before .before .before .before .before .before .before .pre .1 .0)), (c .before .before .before .before .before .before .before .before .before .before .before .before .pre .1 .0) .fewer, omega (arith, c .before .before .before .before .before .if1 .left), c .before .before .before .before .before .before .before .before .before .before .before .before .pre .1 .1)
+
+feed-same-length-9 : (t : ℕ) → feed-lts.Need-same-length-9 (feed-calls t) (feed-at t) feed.Post
+feed-same-length-9 t c = search needs
 
 feed-returns-8 : (t : ℕ) → feed-lts.Need-returns-8 (feed-calls t) (feed-at t) feed.Post
-feed-returns-8 t c = here-arrives (now (c .before .before .before .before .before .before .before .before .before .before .before .before .args .rule)) (now (c .before .before .before .before .before .before .before .before .before .before .before .before .args .image)) (now (c .before .before .before .before .before .before .before .before .before .before .before .before .args .tree)) (now (c .before .before .before .before .before .before .before .before .before .before .before .before .args .calls)) (c .before .before .before .before .before .before .before .before .before .before .before .before .args .i) (omega (arith, c .before .before .before .before .before .before .if1 .left)) (c .before .before .before .before .before .before .before .before .before .before .before .before .args .member) (c .before .before .before .before .before .before .before .before .before .before .before .before .args .tally) _ (now (c .before .before .before .before .before .before .before .before .before .before .before .before .args .collection)) (here-last (now (c .before .before .before .before .before .before .before .before .before .before .before .before .args .rule)) (now (c .before .before .before .before .before .before .before .before .before .before .before .before .args .image)) (now (c .before .before .before .before .before .before .before .before .before .before .before .before .args .tree)) (now (c .before .before .before .before .before .before .before .before .before .before .before .before .args .calls)) (c .before .before .before .before .before .before .before .before .before .before .before .before .args .i) (omega (arith, c .before .before .before .before .before .before .if1 .left)) (c .before .before .before .if2 .left) (c .before .before .if4 .left) (c .before .if5 .left)) (c .arrive .ensures)
+feed-returns-8 t c = (stands-fed (c .before .before .before .before .before .before .before .before .before .before .before .before .before .before .before .pre .1 .0) (here-arrives (now (c .before .before .before .before .before .before .before .before .before .before .before .before .before .before .before .args .rule)) (now (c .before .before .before .before .before .before .before .before .before .before .before .before .before .before .before .args .image)) (now (c .before .before .before .before .before .before .before .before .before .before .before .before .before .before .before .args .tree)) (now (c .before .before .before .before .before .before .before .before .before .before .before .before .before .before .before .args .calls)) (c .before .before .before .before .before .before .before .before .before .before .before .before .before .before .before .args .i) (omega (arith, c .before .before .before .before .before .before .before .before .if1 .left)) (c .before .before .before .before .before .before .before .before .before .before .before .before .before .before .before .args .member) (c .before .before .before .before .before .before .before .before .before .before .before .before .before .before .before .args .tally) _ (now (c .before .before .before .before .before .before .before .before .before .before .before .before .before .before .before .args .collection)) (here-last (now (c .before .before .before .before .before .before .before .before .before .before .before .before .before .before .before .args .rule)) (now (c .before .before .before .before .before .before .before .before .before .before .before .before .before .before .before .args .image)) (now (c .before .before .before .before .before .before .before .before .before .before .before .before .before .before .before .args .tree)) (now (c .before .before .before .before .before .before .before .before .before .before .before .before .before .before .before .args .calls)) (c .before .before .before .before .before .before .before .before .before .before .before .before .before .before .before .args .i) (omega (arith, c .before .before .before .before .before .before .before .before .if1 .left)) (c .before .before .before .before .before .before .if2 .left) (c .before .before .before .before .before .if4 .left) (c .before .before .before .before .if5 .left)) (c .before .before .arrive .ensures .0)), c .before .before .arrive .ensures .1)
 
 abbrev feed-features-Inv-loop : feed-features-lts.InvT-loop
-feed-features-Inv-loop rule image tree calls i component collection₀ end feature₀ tally₀ collection feature tally =
-    Feeding image (callsFrom rule tree calls (CALL-ROW * i)) (featuresOf image component) (stateOf tally₀ collection₀) (map (Feature component) (upTo feature end)) (stateOf tally collection)
+feed-features-Inv-loop rule image tree calls last i component collection₀ notes₀ end feature₀ tally₀ collection notes feature tally =
+    Feeding (methodAt last) image (callsFrom rule tree calls (CALL-ROW * i)) (featuresOf image component) (stateOf tally₀ collection₀) (map (Feature component) (upTo feature end)) (stateOf tally collection) × Notes rule image tree calls notes × (length notes ≡ length notes₀)
 
 abbrev feed-features-μ-loop : feed-features-lts.MeasureT-loop
-feed-features-μ-loop rule image tree calls i component collection₀ end feature₀ tally₀ collection feature tally =
+feed-features-μ-loop rule image tree calls last i component collection₀ notes₀ end feature₀ tally₀ collection notes feature tally =
     end - feature
 
 feed-features-features-end-requires : (t : ℕ) → feed-features-lts.Need-features-end-requires (feed-features-calls t) (feed-features-at t) feed-features.Post feed-features-Inv-loop feed-features-μ-loop
@@ -175,63 +172,76 @@ feed-features-field-requires : (t : ℕ) → feed-features-lts.Need-field-requir
 feed-features-field-requires t c κs = search needs
 
 feed-features-loop-holds : (t : ℕ) → feed-features-lts.Need-loop-holds (feed-features-calls t) (feed-features-at t) feed-features.Post feed-features-Inv-loop feed-features-μ-loop
-feed-features-loop-holds t c = features-start _ _ _ (stateOf (c .before .before .before .before .before .before .before .args .tally) (now (c .before .before .before .before .before .before .before .args .collection))) _ _ (c .field .ensures) (c .before .features-end .ensures) (c .before .before .before .before .before .before .before .pre .1)
+feed-features-loop-holds t c = (features-start _ _ _ (stateOf (c .before .before .before .before .before .before .before .before .args .tally) (now (c .before .before .before .before .before .before .before .before .args .collection))) _ _ (c .field .ensures) (c .before .features-end .ensures) (c .before .before .before .before .before .before .before .before .pre .1 .0), c .before .before .before .before .before .before .before .before .pre .1 .1, refl)
 
 feed-features-feed-requires : (t : ℕ) → feed-features-lts.Need-feed-requires (feed-features-calls t) (feed-features-at t) feed-features.Post feed-features-Inv-loop feed-features-μ-loop
-feed-features-feed-requires t c κs = (omega (arith, c .before .before .before .before .before .before .before .before .before .before .pre .0), fits-first (turn _ _ (Feature (c .before .before .before .before .before .before .before .before .before .before .args .component)) _ _ (c .before .loop-test .taken)) (c .before .before .loop .inv .fits))
+feed-features-feed-requires t c κs = (omega (arith, c .before .before .before .before .before .before .before .before .before .before .before .before .pre .0), (fits-first (turn _ _ (Feature (c .before .before .before .before .before .before .before .before .before .before .before .before .args .component)) _ _ (c .before .before .loop-test .taken)) (c .before .before .before .loop .inv .0 .fits), c .before .before .before .loop .inv .1))
 
-feed-features-add-feature : (t : ℕ) → feed-features-lts.Need-add-feature (feed-features-calls t) (feed-features-at t) feed-features.Post feed-features-Inv-loop feed-features-μ-loop
-feed-features-add-feature t c = omega (arith, c .before .before .before .before .loop-test .taken)
-
-feed-features-loop-less : (t : ℕ) → feed-features-lts.Need-loop-less (feed-features-calls t) (feed-features-at t) feed-features.Post feed-features-Inv-loop feed-features-μ-loop
-feed-features-loop-less t c = omega (arith, c .before .before .before .before .loop-test .taken)
-
-feed-features-loop-again : (t : ℕ) → feed-features-lts.Need-loop-again (feed-features-calls t) (feed-features-at t) feed-features.Post feed-features-Inv-loop feed-features-μ-loop
-feed-features-loop-again t c = feeding-on (c .before .before .before .before .before .loop .inv) (turn _ _ (Feature (c .before .before .before .before .before .before .before .before .before .before .before .before .before .args .component)) _ _ (c .before .before .before .before .loop-test .taken)) (c .before .before .feed .ensures)
+feed-features-is-decided-requires : (t : ℕ) → feed-features-lts.Need-is-decided-requires (feed-features-calls t) (feed-features-at t) feed-features.Post feed-features-Inv-loop feed-features-μ-loop
+feed-features-is-decided-requires t c κs = search needs
 
 feed-features-same-length : (t : ℕ) → feed-features-lts.Need-same-length (feed-features-calls t) (feed-features-at t) feed-features.Post feed-features-Inv-loop feed-features-μ-loop
-feed-features-same-length t c = feeding-length (c .before .loop .inv)
+feed-features-same-length t c = same-length _ _ _ (stateOf (c .before .before .before .before .before .before .before .before .before .before .before .before .before .before .before .before .before .before .before .args .tally) (now (c .before .before .before .before .before .before .before .before .before .before .before .before .before .before .before .before .before .before .before .args .collection))) (feeding-stop (c .before .before .before .before .before .before .before .before .before .before .loop .inv .0) (turn _ _ (Feature (c .before .before .before .before .before .before .before .before .before .before .before .before .before .before .before .before .before .before .before .args .component)) _ _ (c .before .before .before .before .before .before .before .before .before .loop-test .taken)) (c .before .before .before .before .before .before .feed .ensures .0) (sym (c .before .is-decided .ensures) ∙ c .if1 .taken))
+
+feed-features-same-length-2 : (t : ℕ) → feed-features-lts.Need-same-length-2 (feed-features-calls t) (feed-features-at t) feed-features.Post feed-features-Inv-loop feed-features-μ-loop
+feed-features-same-length-2 t c = omega (arith, c .before .before .before .before .before .before .before .before .before .before .loop .inv .2)
 
 feed-features-returns : (t : ℕ) → feed-features-lts.Need-returns (feed-features-calls t) (feed-features-at t) feed-features.Post feed-features-Inv-loop feed-features-μ-loop
-feed-features-returns t c = feeding-end (c .before .loop .inv) (over _ _ (Feature (c .before .before .before .before .before .before .before .before .before .args .component)) _ _ (c .loop-test .left))
+feed-features-returns t c = (feeding-stop (c .before .before .before .before .before .before .before .before .before .before .loop .inv .0) (turn _ _ (Feature (c .before .before .before .before .before .before .before .before .before .before .before .before .before .before .before .before .before .before .before .args .component)) _ _ (c .before .before .before .before .before .before .before .before .before .loop-test .taken)) (c .before .before .before .before .before .before .feed .ensures .0) (sym (c .before .is-decided .ensures) ∙ c .if1 .taken), c .before .before .before .before .before .before .feed .ensures .1)
+
+feed-features-add-feature : (t : ℕ) → feed-features-lts.Need-add-feature (feed-features-calls t) (feed-features-at t) feed-features.Post feed-features-Inv-loop feed-features-μ-loop
+feed-features-add-feature t c = omega (arith, c .before .before .before .before .before .before .before .before .before .loop-test .taken)
+
+feed-features-loop-less : (t : ℕ) → feed-features-lts.Need-loop-less (feed-features-calls t) (feed-features-at t) feed-features.Post feed-features-Inv-loop feed-features-μ-loop
+feed-features-loop-less t c = omega (arith, c .before .before .before .before .before .before .before .before .before .loop-test .taken)
+
+feed-features-loop-again : (t : ℕ) → feed-features-lts.Need-loop-again (feed-features-calls t) (feed-features-at t) feed-features.Post feed-features-Inv-loop feed-features-μ-loop
+feed-features-loop-again t c = (feeding-on (c .before .before .before .before .before .before .before .before .before .before .loop .inv .0) (turn _ _ (Feature (c .before .before .before .before .before .before .before .before .before .before .before .before .before .before .before .before .before .before .before .args .component)) _ _ (c .before .before .before .before .before .before .before .before .before .loop-test .taken)) (c .before .before .before .before .before .before .feed .ensures .0) (sym (c .before .is-decided .ensures) ∙ c .if1 .left), c .before .before .before .before .before .before .feed .ensures .1, omega (arith, c .before .before .before .before .before .before .before .before .before .before .loop .inv .2))
+
+feed-features-same-length-3 : (t : ℕ) → feed-features-lts.Need-same-length-3 (feed-features-calls t) (feed-features-at t) feed-features.Post feed-features-Inv-loop feed-features-μ-loop
+feed-features-same-length-3 t c = feeding-length (c .before .loop .inv .0)
+
+feed-features-same-length-4 : (t : ℕ) → feed-features-lts.Need-same-length-4 (feed-features-calls t) (feed-features-at t) feed-features.Post feed-features-Inv-loop feed-features-μ-loop
+feed-features-same-length-4 t c = c .before .loop .inv .2
+
+feed-features-returns-2 : (t : ℕ) → feed-features-lts.Need-returns-2 (feed-features-calls t) (feed-features-at t) feed-features.Post feed-features-Inv-loop feed-features-μ-loop
+feed-features-returns-2 t c = (feeding-end (c .before .loop .inv .0) (over _ _ (Feature (c .before .before .before .before .before .before .before .before .before .before .args .component)) _ _ (c .loop-test .left)), c .before .loop .inv .1)
 
 pub +feed+feed-features-spec : {M : Type 1} → statement M
 +feed+feed-features-spec = close μ-feed μ-feed-features (λ t. feed-lts.spec (feed-calls t)
     (feed-at t)
     feed.Post
     (feed-put-member-requires t)
-    (feed-add-t18 t)
+    (feed-add-t20 t)
     (feed-same-length t)
     (feed-returns t)
     (feed-mul-method t)
     (feed-mul-method-2 t)
     (feed-shared-slice-read-method t)
     (feed-cast-method t)
-    (feed-mul-args t)
-    (feed-add-args t)
-    (feed-mul-args-2 t)
-    (feed-shared-slice-read-args t)
-    (feed-cast-args t)
-    (feed-eval-args-requires t)
-    (feed-add-feed t)
+    (feed-add-next t)
+    (feed-ask-requires t)
     (feed-feed-requires t)
     (feed-same-length-2 t)
+    (feed-same-length-3 t)
     (feed-returns-2 t)
+    (feed-same-length-4 t)
     (feed-returns-3 t)
     (feed-enum-known-member t)
-    (feed-add-feed-features t)
     (feed-feed-features-requires t)
     (feed-enum-told t)
     (feed-enum-told-2 t)
-    (feed-same-length-3 t)
+    (feed-same-length-5 t)
+    (feed-same-length-6 t)
     (feed-returns-4 t)
     (feed-returns-5 t)
     (feed-returns-6 t)
-    (feed-add-feed-2 t)
     (feed-feed-requires-2 t)
-    (feed-same-length-4 t)
+    (feed-same-length-7 t)
+    (feed-same-length-8 t)
     (feed-returns-7 t)
     (feed-arrive-requires t)
+    (feed-same-length-9 t)
     (feed-returns-8 t))
     λ t. feed-features-lts.spec (feed-features-calls t)
     (feed-features-at t)
@@ -242,8 +252,13 @@ pub +feed+feed-features-spec : {M : Type 1} → statement M
     (feed-features-field-requires t)
     (feed-features-loop-holds t)
     (feed-features-feed-requires t)
+    (feed-features-is-decided-requires t)
+    (feed-features-same-length t)
+    (feed-features-same-length-2 t)
+    (feed-features-returns t)
     (feed-features-add-feature t)
     (feed-features-loop-less t)
     (feed-features-loop-again t)
-    (feed-features-same-length t)
-    (feed-features-returns t)
+    (feed-features-same-length-3 t)
+    (feed-features-same-length-4 t)
+    (feed-features-returns-2 t)

@@ -1,61 +1,58 @@
--- `feed_components` sends every component: those left come to what all come to. Assumes nothing.
-use Rattle.eval.proofs.FeedLaws.{fits-first, Feeding, feeding-on, feeding-end, feeding-length, turn, over, all-start}
-use Rattle.meaning.proofs.WalkLaws.{upTo}
-use Rattle.meaning.specs.Calls.{upFrom}
-use Rattle.predicate.specs.declared.atom.Member.the-variants.{Component}
-use Rattle.board.specs.Image.{componentCount}
-use Rattle.eval.specs.Feed.{stateOf, begin}
-use Rattle.eval.specs.Ready.{callsFrom}
-use borrow.Author.Needs.{needs}
+-- `feed_components` writes the rows of all, gives their number, or sends each. Assumes nothing.
+use Rattle.eval.proofs.FeedLaws.{stands-fed}
+use Rattle.eval.proofs.ComponentLaws.{everyComponent, fits-listed, fed-listed, counted-first}
+use Rattle.eval.specs.Feed.{begin}
 use native.Mathlib.Omega.{arith}
-use Prim.Native.Nat.{_-_}
-use mathlib.Core.List.{map}
 use denote.Ref.{now}
+use borrow.Author.Needs.{needs}
 use Rattle.eval.proofs.walk.feed_components.Statement.{statement}
 use Rattle.eval.proofs.walk.feed_components.Tie as tie
 
-abbrev Inv-loop : tie.InvT-loop
-Inv-loop rule image tree calls collection₀ count tally₀ component₀ collection tally component =
-    Feeding image (callsFrom rule tree calls 0) (map Component (upFrom 0 (componentCount image))) (begin collection₀) (map Component (upTo component count)) (stateOf tally collection)
+list-components-requires : tie.Need-list-components-requires
+list-components-requires c κs = fits-listed (now (c .before .before .before .before .before .before .before .args .rule)) (now (c .before .before .before .before .before .before .before .args .tree)) (now (c .before .before .before .before .before .before .before .args .calls)) (c .before .if1 .taken) (c .before .before .before .before .before .before .before .pre)
 
-abbrev μ-loop : tie.MeasureT-loop
-μ-loop rule image tree calls collection₀ count tally₀ component₀ collection tally component = count - component
+same-length : tie.Need-same-length
+same-length c = search needs
 
-record-count-requires : tie.Need-record-count-requires Inv-loop μ-loop
+returns : tie.Need-returns
+returns c = stands-fed (c .before .before .before .before .before .before .before .before .before .before .pre) (fed-listed (now (c .before .before .before .before .before .before .before .before .before .before .args .rule)) (now (c .before .before .before .before .before .before .before .before .before .before .args .tree)) (now (c .before .before .before .before .before .before .before .before .before .before .args .calls)) (c .before .before .before .before .if1 .taken) (now (c .before .before .before .before .before .before .before .before .before .before .args .image)) (everyComponent (now (c .before .before .before .before .before .before .before .before .before .before .args .image))) (begin (now (c .before .before .before .before .before .before .before .before .before .before .args .collection))) (c .before .before .list-components .ensures))
+
+shared-slice-read-if2 : tie.Need-shared-slice-read-if2
+shared-slice-read-if2 c = search needs
+
+cast-if2 : tie.Need-cast-if2
+cast-if2 c = omega (arith, c .shared-slice-known5 .given 0)
+
+record-count-requires : tie.Need-record-count-requires
 record-count-requires c κs = search needs
 
-loop-holds : tie.Need-loop-holds Inv-loop μ-loop
-loop-holds c = all-start (now (c .before .before .before .before .before .before .args .image)) (callsFrom (now (c .before .before .before .before .before .before .args .rule)) (now (c .before .before .before .before .before .before .args .tree)) (now (c .before .before .before .before .before .before .args .calls)) 0) (map Component) (begin (now (c .before .before .before .before .before .before .args .collection))) _ _ (c .record-count .ensures) (c .before .before .before .before .before .before .pre)
+cast-t15 : tie.Need-cast-t15
+cast-t15 c = search needs
 
-feed-requires : tie.Need-feed-requires Inv-loop μ-loop
-feed-requires c κs = fits-first (turn _ _ Component _ _ (c .before .loop-test .taken)) (c .before .before .loop .inv .fits)
+returns-2 : tie.Need-returns-2
+returns-2 c = stands-fed (c .before .before .before .before .before .before .before .before .before .pre) (counted-first (now (c .before .before .before .before .before .before .before .before .before .args .rule)) (now (c .before .before .before .before .before .before .before .before .before .args .image)) (now (c .before .before .before .before .before .before .before .before .before .args .tree)) (now (c .before .before .before .before .before .before .before .before .before .args .calls)) (now (c .before .before .before .before .before .before .before .before .before .args .collection)) (c .before .before .before .if1 .left) (c .before .if2 .taken) (c .record-count .ensures))
 
-add-component : tie.Need-add-component Inv-loop μ-loop
-add-component c = omega (arith, c .before .before .before .before .loop-test .taken)
+feed-each-component-requires : tie.Need-feed-each-component-requires
+feed-each-component-requires c κs = search needs
 
-loop-less : tie.Need-loop-less Inv-loop μ-loop
-loop-less c = omega (arith, c .before .before .before .before .loop-test .taken)
+same-length-2 : tie.Need-same-length-2
+same-length-2 c = search needs
 
-loop-again : tie.Need-loop-again Inv-loop μ-loop
-loop-again c = feeding-on (c .before .before .before .before .before .loop .inv) (turn _ _ Component _ _ (c .before .before .before .before .loop-test .taken)) (c .before .before .feed .ensures)
-
-same-length : tie.Need-same-length Inv-loop μ-loop
-same-length c = feeding-length (c .before .loop .inv)
-
-returns : tie.Need-returns Inv-loop μ-loop
-returns c = feeding-end (c .before .loop .inv) (over _ _ Component _ _ (c .loop-test .left))
+returns-3 : tie.Need-returns-3
+returns-3 c = search needs
 
 pub feed-components-spec : {M : Type 1} → statement M
 feed-components-spec =
     tie.close
     (tie.spec
-    Inv-loop
-    μ-loop
-    record-count-requires
-    loop-holds
-    feed-requires
-    add-component
-    loop-less
-    loop-again
+    list-components-requires
     same-length
-    returns)
+    returns
+    shared-slice-read-if2
+    cast-if2
+    record-count-requires
+    cast-t15
+    returns-2
+    feed-each-component-requires
+    same-length-2
+    returns-3)

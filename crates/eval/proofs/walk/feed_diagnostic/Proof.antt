@@ -1,30 +1,28 @@
 -- `feed_diagnostic` sends one that is of the analysis. Assumes nothing.
-use Rattle.eval.proofs.FeedLaws.{fed-alike, fed-lost, fits-alike, kept-one, kept-none}
+use Rattle.eval.proofs.FeedLaws.{fed-lost, fits-alike, stands-fed, stands-alike, keep-one, keep-none}
 use Rattle.eval.specs.Feed.{stateOf}
 use Rattle.eval.specs.Ready.{callsFrom}
-use Rattle.meaning.specs.Pipeline.{isOfAnalysis}
 use Rattle.predicate.specs.declared.atom.Member.the-variants.{Diagnostic}
-use mathlib.Core.Path.{sym, _∙_}
 use denote.Ref.{now}
 use borrow.Author.Needs.{needs}
 use Rattle.eval.proofs.walk.feed_diagnostic.Statement.{statement}
 use Rattle.eval.proofs.walk.feed_diagnostic.Tie as tie
 
-is-of-analysis-requires : tie.Need-is-of-analysis-requires
-is-of-analysis-requires c κs = search needs
-
 feed-requires : tie.Need-feed-requires
-feed-requires c κs = fits-alike (kept-one (now (c .before .before .before .before .before .before .before .before .before .args .image)) (callsFrom (now (c .before .before .before .before .before .before .before .before .before .args .rule)) (now (c .before .before .before .before .before .before .before .before .before .args .tree)) (now (c .before .before .before .before .before .before .before .before .before .args .calls)) 0) (isOfAnalysis (now (c .before .before .before .before .before .before .before .before .before .args .image)) (now (c .before .before .before .before .before .before .before .before .before .args .name))) (Diagnostic (c .before .before .before .before .before .before .before .before .before .args .diagnostic)) (sym (c .before .before .is-of-analysis .ensures) ∙ c .before .if1 .taken)) (c .before .before .before .before .before .before .before .before .before .pre)
+feed-requires c κs = (fits-alike (keep-one (now (c .before .before .before .before .before .before .before .before .before .args .image)) (callsFrom (now (c .before .before .before .before .before .before .before .before .before .args .rule)) (now (c .before .before .before .before .before .before .before .before .before .args .tree)) (now (c .before .before .before .before .before .before .before .before .before .args .calls)) 0) (Diagnostic (c .before .before .before .before .before .before .before .before .before .args .diagnostic)) (c .before .before .if1 .taken)) (c .before .before .before .before .before .before .before .before .before .pre .0), c .before .before .before .before .before .before .before .before .before .pre .1)
 
 same-length : tie.Need-same-length
 same-length c = search needs
 
+same-length-2 : tie.Need-same-length-2
+same-length-2 c = search needs
+
 returns : tie.Need-returns
-returns c = c .before .before .feed .ensures ∙ fed-alike (stateOf (c .before .before .before .before .before .before .before .before .before .before .before .before .args .tally) (now (c .before .before .before .before .before .before .before .before .before .before .before .before .args .collection))) (kept-one (now (c .before .before .before .before .before .before .before .before .before .before .before .before .args .image)) (callsFrom (now (c .before .before .before .before .before .before .before .before .before .before .before .before .args .rule)) (now (c .before .before .before .before .before .before .before .before .before .before .before .before .args .tree)) (now (c .before .before .before .before .before .before .before .before .before .before .before .before .args .calls)) 0) (isOfAnalysis (now (c .before .before .before .before .before .before .before .before .before .before .before .before .args .image)) (now (c .before .before .before .before .before .before .before .before .before .before .before .before .args .name))) (Diagnostic (c .before .before .before .before .before .before .before .before .before .before .before .before .args .diagnostic)) (sym (c .before .before .before .before .before .is-of-analysis .ensures) ∙ c .before .before .before .before .if1 .taken))
+returns c = (stands-alike (stateOf (c .before .before .before .before .before .before .before .before .before .before .before .before .before .before .args .tally) (now (c .before .before .before .before .before .before .before .before .before .before .before .before .before .before .args .collection))) (keep-one (now (c .before .before .before .before .before .before .before .before .before .before .before .before .before .before .args .image)) (callsFrom (now (c .before .before .before .before .before .before .before .before .before .before .before .before .before .before .args .rule)) (now (c .before .before .before .before .before .before .before .before .before .before .before .before .before .before .args .tree)) (now (c .before .before .before .before .before .before .before .before .before .before .before .before .before .before .args .calls)) 0) (Diagnostic (c .before .before .before .before .before .before .before .before .before .before .before .before .before .before .args .diagnostic)) (c .before .before .before .before .before .before .before .if1 .taken)) (c .before .before .before .before .feed .ensures .0), c .before .before .before .before .feed .ensures .1)
 
 returns-2 : tie.Need-returns-2
-returns-2 c = fed-lost (stateOf (c .before .before .before .before .before .before .before .before .args .tally) (now (c .before .before .before .before .before .before .before .before .args .collection))) (kept-none (now (c .before .before .before .before .before .before .before .before .args .image)) (callsFrom (now (c .before .before .before .before .before .before .before .before .args .rule)) (now (c .before .before .before .before .before .before .before .before .args .tree)) (now (c .before .before .before .before .before .before .before .before .args .calls)) 0) (isOfAnalysis (now (c .before .before .before .before .before .before .before .before .args .image)) (now (c .before .before .before .before .before .before .before .before .args .name))) (Diagnostic (c .before .before .before .before .before .before .before .before .args .diagnostic)) (sym (c .before .is-of-analysis .ensures) ∙ c .if1 .left))
+returns-2 c = (stands-fed (c .before .before .before .before .before .before .before .pre .0) (fed-lost (stateOf (c .before .before .before .before .before .before .before .args .tally) (now (c .before .before .before .before .before .before .before .args .collection))) (keep-none (now (c .before .before .before .before .before .before .before .args .image)) (callsFrom (now (c .before .before .before .before .before .before .before .args .rule)) (now (c .before .before .before .before .before .before .before .args .tree)) (now (c .before .before .before .before .before .before .before .args .calls)) 0) (Diagnostic (c .before .before .before .before .before .before .before .args .diagnostic)) (c .if1 .left))), c .before .before .before .before .before .before .before .pre .1)
 
 pub feed-diagnostic-spec : {M : Type 1} → statement M
 feed-diagnostic-spec =
-    tie.close (tie.spec is-of-analysis-requires feed-requires same-length returns returns-2)
+    tie.close (tie.spec feed-requires same-length same-length-2 returns returns-2)

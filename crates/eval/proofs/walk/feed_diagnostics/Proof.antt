@@ -1,50 +1,74 @@
 -- `feed_diagnostics` sends every diagnostic of the analysis: those left come to what all come to. Assumes nothing.
-use Rattle.eval.proofs.FeedLaws.{fits-first, Feeding, feeding-on, feeding-end, feeding-length, turn-kept, over-kept, all-start}
+use Rattle.eval.proofs.FeedLaws.{same-length, fits-first, Feeding, feeding-on, feeding-stop, feeding-end, feeding-length, turn-asked, over-kept, all-start}
 use Rattle.meaning.proofs.WalkLaws.{upTo}
 use Rattle.meaning.specs.Pipeline.{isOfAnalysis}
 use Rattle.meaning.specs.Calls.{kept, upFrom}
 use Rattle.predicate.specs.declared.atom.Member.the-variants.{Diagnostic}
 use Rattle.board.specs.Image.{diagnosticCount}
-use Rattle.eval.specs.Feed.{stateOf, begin}
+use Rattle.calls.specs.Table.{methodAt}
+use Rattle.profile.specs.Profile.{PROFILES}
+use Rattle.eval.proofs.MemoLaws.{notes-none}
+use Rattle.eval.specs.Memo.{Notes}
+use Rattle.eval.specs.Feed.{stateOf, begin, Named}
 use Rattle.eval.specs.Ready.{callsFrom}
 use borrow.Author.Needs.{needs}
 use native.Mathlib.Omega.{arith}
-use Prim.Native.Nat.{_-_}
+use lib.ListN.{length, length-replicate}
+use Prim.Native.Nat.{ℕ, _-_, _*_}
 use mathlib.Core.List.{map}
+use mathlib.Core.Path.{_≡_, sym, _∙_}
 use denote.Ref.{now}
 use Rattle.eval.proofs.walk.feed_diagnostics.Statement.{statement}
 use Rattle.eval.proofs.walk.feed_diagnostics.Tie as tie
 
 abbrev Inv-loop : tie.InvT-loop
-Inv-loop rule image tree name calls collection₀ count tally₀ diagnostic₀ collection tally diagnostic =
-    Feeding image (callsFrom rule tree calls 0) (kept (isOfAnalysis image name) (map Diagnostic (upFrom 0 (diagnosticCount image)))) (begin collection₀) (kept (isOfAnalysis image name) (map Diagnostic (upTo diagnostic count))) (stateOf tally collection)
+Inv-loop rule image tree name calls last collection₀ count notes₀ tally₀ analysis₀ diagnostic₀ collection notes tally analysis diagnostic =
+    Named image name analysis × Feeding (methodAt last) image (callsFrom rule tree calls 0) (kept (isOfAnalysis image name) (map Diagnostic (upFrom 0 (diagnosticCount image)))) (begin collection₀) (kept (isOfAnalysis image name) (map Diagnostic (upTo diagnostic count))) (stateOf tally collection) × Notes rule image tree calls notes × (length notes ≡ PROFILES * 4)
 
 abbrev μ-loop : tie.MeasureT-loop
-μ-loop rule image tree name calls collection₀ count tally₀ diagnostic₀ collection tally diagnostic = count - diagnostic
+μ-loop rule image tree name calls last collection₀ count notes₀ tally₀ analysis₀ diagnostic₀ collection notes tally analysis diagnostic = count - diagnostic
 
 record-count-requires : tie.Need-record-count-requires Inv-loop μ-loop
 record-count-requires c κs = search needs
 
+compare-name-requires : tie.Need-compare-name-requires Inv-loop μ-loop
+compare-name-requires c κs = search needs
+
 loop-holds : tie.Need-loop-holds Inv-loop μ-loop
-loop-holds c = all-start (now (c .before .before .before .before .before .before .before .args .image)) (callsFrom (now (c .before .before .before .before .before .before .before .args .rule)) (now (c .before .before .before .before .before .before .before .args .tree)) (now (c .before .before .before .before .before .before .before .args .calls)) 0) (λ ns. kept (isOfAnalysis (now (c .before .before .before .before .before .before .before .args .image)) (now (c .before .before .before .before .before .before .before .args .name))) (map Diagnostic ns)) (begin (now (c .before .before .before .before .before .before .before .args .collection))) _ _ (c .record-count .ensures) (c .before .before .before .before .before .before .before .pre)
+loop-holds c = (c .compare-name .ensures .1, all-start (now (c .before .before .before .before .before .before .before .before .args .image)) (callsFrom (now (c .before .before .before .before .before .before .before .before .args .rule)) (now (c .before .before .before .before .before .before .before .before .args .tree)) (now (c .before .before .before .before .before .before .before .before .args .calls)) 0) (λ ns. kept (isOfAnalysis (now (c .before .before .before .before .before .before .before .before .args .image)) (now (c .before .before .before .before .before .before .before .before .args .name))) (map Diagnostic ns)) (begin (now (c .before .before .before .before .before .before .before .before .args .collection))) _ _ (c .before .record-count .ensures) (c .before .before .before .before .before .before .before .before .pre), notes-none _ _ _ _ (PROFILES * 4), length-replicate {A = ℕ} (PROFILES * 4) 0)
+
+analysis-of-requires : tie.Need-analysis-of-requires Inv-loop μ-loop
+analysis-of-requires c κs = c .before .loop .inv .0
+
+slice-aggregate-feed-diagnostic : tie.Need-slice-aggregate-feed-diagnostic Inv-loop μ-loop
+slice-aggregate-feed-diagnostic c = omega (arith, c .before .before .before .before .loop .inv .3)
 
 feed-diagnostic-requires : tie.Need-feed-diagnostic-requires Inv-loop μ-loop
-feed-diagnostic-requires c κs = fits-first (turn-kept _ _ (isOfAnalysis (now (c .before .before .before .before .before .before .before .before .before .before .args .image)) (now (c .before .before .before .before .before .before .before .before .before .before .args .name))) Diagnostic _ _ (c .before .loop-test .taken)) (c .before .before .loop .inv .fits)
+feed-diagnostic-requires c κs = (fits-first (turn-asked _ _ (isOfAnalysis (now (c .before .before .before .before .before .before .before .before .before .before .before .before .before .args .image)) (now (c .before .before .before .before .before .before .before .before .before .before .before .before .before .args .name))) Diagnostic _ _ (c .before .before .analysis-of .ensures .asked) (c .before .before .before .loop-test .taken)) (c .before .before .before .before .loop .inv .1 .fits), c .before .before .before .before .loop .inv .2)
 
-add-diagnostic : tie.Need-add-diagnostic Inv-loop μ-loop
-add-diagnostic c = omega (arith, c .before .before .before .before .loop-test .taken)
+is-decided-requires : tie.Need-is-decided-requires Inv-loop μ-loop
+is-decided-requires c κs = search needs
 
-loop-less : tie.Need-loop-less Inv-loop μ-loop
-loop-less c = omega (arith, c .before .before .before .before .loop-test .taken)
-
-loop-again : tie.Need-loop-again Inv-loop μ-loop
-loop-again c = feeding-on (c .before .before .before .before .before .loop .inv) (turn-kept _ _ (isOfAnalysis (now (c .before .before .before .before .before .before .before .before .before .before .before .before .before .args .image)) (now (c .before .before .before .before .before .before .before .before .before .before .before .before .before .args .name))) Diagnostic _ _ (c .before .before .before .before .loop-test .taken)) (c .before .before .feed-diagnostic .ensures)
-
-same-length : tie.Need-same-length Inv-loop μ-loop
-same-length c = feeding-length (c .before .loop .inv)
+same-length-1 : tie.Need-same-length Inv-loop μ-loop
+same-length-1 c = same-length _ _ _ (begin (now (c .before .before .before .before .before .before .before .before .before .before .before .before .before .before .before .before .before .before .before .args .collection))) (feeding-stop (c .before .before .before .before .before .before .before .before .before .before .loop .inv .1) (turn-asked _ _ (isOfAnalysis (now (c .before .before .before .before .before .before .before .before .before .before .before .before .before .before .before .before .before .before .before .args .image)) (now (c .before .before .before .before .before .before .before .before .before .before .before .before .before .before .before .before .before .before .before .args .name))) Diagnostic _ _ (c .before .before .before .before .before .before .before .before .analysis-of .ensures .asked) (c .before .before .before .before .before .before .before .before .before .loop-test .taken)) (c .before .before .before .before .before .feed-diagnostic .ensures .0) (sym (c .before .is-decided .ensures) ∙ c .if1 .taken))
 
 returns : tie.Need-returns Inv-loop μ-loop
-returns c = feeding-end (c .before .loop .inv) (over-kept _ _ (isOfAnalysis (now (c .before .before .before .before .before .before .before .before .before .args .image)) (now (c .before .before .before .before .before .before .before .before .before .args .name))) Diagnostic _ _ (c .loop-test .left))
+returns c = feeding-stop (c .before .before .before .before .before .before .before .before .before .before .loop .inv .1) (turn-asked _ _ (isOfAnalysis (now (c .before .before .before .before .before .before .before .before .before .before .before .before .before .before .before .before .before .before .before .args .image)) (now (c .before .before .before .before .before .before .before .before .before .before .before .before .before .before .before .before .before .before .before .args .name))) Diagnostic _ _ (c .before .before .before .before .before .before .before .before .analysis-of .ensures .asked) (c .before .before .before .before .before .before .before .before .before .loop-test .taken)) (c .before .before .before .before .before .feed-diagnostic .ensures .0) (sym (c .before .is-decided .ensures) ∙ c .if1 .taken)
+
+add-diagnostic : tie.Need-add-diagnostic Inv-loop μ-loop
+add-diagnostic c = omega (arith, c .before .before .before .before .before .before .before .before .before .loop-test .taken)
+
+loop-less : tie.Need-loop-less Inv-loop μ-loop
+loop-less c = omega (arith, c .before .before .before .before .before .before .before .before .before .loop-test .taken)
+
+loop-again : tie.Need-loop-again Inv-loop μ-loop
+loop-again c = (c .before .before .before .before .before .before .before .before .analysis-of .ensures .known, feeding-on (c .before .before .before .before .before .before .before .before .before .before .loop .inv .1) (turn-asked _ _ (isOfAnalysis (now (c .before .before .before .before .before .before .before .before .before .before .before .before .before .before .before .before .before .before .before .args .image)) (now (c .before .before .before .before .before .before .before .before .before .before .before .before .before .before .before .before .before .before .before .args .name))) Diagnostic _ _ (c .before .before .before .before .before .before .before .before .analysis-of .ensures .asked) (c .before .before .before .before .before .before .before .before .before .loop-test .taken)) (c .before .before .before .before .before .feed-diagnostic .ensures .0) (sym (c .before .is-decided .ensures) ∙ c .if1 .left), c .before .before .before .before .before .feed-diagnostic .ensures .1, omega (arith, c .before .before .before .before .before .before .before .before .before .before .loop .inv .3))
+
+same-length-2 : tie.Need-same-length-2 Inv-loop μ-loop
+same-length-2 c = feeding-length (c .before .loop .inv .1)
+
+returns-2 : tie.Need-returns-2 Inv-loop μ-loop
+returns-2 c = feeding-end (c .before .loop .inv .1) (over-kept _ _ (isOfAnalysis (now (c .before .before .before .before .before .before .before .before .before .before .args .image)) (now (c .before .before .before .before .before .before .before .before .before .before .args .name))) Diagnostic _ _ (c .loop-test .left))
 
 pub feed-diagnostics-spec : {M : Type 1} → statement M
 feed-diagnostics-spec =
@@ -53,10 +77,16 @@ feed-diagnostics-spec =
     Inv-loop
     μ-loop
     record-count-requires
+    compare-name-requires
     loop-holds
+    analysis-of-requires
+    slice-aggregate-feed-diagnostic
     feed-diagnostic-requires
+    is-decided-requires
+    same-length-1
+    returns
     add-diagnostic
     loop-less
     loop-again
-    same-length
-    returns)
+    same-length-2
+    returns-2)
