@@ -9,4 +9,5 @@ pub mod ValueLaws
 pub mod PipelineLaws
 pub mod RunLaws
 pub mod AmountLaws
+pub mod MarkedLaws
 pub mod MemoLaws

@@ -2,4 +2,5 @@ pub mod Ready
 pub mod Feed
 pub mod Pipeline
 pub mod Run
+pub mod Marked
 pub mod Memo

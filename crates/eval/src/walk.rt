@@ -1,5 +1,6 @@
 // Members sent through the calls of a pipeline, one source member at a time: each `where`, then its features, each further `where`. No
 // collection but the last is kept, and no member is sent after one that decides a quantifier.
+use crate::marked;
 use crate::memo;
 use crate::ready;
 use board::image;
@@ -31,9 +32,6 @@ ghost use Rattle.eval.specs.Feed.{stateOf, begin, fed, decided, Decides,
 
 // The numbers of a row of the collection table.
 const COLLECTION_ROW: usize = 2;
-
-// The bytes for what is known of predicates: those of four calls. The predicate of a later call is asked of each member.
-const NOTES: usize = memo::CALL_NOTES * 4;
 
 // How many members arrived where the result is settled, and of how many of them the last call's predicate is true.
 pub(crate) struct Tally {
@@ -114,7 +112,7 @@ fn feed_components(
             passed: 0,
         };
     }
-    feed_each_component(rule, image, tree, calls, last, collection)
+    feed_noted(rule, image, tree, calls, last, collection)
 }
 
 // Writes the rows of all components.
@@ -134,8 +132,8 @@ fn list_components(image: &[u8], collection: &mut [u32]) -> Tally
     }
 }
 
-// Sends every component through the calls.
-fn feed_each_component(
+// Sends every component through the calls, with room for notes; and for marks where a `has` may be asked.
+fn feed_noted(
     rule: &[u8],
     image: &[u8],
     tree: &[u32],
@@ -146,8 +144,53 @@ fn feed_each_component(
     requires { ⌜ Fits (methodAt last) (now image) (callsFrom (now rule) (now tree) (now calls) 0) (map Member.Component (upFrom 0 (componentCount (now image)))) (begin (now collection)) ⌝ }
     ensures { λ r. ⌜ Stands (methodAt last) (stateOf r (now (collection .exit))) (fed (now (image .entry)) (callsFrom (now (rule .entry)) (now (tree .entry)) (now (calls .entry)) 0) (map Member.Component (upFrom 0 (componentCount (now (image .entry))))) (begin (now (collection .entry)))) ⌝ }
 {
+    if marked::next_call(tree, 0) < marked::ROWS {
+        return feed_marked(rule, image, tree, calls, last, collection);
+    }
+    let mut notes = [0u8; memo::WAY_NOTES];
+    feed_each_component(rule, image, tree, calls, last, collection, &mut notes)
+}
+
+// The same with the marks made.
+fn feed_marked(
+    rule: &[u8],
+    image: &[u8],
+    tree: &[u32],
+    calls: &[u32],
+    last: usize,
+    collection: &mut [u32],
+) -> Tally
+    requires { ⌜ Fits (methodAt last) (now image) (callsFrom (now rule) (now tree) (now calls) 0) (map Member.Component (upFrom 0 (componentCount (now image)))) (begin (now collection)) ⌝ }
+    ensures { λ r. ⌜ Stands (methodAt last) (stateOf r (now (collection .exit))) (fed (now (image .entry)) (callsFrom (now (rule .entry)) (now (tree .entry)) (now (calls .entry)) 0) (map Member.Component (upFrom 0 (componentCount (now (image .entry))))) (begin (now (collection .entry)))) ⌝ }
+{
+    let mut notes = [0u8; marked::MEMO];
+    let rows = marked::make_marks(rule, image, tree, &mut notes);
+    let end = marked::PLACES + rows;
+    feed_each_component(
+        rule,
+        image,
+        tree,
+        calls,
+        last,
+        collection,
+        &mut notes[..end],
+    )
+}
+
+// Sends every component through the calls.
+fn feed_each_component(
+    rule: &[u8],
+    image: &[u8],
+    tree: &[u32],
+    calls: &[u32],
+    last: usize,
+    collection: &mut [u32],
+    notes: &mut [u8],
+) -> Tally
+    requires { ⌜ Fits (methodAt last) (now image) (callsFrom (now rule) (now tree) (now calls) 0) (map Member.Component (upFrom 0 (componentCount (now image)))) (begin (now collection)) × Notes (now rule) (now image) (now tree) (now calls) (now notes) ⌝ }
+    ensures { λ r. ⌜ Stands (methodAt last) (stateOf r (now (collection .exit))) (fed (now (image .entry)) (callsFrom (now (rule .entry)) (now (tree .entry)) (now (calls .entry)) 0) (map Member.Component (upFrom 0 (componentCount (now (image .entry))))) (begin (now (collection .entry)))) ⌝ }
+{
     let count = image::record_count(image, Section::Components);
-    let mut notes = [0u8; NOTES];
     let mut tally = Tally {
         arrived: 0,
         passed: 0,
@@ -164,7 +207,7 @@ fn feed_each_component(
             0,
             member,
             collection,
-            &mut notes,
+            notes,
             tally,
         );
         if is_decided(last, tally) {
@@ -189,7 +232,7 @@ fn feed_diagnostics(
     ensures { λ r. ⌜ Stands (methodAt last) (stateOf r (now (collection .exit))) (fed (now (image .entry)) (callsFrom (now (rule .entry)) (now (tree .entry)) (now (calls .entry)) 0) (kept (isOfAnalysis (now (image .entry)) (now (name .entry))) (map Member.Diagnostic (upFrom 0 (diagnosticCount (now (image .entry)))))) (begin (now (collection .entry)))) ⌝ }
 {
     let count = image::record_count(image, Section::Diagnostics);
-    let mut notes = [0u8; NOTES];
+    let mut notes = [0u8; memo::WAY_NOTES];
     let mut tally = Tally {
         arrived: 0,
         passed: 0,

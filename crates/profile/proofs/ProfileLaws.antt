@@ -117,13 +117,13 @@ profile-small image (Diagnostic d) k h = in-range image (Diagnostic d) k h .1
 
 -- ---- members with the same number: of the same sort, with the same fields
 
-data Alike (image : List ℕ) : Member → Member → Type 0 where
+pub data Alike (image : List ℕ) : Member → Member → Type 0 where
   components : {c d : ℕ} → category image c ≡ category image d → componentConnected image c ≡ componentConnected image d → Alike image (Component c) (Component d)
   features : {c f d g : ℕ} → category image c ≡ category image d → featureKind image f ≡ featureKind image g → direction image f ≡ direction image g
       → Alike image (Feature c f) (Feature d g)
   diagnostics : {c d : ℕ} → severity image c ≡ severity image d → Alike image (Diagnostic c) (Diagnostic d)
 
-same-profile : (image : List ℕ) (m n : Member) (k : ℕ) → profileOf image m ≡ Number k → profileOf image n ≡ Number k → Alike image m n
+pub same-profile : (image : List ℕ) (m n : Member) (k : ℕ) → profileOf image m ≡ Number k → profileOf image n ≡ Number k → Alike image m n
 unfolding profileOf
 same-profile image (Component c) (Component d) k h g =
     let i = component-is (category image c) (componentConnected image c) k h in
@@ -204,7 +204,7 @@ of-sort k =
     go false false false false false false false x y z = tt
 
 module _ {image : List ℕ} {m n : Member} (a : Alike image m n) where
-  settle-alike : (k : ℕ) (f : Forest) (truths : List Bool) → asksMore m k ≡ false → settle image m (sortOf k) f truths ≡ settle image n (sortOf k) f truths
+  pub settle-alike : (k : ℕ) (f : Forest) (truths : List Bool) → asksMore m k ≡ false → settle image m (sortOf k) f truths ≡ settle image n (sortOf k) f truths
   unfolding settle
   settle-alike k f truths h = go (sortOf k) (of-sort k)
     where

@@ -4,7 +4,7 @@ use Prim.Native.Nat.{_+_, _*_}
 use native.Mathlib.Omega.{arith}
 use Rattle.profile.proofs.ProfileLaws.{profile-small}
 use Rattle.eval.specs.Ready.{CALL-ROW}
-use Rattle.eval.proofs.MemoLaws.{asked-known, asked-noted}
+use Rattle.eval.proofs.MemoLaws.{known-plain, asked-plain}
 use borrow.Author.Needs.{needs}
 use Rattle.eval.proofs.memo.ask.Statement.{statement}
 use Rattle.eval.proofs.memo.ask.Tie as tie
@@ -52,28 +52,31 @@ add-at : tie.Need-add-at
 add-at c = omega (arith, profile-small _ (c .before .before .before .before .before .before .before .before .before .before .before .args .member) _ (sym (c .before .before .before .before .profile-of .ensures) ∙ c .before .before .found .given .1))
 
 slice-read-known : tie.Need-slice-read-known
-slice-read-known c = omega (arith, c .before .if1 .left, profile-small _ (c .before .before .before .before .before .before .before .before .before .before .before .before .args .member) _ (sym (c .before .before .before .before .before .profile-of .ensures) ∙ c .before .before .before .found .given .1))
+slice-read-known c = omega (arith, c .before .if1 .left, c .before .before .before .before .before .before .before .before .before .before .before .before .pre .1 .room, profile-small _ (c .before .before .before .before .before .before .before .before .before .before .before .before .args .member) _ (sym (c .before .before .before .before .before .profile-of .ensures) ∙ c .before .before .before .found .given .1))
 
 returns-3 : tie.Need-returns-3
-returns-3 c = asked-known (c .before .before .before .before .before .before .before .before .before .before .before .before .before .pre .1) (sym (c .before .before .before .before .before .before .profile-of .ensures) ∙ c .before .before .before .before .found .given .1) (c .if2 .taken)
+returns-3 c = known-plain (c .before .before .before .before .before .before .before .before .before .before .before .before .before .pre .1) (c .before .before .if1 .left) (sym (c .before .before .before .before .before .before .profile-of .ensures) ∙ c .before .before .before .before .found .given .1) (c .if2 .taken)
 
 returns-4 : tie.Need-returns-4
-returns-4 c = asked-known (c .before .before .before .before .before .before .before .before .before .before .before .before .before .before .pre .1) (sym (c .before .before .before .before .before .before .before .profile-of .ensures) ∙ c .before .before .before .before .before .found .given .1) (c .if3 .taken)
+returns-4 c = known-plain (c .before .before .before .before .before .before .before .before .before .before .before .before .before .before .pre .1) (c .before .before .before .if1 .left) (sym (c .before .before .before .before .before .before .before .profile-of .ensures) ∙ c .before .before .before .before .before .found .given .1) (c .if3 .taken)
 
 note-requires : tie.Need-note-requires
-note-requires c κs = omega (arith, c .before .before .before .before .before .if1 .left, profile-small _ (c .before .before .before .before .before .before .before .before .before .before .before .before .before .before .before .before .args .member) _ (sym (c .before .before .before .before .before .before .before .before .before .profile-of .ensures) ∙ c .before .before .before .before .before .before .before .found .given .1))
+note-requires c κs = omega (arith, c .before .before .before .before .before .if1 .left, c .before .before .before .before .before .before .before .before .before .before .before .before .before .before .before .before .pre .1 .room, profile-small _ (c .before .before .before .before .before .before .before .before .before .before .before .before .before .before .before .before .args .member) _ (sym (c .before .before .before .before .before .before .before .before .before .profile-of .ensures) ∙ c .before .before .before .before .before .before .before .found .given .1))
 
 same-length : tie.Need-same-length
 same-length c = search needs
 
 returns-5 : tie.Need-returns-5
-returns-5 c = asked-noted (c .before .before .before .before .before .before .before .before .before .before .before .before .before .before .before .before .before .before .before .pre .1) _ _ (sym (c .before .before .before .before .before .before .before .before .before .before .before .before .profile-of .ensures) ∙ c .before .before .before .before .before .before .before .before .before .before .found .given .1) (omega (arith, c .before .before .before .before .before .before .before .before .if1 .left, profile-small _ (c .before .before .before .before .before .before .before .before .before .before .before .before .before .before .before .before .before .before .before .args .member) _ (sym (c .before .before .before .before .before .before .before .before .before .before .before .before .profile-of .ensures) ∙ c .before .before .before .before .before .before .before .before .before .before .found .given .1))) (c .before .before .note .ensures)
+returns-5 c = asked-plain (c .before .before .before .before .before .before .before .before .before .before .before .before .before .before .before .before .before .before .before .pre .1) (c .before .before .before .before .before .before .before .before .if1 .left) (sym (c .before .before .before .before .before .before .before .before .before .before .before .before .profile-of .ensures) ∙ c .before .before .before .before .before .before .before .before .before .before .found .given .1) (c .before .before .note .ensures)
 
-eval-args-requires-3 : tie.Need-eval-args-requires-3
-eval-args-requires-3 c κs = search needs
+ask-marked-requires : tie.Need-ask-marked-requires
+ask-marked-requires c κs = (c .before .before .before .before .before .before .before .before .before .before .before .before .before .before .before .before .pre .0, c .before .before .before .before .before .if1 .left, (sym (c .before .before .before .before .before .before .before .before .before .profile-of .ensures) ∙ c .before .before .before .before .before .before .before .found .given .1), c .before .before .before .before .before .before .before .before .before .before .before .before .before .before .before .before .pre .1)
+
+same-length-2 : tie.Need-same-length-2
+same-length-2 c = search needs
 
 returns-6 : tie.Need-returns-6
-returns-6 c = search needs
+returns-6 c = c .before .before .ask-marked .ensures
 
 pub ask-spec : {M : Type 1} → statement M
 ask-spec =
@@ -99,5 +102,6 @@ ask-spec =
     note-requires
     same-length
     returns-5
-    eval-args-requires-3
+    ask-marked-requires
+    same-length-2
     returns-6)

@@ -32,8 +32,8 @@ cast-t15 c = search needs
 returns-2 : tie.Need-returns-2
 returns-2 c = stands-fed (c .before .before .before .before .before .before .before .before .before .pre) (counted-first (now (c .before .before .before .before .before .before .before .before .before .args .rule)) (now (c .before .before .before .before .before .before .before .before .before .args .image)) (now (c .before .before .before .before .before .before .before .before .before .args .tree)) (now (c .before .before .before .before .before .before .before .before .before .args .calls)) (now (c .before .before .before .before .before .before .before .before .before .args .collection)) (c .before .before .before .if1 .left) (c .before .if2 .taken) (c .record-count .ensures))
 
-feed-each-component-requires : tie.Need-feed-each-component-requires
-feed-each-component-requires c κs = search needs
+feed-noted-requires : tie.Need-feed-noted-requires
+feed-noted-requires c κs = search needs
 
 same-length-2 : tie.Need-same-length-2
 same-length-2 c = search needs
@@ -53,6 +53,6 @@ feed-components-spec =
     record-count-requires
     cast-t15
     returns-2
-    feed-each-component-requires
+    feed-noted-requires
     same-length-2
     returns-3)

@@ -5,36 +5,31 @@ use Rattle.meaning.specs.Calls.{upFrom}
 use Rattle.predicate.specs.declared.atom.Member.the-variants.{Component}
 use Rattle.board.specs.Image.{componentCount}
 use Rattle.calls.specs.Table.{methodAt}
-use Rattle.profile.specs.Profile.{PROFILES}
-use Rattle.eval.proofs.MemoLaws.{notes-none}
 use Rattle.eval.specs.Memo.{Notes}
 use Rattle.eval.specs.Feed.{stateOf, begin}
 use Rattle.eval.specs.Ready.{callsFrom}
 use borrow.Author.Needs.{needs}
 use native.Mathlib.Omega.{arith}
-use lib.ListN.{length, length-replicate}
-use Prim.Native.Nat.{ℕ, _-_, _*_}
+use lib.ListN.{length}
+use Prim.Native.Nat.{_-_}
 use mathlib.Core.List.{map}
-use mathlib.Core.Path.{_≡_, sym, _∙_}
+use mathlib.Core.Path.{_≡_, refl, sym, _∙_}
 use denote.Ref.{now}
 use Rattle.eval.proofs.walk.feed_each_component.Statement.{statement}
 use Rattle.eval.proofs.walk.feed_each_component.Tie as tie
 
 abbrev Inv-loop : tie.InvT-loop
-Inv-loop rule image tree calls last collection₀ count notes₀ tally₀ component₀ collection notes tally component =
-    Feeding (methodAt last) image (callsFrom rule tree calls 0) (map Component (upFrom 0 (componentCount image))) (begin collection₀) (map Component (upTo component count)) (stateOf tally collection) × Notes rule image tree calls notes × (length notes ≡ PROFILES * 4)
+Inv-loop rule image tree calls last collection₀ notes₀ count tally₀ component₀ collection notes tally component =
+    Feeding (methodAt last) image (callsFrom rule tree calls 0) (map Component (upFrom 0 (componentCount image))) (begin collection₀) (map Component (upTo component count)) (stateOf tally collection) × Notes rule image tree calls notes × (length notes ≡ length notes₀)
 
 abbrev μ-loop : tie.MeasureT-loop
-μ-loop rule image tree calls last collection₀ count notes₀ tally₀ component₀ collection notes tally component = count - component
+μ-loop rule image tree calls last collection₀ notes₀ count tally₀ component₀ collection notes tally component = count - component
 
 record-count-requires : tie.Need-record-count-requires Inv-loop μ-loop
 record-count-requires c κs = search needs
 
 loop-holds : tie.Need-loop-holds Inv-loop μ-loop
-loop-holds c = (all-start (now (c .before .before .before .before .before .before .args .image)) (callsFrom (now (c .before .before .before .before .before .before .args .rule)) (now (c .before .before .before .before .before .before .args .tree)) (now (c .before .before .before .before .before .before .args .calls)) 0) (map Component) (begin (now (c .before .before .before .before .before .before .args .collection))) _ _ (c .record-count .ensures) (c .before .before .before .before .before .before .pre), notes-none _ _ _ _ (PROFILES * 4), length-replicate {A = ℕ} (PROFILES * 4) 0)
-
-slice-aggregate-feed : tie.Need-slice-aggregate-feed Inv-loop μ-loop
-slice-aggregate-feed c = omega (arith, c .before .before .before .loop .inv .2)
+loop-holds c = (all-start (now (c .before .before .before .before .before .before .before .args .image)) (callsFrom (now (c .before .before .before .before .before .before .before .args .rule)) (now (c .before .before .before .before .before .before .before .args .tree)) (now (c .before .before .before .before .before .before .before .args .calls)) 0) (map Component) (begin (now (c .before .before .before .before .before .before .before .args .collection))) _ _ (c .record-count .ensures) (c .before .before .before .before .before .before .before .pre .0), c .before .before .before .before .before .before .before .pre .1, refl)
 
 feed-requires : tie.Need-feed-requires Inv-loop μ-loop
 feed-requires c κs = (fits-first (turn _ _ Component _ _ (c .before .before .loop-test .taken)) (c .before .before .before .loop .inv .0 .fits), c .before .before .before .loop .inv .1)
@@ -43,22 +38,28 @@ is-decided-requires : tie.Need-is-decided-requires Inv-loop μ-loop
 is-decided-requires c κs = search needs
 
 same-length-1 : tie.Need-same-length Inv-loop μ-loop
-same-length-1 c = same-length _ _ _ (begin (now (c .before .before .before .before .before .before .before .before .before .before .before .before .before .before .before .before .args .collection))) (feeding-stop (c .before .before .before .before .before .before .before .before .before .loop .inv .0) (turn _ _ Component _ _ (c .before .before .before .before .before .before .before .before .loop-test .taken)) (c .before .before .before .before .before .feed .ensures .0) (sym (c .before .is-decided .ensures) ∙ c .if1 .taken))
-
-returns : tie.Need-returns Inv-loop μ-loop
-returns c = feeding-stop (c .before .before .before .before .before .before .before .before .before .loop .inv .0) (turn _ _ Component _ _ (c .before .before .before .before .before .before .before .before .loop-test .taken)) (c .before .before .before .before .before .feed .ensures .0) (sym (c .before .is-decided .ensures) ∙ c .if1 .taken)
-
-add-component : tie.Need-add-component Inv-loop μ-loop
-add-component c = omega (arith, c .before .before .before .before .before .before .before .before .loop-test .taken)
-
-loop-less : tie.Need-loop-less Inv-loop μ-loop
-loop-less c = omega (arith, c .before .before .before .before .before .before .before .before .loop-test .taken)
-
-loop-again : tie.Need-loop-again Inv-loop μ-loop
-loop-again c = (feeding-on (c .before .before .before .before .before .before .before .before .before .loop .inv .0) (turn _ _ Component _ _ (c .before .before .before .before .before .before .before .before .loop-test .taken)) (c .before .before .before .before .before .feed .ensures .0) (sym (c .before .is-decided .ensures) ∙ c .if1 .left), c .before .before .before .before .before .feed .ensures .1, omega (arith, c .before .before .before .before .before .before .before .before .before .loop .inv .2))
+same-length-1 c = same-length _ _ _ (begin (now (c .before .before .before .before .before .before .before .before .before .before .before .before .before .before .before .before .before .before .args .collection))) (feeding-stop (c .before .before .before .before .before .before .before .before .before .before .loop .inv .0) (turn _ _ Component _ _ (c .before .before .before .before .before .before .before .before .before .loop-test .taken)) (c .before .before .before .before .before .before .feed .ensures .0) (sym (c .before .is-decided .ensures) ∙ c .if1 .taken))
 
 same-length-2 : tie.Need-same-length-2 Inv-loop μ-loop
-same-length-2 c = feeding-length (c .before .loop .inv .0)
+same-length-2 c = c .before .before .before .before .before .before .feed .kept .1 .1 .1 .1 .1 .1 .1 .1 .0 ∙ c .before .before .before .before .before .before .before .before .before .before .loop .inv .2
+
+returns : tie.Need-returns Inv-loop μ-loop
+returns c = feeding-stop (c .before .before .before .before .before .before .before .before .before .before .loop .inv .0) (turn _ _ Component _ _ (c .before .before .before .before .before .before .before .before .before .loop-test .taken)) (c .before .before .before .before .before .before .feed .ensures .0) (sym (c .before .is-decided .ensures) ∙ c .if1 .taken)
+
+add-component : tie.Need-add-component Inv-loop μ-loop
+add-component c = omega (arith, c .before .before .before .before .before .before .before .before .before .loop-test .taken)
+
+loop-less : tie.Need-loop-less Inv-loop μ-loop
+loop-less c = omega (arith, c .before .before .before .before .before .before .before .before .before .loop-test .taken)
+
+loop-again : tie.Need-loop-again Inv-loop μ-loop
+loop-again c = (feeding-on (c .before .before .before .before .before .before .before .before .before .before .loop .inv .0) (turn _ _ Component _ _ (c .before .before .before .before .before .before .before .before .before .loop-test .taken)) (c .before .before .before .before .before .before .feed .ensures .0) (sym (c .before .is-decided .ensures) ∙ c .if1 .left), c .before .before .before .before .before .before .feed .ensures .1, c .before .before .before .before .before .before .feed .kept .1 .1 .1 .1 .1 .1 .1 .1 .0 ∙ c .before .before .before .before .before .before .before .before .before .before .loop .inv .2)
+
+same-length-3 : tie.Need-same-length-3 Inv-loop μ-loop
+same-length-3 c = feeding-length (c .before .loop .inv .0)
+
+same-length-4 : tie.Need-same-length-4 Inv-loop μ-loop
+same-length-4 c = c .before .loop .inv .2
 
 returns-2 : tie.Need-returns-2 Inv-loop μ-loop
 returns-2 c = feeding-end (c .before .loop .inv .0) (over _ _ Component _ _ (c .loop-test .left))
@@ -71,13 +72,14 @@ feed-each-component-spec =
     μ-loop
     record-count-requires
     loop-holds
-    slice-aggregate-feed
     feed-requires
     is-decided-requires
     same-length-1
+    same-length-2
     returns
     add-component
     loop-less
     loop-again
-    same-length-2
+    same-length-3
+    same-length-4
     returns-2)

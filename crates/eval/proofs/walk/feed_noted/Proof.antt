@@ -1,0 +1,44 @@
+-- `feed_noted` sends every component, with marks or with a memo of zeros. Assumes nothing.
+use native.Mathlib.Omega.{arith}
+use Rattle.eval.specs.Memo.{WAY-NOTES}
+use Rattle.eval.proofs.MemoLaws.{notes-none}
+use borrow.Author.Needs.{needs}
+use Rattle.eval.proofs.walk.feed_noted.Statement.{statement}
+use Rattle.eval.proofs.walk.feed_noted.Tie as tie
+
+next-call-requires : tie.Need-next-call-requires
+next-call-requires c κs = search needs
+
+feed-marked-requires : tie.Need-feed-marked-requires
+feed-marked-requires c κs = search needs
+
+same-length : tie.Need-same-length
+same-length c = search needs
+
+returns : tie.Need-returns
+returns c = search needs
+
+slice-aggregate-feed-each-component : tie.Need-slice-aggregate-feed-each-component
+slice-aggregate-feed-each-component c = search needs
+
+feed-each-component-requires : tie.Need-feed-each-component-requires
+feed-each-component-requires c κs = (c .before .before .before .before .before .before .before .before .before .pre, notes-none _ _ _ _ WAY-NOTES (omega arith) (omega arith))
+
+same-length-2 : tie.Need-same-length-2
+same-length-2 c = search needs
+
+returns-2 : tie.Need-returns-2
+returns-2 c = search needs
+
+pub feed-noted-spec : {M : Type 1} → statement M
+feed-noted-spec =
+    tie.close
+    (tie.spec
+    next-call-requires
+    feed-marked-requires
+    same-length
+    returns
+    slice-aggregate-feed-each-component
+    feed-each-component-requires
+    same-length-2
+    returns-2)
