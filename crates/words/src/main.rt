@@ -1,5 +1,6 @@
 // Prints every text that a report is made of: each verdict and refusal, each kind of outcome, the members of a board that has each
-// word, and the parse errors of the rules on standard input, which a line of `---` ends.
+// word, and of the rules on standard input, which a line of `---` ends, the parse errors, or where there are none the rule that names the
+// members for which a quantifier fails.
 use board::image::Section;
 use calls::value::Outcome;
 use calls::value::Value;
@@ -238,7 +239,7 @@ fn write_word(n: u32, out: &mut [u8], at: usize) -> usize {
     )
 }
 
-// Prints the parse errors of the rules on standard input, and of numbers that are no row of one.
+// Prints what is said of the rules on standard input, and the parse errors of numbers that are no row of one.
 fn print_rules() {
     let mut space = io::buffer();
     let n = io::read_full(0, &mut space);
@@ -251,7 +252,7 @@ fn print_each(input: &[u8]) {
     let mut at = 0;
     while at < input.len() {
         let end = rule_end(input, at);
-        print_errors(&input[at..end]);
+        print_rule(&input[at..end]);
         if input.len() - end < 5 {
             return;
         }
@@ -282,8 +283,8 @@ fn starts(text: &[u8]) -> bool {
     text::same(&text[..5], b"\n---\n")
 }
 
-// Prints the errors of a rule, or why it is refused.
-fn print_errors(rule: &[u8]) {
+// Prints the errors of a rule, the rule that names members for one that has none, or why it is refused.
+fn print_rule(rule: &[u8]) {
     let mut tokens = token_table();
     let mut tree = row_table();
     let mut errors = row_table();
@@ -292,7 +293,12 @@ fn print_errors(rule: &[u8]) {
             tokens: _,
             tree: _,
             errors: found,
-        } => print_rows(rule, &errors, found),
+        } => {
+            print_rows(rule, &errors, found);
+            if found == 0 {
+                print_witness(rule, &tree);
+            }
+        }
         Reading::Refused(r) => print_refusal(r),
     }
 }
@@ -315,6 +321,14 @@ fn print_rows(rule: &[u8], errors: &[u32], n: usize) {
         );
         i += 1;
     }
+}
+
+// Prints the rule that names members, on a line that is empty where there is none. The rows past the tree's are zeros, and no call's.
+fn print_witness(rule: &[u8], tree: &[u32]) {
+    let mut out = io::buffer();
+    let n = witness::write_witness(rule, tree, &mut out, 0);
+    print_front(&out, n);
+    io::write_all(STDOUT_FILENO, b"\n");
 }
 
 fn print_error(rule: &[u8], form: u32, expected: u32, first: u32, end: u32) {

@@ -17,17 +17,17 @@ loop-holds c = search needs
 rule-end-requires : tie.Need-rule-end-requires Inv-loop μ-loop
 rule-end-requires c κs = search needs
 
-sub-print-errors : tie.Need-sub-print-errors Inv-loop μ-loop
-sub-print-errors c = search needs
+sub-print-rule : tie.Need-sub-print-rule Inv-loop μ-loop
+sub-print-rule c = search needs
 
-part-print-errors-start : tie.Need-part-print-errors-start Inv-loop μ-loop
-part-print-errors-start c = search needs
+part-print-rule-start : tie.Need-part-print-rule-start Inv-loop μ-loop
+part-print-rule-start c = search needs
 
-part-print-errors-end : tie.Need-part-print-errors-end Inv-loop μ-loop
-part-print-errors-end c = search needs
+part-print-rule-end : tie.Need-part-print-rule-end Inv-loop μ-loop
+part-print-rule-end c = search needs
 
-print-errors-requires : tie.Need-print-errors-requires Inv-loop μ-loop
-print-errors-requires c κs = search needs
+print-rule-requires : tie.Need-print-rule-requires Inv-loop μ-loop
+print-rule-requires c κs = search needs
 
 sub-if1 : tie.Need-sub-if1 Inv-loop μ-loop
 sub-if1 c = search needs
@@ -55,10 +55,10 @@ print-each-spec =
     μ-loop
     loop-holds
     rule-end-requires
-    sub-print-errors
-    part-print-errors-start
-    part-print-errors-end
-    print-errors-requires
+    sub-print-rule
+    part-print-rule-start
+    part-print-rule-end
+    print-rule-requires
     sub-if1
     returns
     add-at
