@@ -44,7 +44,7 @@ fn main() {
 fn print_verdict(verdict: Verdict) {
     let mut out = io::buffer();
     let n = answer::write_verdict(verdict, &mut out, 0);
-    io::write_all(STDOUT_FILENO, text::part(&out, 0, n));
+    print_front(&out, n);
     io::write_all(STDOUT_FILENO, b"\n");
 }
 
@@ -59,7 +59,7 @@ fn print_value(value: Value) {
 fn print_head(outcome: Outcome) {
     let mut out = io::buffer();
     let n = answer::write_head(outcome, &mut out, 0);
-    io::write_all(STDOUT_FILENO, text::part(&out, 0, n));
+    print_front(&out, n);
 }
 
 fn print_board_refusals() {
@@ -165,7 +165,7 @@ fn print_members(image: &[u8], section: Section, value: Value) {
 fn print_member(image: &[u8], value: Value, first: u32, second: u32) {
     let mut out = io::buffer();
     let n = members::write_member(image, value, first, second, &mut out, 0);
-    io::write_all(STDOUT_FILENO, text::part(&out, 0, n));
+    print_front(&out, n);
 }
 
 // A board with a component of each category, a feature of each kind in each direction, and a diagnostic of each severity.
@@ -327,12 +327,21 @@ fn print_rows(rule: &[u8], errors: &[u32], n: usize) {
 fn print_witness(rule: &[u8], tree: &[u32]) {
     let mut out = io::buffer();
     let n = witness::write_witness(rule, tree, &mut out, 0);
-    io::write_all(STDOUT_FILENO, text::part(&out, 0, n));
+    print_front(&out, n);
     io::write_all(STDOUT_FILENO, b"\n");
 }
 
 fn print_error(rule: &[u8], form: u32, expected: u32, first: u32, end: u32) {
     let mut out = io::buffer();
     let n = error::write_error(rule, form, expected, first, end, &mut out, 0);
-    io::write_all(STDOUT_FILENO, text::part(&out, 0, n));
+    print_front(&out, n);
+}
+
+// Prints the first n bytes, or as many as there are.
+fn print_front(bytes: &[u8], n: usize) {
+    if n <= bytes.len() {
+        io::write_all(STDOUT_FILENO, &bytes[..n]);
+        return;
+    }
+    io::write_all(STDOUT_FILENO, bytes);
 }
