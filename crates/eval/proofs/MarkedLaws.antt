@@ -1,7 +1,7 @@
 -- Members with the same profile and the same bits have the same truth of every predicate that asks for no more; and marks tell the bits.
 -- Assumes nothing.
 use mathlib.Core.Path.{_≡_, refl, sym, ap, _∙_, subst}
-use mathlib.Core.Bool.{Bool, true, false, not, _&&_, _||_, cond, true≢false, false≢true}
+use mathlib.Core.Bool.{Bool, true, false, not, _&&_, cond, true≢false, false≢true}
 use mathlib.Core.List.{List, [], _∷_, _++_}
 use Prim.Native.Nat.{ℕ, zero, suc, _+_, _-_, _*_, _≤_, _<_}
 use native.Mathlib.Omega.{arith}
@@ -20,12 +20,12 @@ use Rattle.predicate.specs.declared.atom.Member.{Member}
 use Rattle.predicate.specs.declared.atom.Member.the-variants.{Component, Feature, Diagnostic}
 use Rattle.predicate.specs.Truth.{literalOf, hasPropertyOf, has, firstOf, sortOf, settle, truths, truth}
 use Rattle.predicate.specs.Rows.{ROW, Place, below, past, token, child, placeOf, grown, bytesBetween, forest, kindAt, levelAt, forestFrom, childrenAt, isRow, isBelow}
-use Rattle.predicate.proofs.RowLaws.{row-there, row-missing, drop-row, rowAnd, few, below-row}
+use Rattle.predicate.proofs.RowLaws.{row-there, row-missing, drop-row, few, below-row}
 use Rattle.predicate.proofs.ForestLaws.{place-past}
 use Rattle.profile.specs.declared.Profile.the-variants.{Number}
 use Rattle.profile.specs.Profile.{profileOf, asksMore}
 use Rattle.profile.proofs.ProfileLaws.{Alike, same-profile, settle-alike}
-use Rattle.eval.specs.Marked.{HASES, BLOCK, NO-BITS, ROWS, MARKS, PLACES, MEMO, placesIn, marksIn, valueOf, valueAt, Marks, hasAt, bitAt, bitsOf, BitIs, MarkIs, Told, plain, marked, NodesTold, RowsTold, RowTold, TellsBelow, Made, MakesRow}
+use Rattle.eval.specs.Marked.{HASES, BLOCK, NO-BITS, MARKS, PLACES, MEMO, placesIn, marksIn, valueOf, valueAt, Marks, hasAt, bitAt, bitsOf, BitIs, MarkIs, Told, plain, marked, NodesTold, RowsTold, RowTold, TellsBelow, Made, MakesRow}
 
 -- ---- members with the same bits
 
@@ -154,7 +154,7 @@ mark-true false n = absurd (n refl)
 
 module _ {rule image tree places marks : List ℕ} (w : Marks rule image tree places marks) (j : ℕ) where
   -- past the places
-  pub bit-none : (o : Member) → length places ≤ j → BitIs (bitAt rule image tree places j o) 16 0
+  pub bit-none : (o : Member) → length places ≤ j → BitIs (bitAt rule image tree places j o) NO-BITS 0
   unfolding bitAt hasAt
   bit-none o h = record { small = omega arith; so = λ _. sym (rw (le-ltb j (length places) h)) }
 
@@ -171,7 +171,7 @@ module _ {rule image tree places marks : List ℕ} (w : Marks rule image tree pl
       is-marked l n = mark-true (hasPropertyOf image c (valueAt rule tree places j)) (λ z. e .one l n .1 .1 (w .so j c h (e .one l n .1 .0) ∙ z))
 
       -- a component with a mark
-      pub bit-marked : {o : Member} → o ≡ Component c → (r ≡ 0 → ⊥) → BitIs (bitAt rule image tree places j o) 16 r
+      pub bit-marked : {o : Member} → o ≡ Component c → (r ≡ 0 → ⊥) → BitIs (bitAt rule image tree places j o) NO-BITS r
       unfolding has
       bit-marked {o} q n =
           record {
@@ -181,7 +181,7 @@ module _ {rule image tree places marks : List ℕ} (w : Marks rule image tree pl
 
       -- without one, by the names of its features
       pub bit-named : {o : Member} {v : List ℕ} {t : Bool} {x y : ℕ} → o ≡ Component c → r ≡ 0 → v ≡ literalOf (childrenAt rule tree x) → x ≡ ROW * getD places j 0 → t ≡ hasFeature image c v → y ≡ markOf t
-          → BitIs (bitAt rule image tree places j o) 16 y
+          → BitIs (bitAt rule image tree places j o) NO-BITS y
       unfolding has valueOf
       bit-named {o} {v} {t} q z d x f g =
           record {
@@ -190,7 +190,7 @@ module _ {rule image tree places marks : List ℕ} (w : Marks rule image tree pl
           }
 
       -- a feature
-      pub bit-owner : {o : Member} {f : ℕ} → o ≡ Feature c f → BitIs (bitAt rule image tree places j o) 16 r
+      pub bit-owner : {o : Member} {f : ℕ} → o ≡ Feature c f → BitIs (bitAt rule image tree places j o) NO-BITS r
       unfolding has
       bit-owner {o} {f} q =
           record {
@@ -203,13 +203,13 @@ module _ {rule image tree places marks : List ℕ} (w : Marks rule image tree pl
           go false t l = e .one l (eqb-false r 0 t) .0 ∙ sym (ap markOf (is-marked l (eqb-false r 0 t)))
 
     -- a diagnostic
-    pub bit-never : {o : Member} {d : ℕ} → o ≡ Diagnostic d → BitIs (bitAt rule image tree places j o) 16 0
+    pub bit-never : {o : Member} {d : ℕ} → o ≡ Diagnostic d → BitIs (bitAt rule image tree places j o) NO-BITS 0
     unfolding has
     bit-never {o} q =
         record { small = omega arith; so = λ l. sym (here o ∙ ap (λ (o : Member). markOf (has image o (valueAt rule tree places j))) q) }
 
 -- the bits by each of them
-pub bits-are : {w x y z a b c d : ℕ} → BitIs w 16 a → BitIs x 16 b → BitIs y 16 c → BitIs z 16 d → BitIs (w + 2 * x + 4 * y + 8 * z) 240 (a + 2 * b + 4 * c + 8 * d)
+pub bits-are : {w x y z a b c d : ℕ} → BitIs w NO-BITS a → BitIs x NO-BITS b → BitIs y NO-BITS c → BitIs z NO-BITS d → BitIs (w + 2 * x + 4 * y + 8 * z) (15 * NO-BITS) (a + 2 * b + 4 * c + 8 * d)
 bits-are {w} {x} {y} {z} {a} {b} {c} {d} p q r s =
     record {
       small = omega (arith, p .small, q .small, r .small, s .small);
@@ -381,7 +381,7 @@ makes-row rule image tree memo row n {value} {block} {k} h long v e f =
 
 -- ---- the parts of a memo
 
-pub rows-length : (memo : List ℕ) → length (placesIn memo) ≡ length memo - PLACES
+rows-length : (memo : List ℕ) → length (placesIn memo) ≡ length memo - PLACES
 unfolding placesIn
 rows-length memo = length-drop PLACES memo
 
@@ -389,7 +389,7 @@ row-at : (memo : List ℕ) (j : ℕ) → getD (placesIn memo) j 0 ≡ getD memo 
 unfolding placesIn
 row-at memo j = getD-drop PLACES memo j 0
 
-pub marks-length-in : (memo : List ℕ) → PLACES ≤ length memo → length (marksIn memo) ≡ BLOCK * HASES
+marks-length-in : (memo : List ℕ) → PLACES ≤ length memo → length (marksIn memo) ≡ BLOCK * HASES
 unfolding marksIn
 marks-length-in memo h = length-take-le (BLOCK * HASES) (drop MARKS memo) (omega (arith, length-drop MARKS memo))
 
@@ -407,9 +407,9 @@ pub marks-parts : (rule image tree memo : List ℕ) → Marks rule image tree (p
 unfolding marksIn
 marks-parts rule image tree memo w = subst (λ (places : List ℕ). Marks rule image tree places (marksIn memo)) (sym (places-whole memo)) w
 
-pub bits-whole : (rule image tree memo : List ℕ) (m : Member) {r : ℕ} → BitIs (bitsOf rule image tree (take (length memo - PLACES) (drop PLACES memo)) m) 240 r
-    → BitIs (bitsOf rule image tree (placesIn memo) m) 240 r
-bits-whole rule image tree memo m {r} w = subst (λ (places : List ℕ). BitIs (bitsOf rule image tree places m) 240 r) (places-whole memo) w
+pub bits-whole : (rule image tree memo : List ℕ) (m : Member) {r : ℕ} → BitIs (bitsOf rule image tree (take (length memo - PLACES) (drop PLACES memo)) m) (15 * NO-BITS) r
+    → BitIs (bitsOf rule image tree (placesIn memo) m) (15 * NO-BITS) r
+bits-whole rule image tree memo m {r} w = subst (λ (places : List ℕ). BitIs (bitsOf rule image tree places m) (15 * NO-BITS) r) (places-whole memo) w
 
 pub tells-whole : (tree : List ℕ) (at : ℕ) (m : Member) (memo : List ℕ) {r : Bool} → TellsBelow tree at m (take (length memo - PLACES) (drop PLACES memo)) r
     → TellsBelow tree at m (placesIn memo) r

@@ -1,8 +1,8 @@
 -- Notes made and read, and a memo in which nothing is noted. Assumes nothing.
 use mathlib.Core.Path.{_≡_, refl, sym, ap, _∙_, subst}
 use mathlib.Core.Bool.{Bool, true, false}
-use mathlib.Core.List.{List, []}
-use Prim.Native.Nat.{ℕ, zero, suc, _+_, _-_, _*_, _≤_, _<_}
+use mathlib.Core.List.{List}
+use Prim.Native.Nat.{ℕ, zero, suc, _+_, _*_, _≤_, _<_}
 use native.Mathlib.Omega.{arith}
 use borrow.Author.Tests.{eqb-true, eqb-false}
 use lib.Dec.{eqb}
@@ -15,7 +15,7 @@ use Rattle.predicate.specs.Rows.{childrenAt}
 use Rattle.profile.specs.declared.Profile.the-variants.{Number}
 use Rattle.profile.specs.Profile.{PROFILES, profileOf, asksMore, mentionsBelow}
 use Rattle.profile.proofs.ProfileLaws.{profile-small, alike, mentions-rows}
-use Rattle.eval.specs.Marked.{HASES, NO-BITS, MARKS, PLACES, placesIn, marksIn, bitsOf, BitIs, Marks, Made}
+use Rattle.eval.specs.Marked.{NO-BITS, MARKS, PLACES, placesIn, marksIn, bitsOf, BitIs, Marks, Made}
 use Rattle.eval.specs.Memo.{NOTED-CALLS, WAY-NOTES, NOT-KNOWN, known, argsOf, byteOf, wayOf, noteAt, Notes, Asked, Noted, NotedMarked}
 use Rattle.eval.proofs.MarkedLaws.{bits-small, alike-has, told-rows, rows-kept, marks-kept, marks-none, made-length, made-marks}
 
@@ -87,7 +87,7 @@ module _ {rule image tree calls memo : List ℕ} (n : Notes rule image tree call
       record { value = sym (n .noted i k false m r s p (ap (λ (x : ℕ). getD memo x 0) (omega arith) ∙ e)); notes = n; long = refl }
 
   -- and by the marks too
-  pub known-marked : {i k bits : ℕ} {m : Member} {r : Bool} → i < NOTED-CALLS → profileOf image m ≡ Number k → BitIs (bitsOf rule image tree (placesIn memo) m) 240 bits → bits < NO-BITS
+  pub known-marked : {i k bits : ℕ} {m : Member} {r : Bool} → i < NOTED-CALLS → profileOf image m ≡ Number k → BitIs (bitsOf rule image tree (placesIn memo) m) (15 * NO-BITS) bits → bits < NO-BITS
       → getD memo (noteAt (bits + 1) i k) 0 ≡ known r → Asked rule image tree calls i m memo memo r
   unfolding wayOf
   known-marked {i} {k} {bits} {m} {r} s p b l e =
@@ -166,7 +166,7 @@ module _ {rule image tree calls memo : List ℕ} (n : Notes rule image tree call
       (λ t o q w. alike image m o k (childrenAt rule tree (argsOf calls i)) p q (mentions-rows (asksMore m) rule tree (argsOf calls i) t))
 
   -- by the marks too
-  pub asked-marked : {i k bits : ℕ} {m : Member} {r : Bool} {after : List ℕ} → i < NOTED-CALLS → profileOf image m ≡ Number k → BitIs (bitsOf rule image tree (placesIn memo) m) 240 bits → bits < NO-BITS
+  pub asked-marked : {i k bits : ℕ} {m : Member} {r : Bool} {after : List ℕ} → i < NOTED-CALLS → profileOf image m ≡ Number k → BitIs (bitsOf rule image tree (placesIn memo) m) (15 * NO-BITS) bits → bits < NO-BITS
       → PLACES ≤ length memo → NotedMarked rule image tree (argsOf calls i) m (noteAt (bits + 1) i k) memo after r → Asked rule image tree calls i m memo after r
   unfolding wayOf
   asked-marked {i} {k} {bits} {m} {r} {after} s p b l h d =

@@ -13,7 +13,7 @@ ghost use Prim.Native.Nat.{_+_, _*_, _≤_, _<_};
 ghost use lib.ListN.{length, getD, replicate};
 ghost use Rattle.predicate.specs.Rows.{ROW};
 ghost use Rattle.marks.specs.Marks.{markOf};
-ghost use Rattle.eval.specs.Marked.{HASES, BLOCK, ROWS, PLACES, MEMO, Marks, placesIn, marksIn, BitIs, MarkIs, bitAt, bitsOf, RowTold, TellsBelow, Made, MakesRow};
+ghost use Rattle.eval.specs.Marked.{HASES, BLOCK, ROWS, NO-BITS, PLACES, MEMO, Marks, placesIn, marksIn, BitIs, MarkIs, bitAt, bitsOf, RowTold, TellsBelow, Made, MakesRow};
 
 // How many CALL_EXPR rows have marks at most.
 const HASES: usize = 4;
@@ -38,7 +38,7 @@ pub(crate) const NO_BITS: usize = 16;
 // Which of the marked `has` are true of a member, as bits; NO_BITS or more where its component has no mark.
 pub(crate) fn bits(rule: &[u8], image: &[u8], tree: &[u32], memo: &[u8], member: Member) -> usize
     requires { ⌜ (PLACES ≤ length (now memo)) × Marks (now rule) (now image) (now tree) (placesIn (now memo)) (marksIn (now memo)) ⌝ }
-    ensures { λ r. ⌜ BitIs (bitsOf (now (rule .entry)) (now (image .entry)) (now (tree .entry)) (placesIn (now (memo .entry))) member) (15 * 16) r ⌝ }
+    ensures { λ r. ⌜ BitIs (bitsOf (now (rule .entry)) (now (image .entry)) (now (tree .entry)) (placesIn (now (memo .entry))) member) (15 * NO-BITS) r ⌝ }
 {
     let places = &memo[PLACES..];
     let marks = &memo[MARKS..PLACES];
@@ -60,7 +60,7 @@ fn bit(
     member: Member,
 ) -> usize
     requires { ⌜ Marks (now rule) (now image) (now tree) (now places) (now marks) ⌝ }
-    ensures { λ r. ⌜ BitIs (bitAt (now (rule .entry)) (now (image .entry)) (now (tree .entry)) (now (places .entry)) j member) 16 r ⌝ }
+    ensures { λ r. ⌜ BitIs (bitAt (now (rule .entry)) (now (image .entry)) (now (tree .entry)) (now (places .entry)) j member) NO-BITS r ⌝ }
 {
     if places.len() <= j {
         return 0;

@@ -3,7 +3,6 @@ use denote.Ref.{now}
 use mathlib.Core.Path.{ap, _∙_}
 use Prim.Native.Nat.{_-_}
 use lib.ListN.{length}
-use native.Mathlib.Omega.{arith}
 use borrow.Author.Needs.{needs}
 use Rattle.marks.specs.Marks.{propertyMarks}
 use Rattle.marks.proofs.MarkLaws.{Marking, marking-start, marking-on, marking-end}
