@@ -12,7 +12,8 @@ use Rattle.syntax.specs.Kind.{IDENT, ROOT, DOT-CALL, CALL-ARGS}
 use Rattle.syntax.proofs.BoolLaws.{whether, both}
 use Rattle.matching.specs.declared.search.Found.{Found}
 use Rattle.predicate.specs.Truth.{firstText}
-use Rattle.predicate.specs.Rows.{ROW, kindAt, levelAt, forestFrom, childrenAt, isRow, isBelow, rowPasses, ofKind, firstRow}
+use Rattle.trees.specs.Green.{Forest}
+use Rattle.predicate.specs.Rows.{ROW, kindAt, levelAt, textAt, forestFrom, childrenAt, isRow, isBelow, rowPasses, ofKind, firstRow}
 use Rattle.predicate.specs.Eval.{FoundAt, FoundNowhere}
 use Rattle.predicate.proofs.ForestLaws.{forest-below, forest-token, forest-node, forest-ends, children-none, found-level, found-kind, Ignores, ignored-none, ignored-found}
 use Rattle.predicate.proofs.NodeLaws.{row-found, row-absent}
@@ -76,12 +77,6 @@ call-row rule tree row =
     ap (λ (c : Call). c ∷ [])
     (λ i. record { method = method-at (methodOf (firstText IDENT (childrenAt rule tree row))) i; args = args-placed rule tree row i })
 
--- number by number
-pub row-put : (rows : List ℕ) (at a b : ℕ) {m n : ℕ} → m ≡ a → n ≡ b → set (set rows at m) (at + 1) n ≡ sets rows at (a ∷ b ∷ [])
-row-put rows at a b {m} {n} e f =
-    let next : at + 1 ≡ suc at = omega arith in
-    λ i. set (set rows at (e i)) (next i) (f i)
-
 pub method-small : (m : Method) {n : ℕ} → n ≡ methodNumber m → n ≤ methodNumber Diagnostics
 method-small Where e = omega arith
 method-small All e = omega arith
@@ -91,7 +86,34 @@ method-small Count e = omega arith
 method-small Features e = omega arith
 method-small Diagnostics e = omega arith
 
+-- ---- what ignores rows that fail a test, by the first row of the tree
+
+module _ {A : Type 0} {test : ℕ → Bool} {of : Forest → A} (i : Ignores test of) (rule tree : List ℕ) (level row : ℕ) (h : row + ROW ≤ length tree) where
+  pub ignored-past : level ≤ levelAt tree row → rowPasses test tree level row ≡ false → of (forestFrom rule tree level row) ≡ of (forestFrom rule tree level (row + ROW))
+  unfolding rowPasses
+  ignored-past l p = whether (eqb (levelAt tree row) level) same deeper
+    where
+      rest : Forest
+      rest = forestFrom rule tree level (row + ROW)
+
+      deeper : eqb (levelAt tree row) level ≡ false → of (forestFrom rule tree level row) ≡ of rest
+      deeper e = ap of (forest-below rule tree level row h (omega (arith, eqb-false (levelAt tree row) level e)))
+
+      same : eqb (levelAt tree row) level ≡ true → of (forestFrom rule tree level row) ≡ of rest
+      same e =
+          let at : levelAt tree row ≡ level = eqb-true (levelAt tree row) level e in
+          let no : test (kindAt tree row) ≡ false = sym (ap (λ (t : Bool). t && test (kindAt tree row)) e) ∙ p in
+          whether (leb ROOT (kindAt tree row))
+          (λ k.
+          let node : ROOT ≤ kindAt tree row = leb-true ROOT (kindAt tree row) k in
+          ap of (forest-node rule tree level row h at node) ∙ i .nodes (kindAt tree row) (forestFrom rule tree (level + 1) (row + ROW)) rest node no)
+          (λ k. ap of (forest-token rule tree level row h at (leb-false ROOT (kindAt tree row) k)) ∙ i .tokens (record { kind = kindAt tree row; text = textAt rule tree row }) rest no)
+
 -- ---- the calls by the first row of the tree
+
+calls-ignores : Ignores (ofKind DOT-CALL) callsOf
+unfolding callsOf
+calls-ignores = record { tokens = λ t f e. refl; nodes = λ k s f l e. rw (e, callsOf) }
 
 module _ (rule tree : List ℕ) (level row : ℕ) (h : row + ROW ≤ length tree) where
   pub calls-here : rowPasses (ofKind DOT-CALL) tree level row ≡ true
@@ -106,19 +128,7 @@ module _ (rule tree : List ℕ) (level row : ℕ) (h : row + ROW ≤ length tree
 
   pub calls-past : level ≤ levelAt tree row → rowPasses (ofKind DOT-CALL) tree level row ≡ false
       → callsOf (forestFrom rule tree level row) ≡ callsOf (forestFrom rule tree level (row + ROW))
-  unfolding callsOf rowPasses
-  calls-past l p = whether (eqb (levelAt tree row) level) same deeper
-    where
-      deeper : eqb (levelAt tree row) level ≡ false → callsOf (forestFrom rule tree level row) ≡ callsOf (forestFrom rule tree level (row + ROW))
-      deeper e = ap callsOf (forest-below rule tree level row h (omega (arith, eqb-false (levelAt tree row) level e)))
-
-      same : eqb (levelAt tree row) level ≡ true → callsOf (forestFrom rule tree level row) ≡ callsOf (forestFrom rule tree level (row + ROW))
-      same e =
-          let at : levelAt tree row ≡ level = eqb-true (levelAt tree row) level e in
-          let no : eqb (kindAt tree row) DOT-CALL ≡ false = sym (ap (λ (t : Bool). t && eqb (kindAt tree row) DOT-CALL) e) ∙ p in
-          whether (leb ROOT (kindAt tree row))
-          (λ k. ap callsOf (forest-node rule tree level row h at (leb-true ROOT (kindAt tree row) k)) ∙ rw (no, callsOf) refl)
-          (λ k. ap callsOf (forest-token rule tree level row h at (leb-false ROOT (kindAt tree row) k)))
+  calls-past l p = ignored-past calls-ignores rule tree level row h l p
 
 -- ---- rows of calls, one behind the other
 

@@ -1,6 +1,6 @@
 -- Notes made and read, and a memo in which nothing is noted. Assumes nothing.
 use mathlib.Core.Path.{_≡_, refl, sym, ap, _∙_, subst}
-use mathlib.Core.Bool.{Bool, true, false}
+use mathlib.Core.Bool.{Bool, true, false, true≢false}
 use mathlib.Core.List.{List}
 use Prim.Native.Nat.{ℕ, zero, suc, _+_, _*_, _≤_, _<_}
 use native.Mathlib.Omega.{arith}
@@ -16,7 +16,7 @@ use Rattle.profile.specs.declared.Profile.the-variants.{Number}
 use Rattle.profile.specs.Profile.{PROFILES, profileOf, asksMore, mentionsBelow}
 use Rattle.profile.proofs.ProfileLaws.{profile-small, alike, mentions-rows}
 use Rattle.eval.specs.Marked.{NO-BITS, MARKS, PLACES, placesIn, marksIn, bitsOf, BitIs, Marks, Made}
-use Rattle.eval.specs.Memo.{NOTED-CALLS, WAY-NOTES, NOT-KNOWN, known, argsOf, byteOf, wayOf, noteAt, Notes, Asked, Noted, NotedMarked}
+use Rattle.eval.specs.Memo.{NOTED-CALLS, WAY-NOTES, NOT-KNOWN, NOT-TO-KNOW, known, argsOf, byteOf, wayOf, noteAt, Notes, Asked, Noted, NotedMarked}
 use Rattle.eval.proofs.MarkedLaws.{bits-small, alike-has, told-rows, rows-kept, marks-kept, marks-none, made-length, made-marks}
 
 -- a byte that says nothing makes no truth known
@@ -78,6 +78,10 @@ same-way rule image tree memo false false m o e = refl
 same-way rule image tree memo true true m o e = refl
 same-way rule image tree memo false true m o e = absurd (omega arith)
 same-way rule image tree memo true false m o e = absurd (omega arith)
+
+-- asked after a note was made
+pub asked-after : {rule image tree calls : List ℕ} {i : ℕ} {m : Member} (memo : List ℕ) (at v : ℕ) {after : List ℕ} {r : Bool} → Asked rule image tree calls i m (set memo at v) after r → Asked rule image tree calls i m memo after r
+asked-after memo at v a = record { value = a .value; notes = a .notes; long = a .long ∙ length-set memo at v }
 
 module _ {rule image tree calls memo : List ℕ} (n : Notes rule image tree calls memo) where
   -- the answer was noted, by the profile alone
@@ -158,12 +162,20 @@ module _ {rule image tree calls memo : List ℕ} (n : Notes rule image tree call
         }
 
   -- by the profile alone
-  pub asked-plain : {i k : ℕ} {m : Member} {r : Bool} {after : List ℕ} → i < NOTED-CALLS → profileOf image m ≡ Number k
+  pub asked-plain : {i k : ℕ} {m : Member} {r more : Bool} {after : List ℕ} → i < NOTED-CALLS → profileOf image m ≡ Number k → more ≡ mentionsBelow m tree (argsOf calls i) → more ≡ false
       → Noted rule image tree (argsOf calls i) m (PROFILES * i + k) memo after r → Asked rule image tree calls i m memo after r
   unfolding wayOf
-  asked-plain {i} {k} {m} {r} {after} s p d =
-      asked-noted i k m r (mentionsBelow m tree (argsOf calls i)) false (PROFILES * i + k) s p (omega arith) (omega (arith, n .room, profile-small image m k p)) (d .value) (d .byte)
-      (λ t o q w. alike image m o k (childrenAt rule tree (argsOf calls i)) p q (mentions-rows (asksMore m) rule tree (argsOf calls i) t))
+  asked-plain {i} {k} {m} {r} s p e f d =
+      asked-noted i k m r false false (PROFILES * i + k) s p (omega arith) (omega (arith, n .room, profile-small image m k p)) (d .value) (d .byte)
+      (λ t o q w. alike image m o k (childrenAt rule tree (argsOf calls i)) p q (mentions-rows (asksMore m) rule tree (argsOf calls i) (sym e ∙ f)))
+
+  -- noted as one that asks for more, it is still to be asked
+  module _ (i k : ℕ) (m : Member) (s : i < NOTED-CALLS) (p : profileOf image m ≡ Number k) where
+    pub notes-more : Notes rule image tree calls (set memo (PROFILES * i + k) NOT-TO-KNOW)
+    unfolding wayOf byteOf
+    notes-more =
+        asked-noted i k m (truth image m (childrenAt rule tree (argsOf calls i))) true false (PROFILES * i + k) s p (omega arith) (omega (arith, n .room, profile-small image m k p)) refl refl
+        (λ t. absurd (true≢false t)) .notes
 
   -- by the marks too
   pub asked-marked : {i k bits : ℕ} {m : Member} {r : Bool} {after : List ℕ} → i < NOTED-CALLS → profileOf image m ≡ Number k → BitIs (bitsOf rule image tree (placesIn memo) m) (15 * NO-BITS) bits → bits < NO-BITS

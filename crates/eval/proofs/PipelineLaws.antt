@@ -42,6 +42,7 @@ use Rattle.eval.specs.Feed.{State, stateOf, listed, decided, Decides, St
 use Rattle.eval.specs.Pipeline.{CALLS, FewCalls, Evaluates, Counts, OperatorAt, Gives}
 use Rattle.eval.proofs.ReadyLaws.{kind-number, count-no-quantifier}
 use Rattle.eval.proofs.CallLaws.{calls-append}
+use Rattle.eval.proofs.TableLaws.{row-put}
 use Rattle.eval.proofs.PlanLaws.{node-first, node-none, source-found}
 
 -- ---- the calls of a tree are few
@@ -233,13 +234,8 @@ module _ (rule image tree : List ℕ) (source : ℕ) (rows : List ℕ) (count : 
   abbrev counted : List ℕ
   counted = set (set rows (CALL-ROW * count) (methodNumber Count)) (CALL-ROW * count + 1) 0
 
-  row : List ℕ
-  row = methodNumber Count ∷ 0 ∷ []
-
   counted-is : counted ≡ sets rows (CALL-ROW * count) (methodNumber Count ∷ 0 ∷ [])
-  counted-is =
-      let next : CALL-ROW * count + 1 ≡ suc (CALL-ROW * count) = omega arith in
-      ap (λ (k : ℕ). set (set rows (CALL-ROW * count) (methodNumber Count)) k 0) next
+  counted-is = row-put rows (CALL-ROW * count) (methodNumber Count) 0 refl refl
 
   pub counted-length : length counted ≡ length rows
   counted-length = ap length counted-is ∙ length-sets rows (CALL-ROW * count) (methodNumber Count ∷ 0 ∷ [])

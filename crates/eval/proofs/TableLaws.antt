@@ -86,8 +86,11 @@ cleared-length table =
     length-append (zeros (wholeRows table)) (drop (wholeRows table) table)
     ∙ omega (arith, zeros-length (wholeRows table), length-drop (wholeRows table) table, whole-within table)
 
--- a member's row, number by number
-pub put-row : (m : Member) (table : List ℕ) (at a b : ℕ) → rowOf m ≡ a ∷ b ∷ [] → set (set table at a) (at + 1) b ≡ sets table at (rowOf m)
-put-row m table at a b e =
+-- a row of two numbers, one after the other; and a member's
+pub row-put : (table : List ℕ) (at a b : ℕ) {m n : ℕ} → m ≡ a → n ≡ b → set (set table at m) (at + 1) n ≡ sets table at (a ∷ b ∷ [])
+row-put table at a b e f =
     let next : at + 1 ≡ suc at = omega arith in
-    ap (λ (k : ℕ). set (set table at a) k b) next ∙ ap (sets table at) (sym e)
+    λ i. set (set table at (e i)) (next i) (f i)
+
+pub put-row : (m : Member) (table : List ℕ) (at a b : ℕ) → rowOf m ≡ a ∷ b ∷ [] → set (set table at a) (at + 1) b ≡ sets table at (rowOf m)
+put-row m table at a b e = row-put table at a b refl refl ∙ ap (sets table at) (sym e)

@@ -12,7 +12,7 @@ use Rattle.syntax.proofs.BoolLaws.{whether, both}
 use Rattle.trees.specs.Look.{isComparison}
 use Rattle.predicate.specs.declared.atom.Member.{Member}
 use Rattle.predicate.specs.Rows.{ROW, kindAt as treeKind, levelAt, forestFrom, childrenAt, isBelow, rowPasses}
-use Rattle.predicate.proofs.ForestLaws.{forest-below, forest-token, forest-node, forest-ends}
+use Rattle.predicate.proofs.ForestLaws.{forest-token, forest-ends, Ignores}
 use Rattle.meaning.specs.Value.{Kind}
 use Rattle.meaning.specs.Calls.{Method, All, Any, None, methodNumber, kindNumber}
 use Rattle.meaning.specs.Compare.{operatorOf}
@@ -25,6 +25,7 @@ use Rattle.calls.proofs.TableLaws.{method-at, kind-at}
 use Rattle.eval.specs.declared.walk.Tally.{Tally}
 use Rattle.eval.specs.Ready.{LAST-KIND}
 use Rattle.eval.specs.Pipeline.{OperatorAt, Gives, Judges}
+use Rattle.eval.proofs.CallLaws.{ignored-past}
 
 -- ---- a value by its kind
 
@@ -123,6 +124,11 @@ operator-from k h = whether (leb k LT) (λ e. e ∙ among k h (leb-true k LT e))
     among (suc (suc (suc (suc (suc (suc (suc (suc (suc (suc (suc zero))))))))))) a b = refl
     among (suc (suc (suc (suc (suc (suc (suc (suc (suc (suc (suc (suc k)))))))))))) a b = absurd (omega arith)
 
+-- the operator of a comparison looks at no other row
+operator-ignores : Ignores isComparison operatorOf
+unfolding operatorOf
+operator-ignores = record { tokens = λ t f e. rw (e, operatorOf); nodes = λ k s f l e. refl }
+
 -- an operator is a token
 operator-token : (k : ℕ) → isComparison k ≡ true → k < ROOT
 operator-token k e =
@@ -135,22 +141,6 @@ module _ (rule tree : List ℕ) (level row : ℕ) (h : row + ROW ≤ length tree
       let q = both (eqb (levelAt tree row) level) (isComparison (treeKind tree row)) p in
       sym (ap operatorOf (forest-token rule tree level row h (eqb-true (levelAt tree row) level (q .0)) (operator-token (treeKind tree row) (q .1)))
       ∙ rw (q .1, operatorOf) refl)
-
-  operator-past : level ≤ levelAt tree row → rowPasses isComparison tree level row ≡ false
-      → operatorOf (forestFrom rule tree level (row + ROW)) ≡ operatorOf (forestFrom rule tree level row)
-  unfolding operatorOf rowPasses
-  operator-past l p = sym (whether (eqb (levelAt tree row) level) same deeper)
-    where
-      deeper : eqb (levelAt tree row) level ≡ false → operatorOf (forestFrom rule tree level row) ≡ operatorOf (forestFrom rule tree level (row + ROW))
-      deeper e = ap operatorOf (forest-below rule tree level row h (omega (arith, eqb-false (levelAt tree row) level e)))
-
-      same : eqb (levelAt tree row) level ≡ true → operatorOf (forestFrom rule tree level row) ≡ operatorOf (forestFrom rule tree level (row + ROW))
-      same e =
-          let at : levelAt tree row ≡ level = eqb-true (levelAt tree row) level e in
-          let no : isComparison (treeKind tree row) ≡ false = sym (ap (λ (t : Bool). t && isComparison (treeKind tree row)) e) ∙ p in
-          whether (leb ROOT (treeKind tree row))
-          (λ k. ap operatorOf (forest-node rule tree level row h at (leb-true ROOT (treeKind tree row) k)))
-          (λ k. ap operatorOf (forest-token rule tree level row h at (leb-false ROOT (treeKind tree row) k)) ∙ rw (no, operatorOf) refl)
 
 -- no operator stands before a row
 pub record Seeking (tree : List ℕ) (at level row : ℕ) : Type 0 where
@@ -167,7 +157,7 @@ module _ {tree : List ℕ} {at level row : ℕ} (s : Seeking tree at level row) 
     seeking-found p = record { operator = λ rule. operator-here rule tree (level + 1) row h p ∙ s .rest rule }
 
     pub seeking-on : level < levelAt tree row → rowPasses isComparison tree (level + 1) row ≡ false → Seeking tree at level (row + ROW)
-    seeking-on l p = record { within = h; rest = λ rule. operator-past rule tree (level + 1) row h (omega arith) p ∙ s .rest rule }
+    seeking-on l p = record { within = h; rest = λ rule. sym (ignored-past operator-ignores rule tree (level + 1) row h (omega arith) p) ∙ s .rest rule }
 
   pub seeking-end : isBelow tree level row ≡ false → OperatorAt tree at NONE
   unfolding operatorOf

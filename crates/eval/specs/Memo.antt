@@ -9,7 +9,7 @@ use Rattle.predicate.specs.declared.atom.Member.{Member}
 use Rattle.predicate.specs.Truth.{truth}
 use Rattle.predicate.specs.Rows.{childrenAt}
 use Rattle.profile.specs.declared.Profile.the-variants.{Number}
-use Rattle.profile.specs.Profile.{PROFILES, profileOf, mentionsBelow}
+use Rattle.profile.specs.Profile.{PROFILES, profileOf}
 use Rattle.eval.specs.Ready.{CALL-ROW}
 use Rattle.eval.specs.Marked.{placesIn, marksIn, bitsOf, Marks, TellsBelow}
 
@@ -72,7 +72,7 @@ pub record Asked (rule image tree calls : List ℕ) (i : ℕ) (m : Member) (befo
 -- a predicate was asked of a member, and the answer noted at a place, by the profile alone
 pub record Noted (rule image tree : List ℕ) (args : ℕ) (m : Member) (at : ℕ) (before after : List ℕ) (r : Bool) : Type 0 where
   pub value : r ≡ truth image m (childrenAt rule tree args)
-  pub byte : after ≡ set before at (byteOf (mentionsBelow m tree args) r)
+  pub byte : after ≡ set before at (byteOf false r)
 
 -- and by the marks too
 pub record NotedMarked (rule image tree : List ℕ) (args : ℕ) (m : Member) (at : ℕ) (before after : List ℕ) (r : Bool) : Type 0 where

@@ -59,10 +59,14 @@ pub(crate) fn ask(
     if known == KNOWN_FALSE {
         return false;
     }
-    if known == NOT_KNOWN {
-        return note(rule, image, tree, args, member, at, memo);
+    if known == NOT_TO_KNOW {
+        return ask_marked(rule, image, tree, calls, i, member, k, memo);
     }
-    ask_marked(rule, image, tree, calls, i, member, k, memo)
+    if profile::mentions_below(tree, args, member) {
+        memo[at] = NOT_TO_KNOW;
+        return ask_marked(rule, image, tree, calls, i, member, k, memo);
+    }
+    note(rule, image, tree, args, member, at, memo)
 }
 
 // The same where the profile does not tell: as noted for the member's profile and bits, or by asking it.
@@ -101,7 +105,7 @@ fn ask_marked(
     predicate::eval_args(rule, image, tree, member, args)
 }
 
-// Asks a predicate of a member, and notes the answer in a byte if it is that of every member with the same profile.
+// Asks a predicate of a member, and notes the answer in a byte.
 fn note(
     rule: &[u8],
     image: &[u8],
@@ -115,11 +119,11 @@ fn note(
     ensures { λ r. ⌜ Noted (now (rule .entry)) (now (image .entry)) (now (tree .entry)) args member at (now (memo .entry)) (now (memo .exit)) r ⌝ }
 {
     let value = predicate::eval_args(rule, image, tree, member, args);
-    memo[at] = byte_of(profile::mentions_below(tree, args, member), value);
+    memo[at] = byte_of(false, value);
     value
 }
 
-// The same if it is that of every member with the same profile and the same bits.
+// The same, if the answer is that of every member with the same profile and the same bits.
 fn note_marked(
     rule: &[u8],
     image: &[u8],

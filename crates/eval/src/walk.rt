@@ -33,6 +33,9 @@ ghost use Rattle.eval.specs.Feed.{stateOf, begin, fed, decided, Decides,
 // The numbers of a row of the collection table.
 const COLLECTION_ROW: usize = 2;
 
+// A board with fewer components is asked for each `has` of each.
+const MARKED_BOARD: u32 = 32;
+
 // How many members arrived where the result is settled, and of how many of them the last call's predicate is true.
 pub(crate) struct Tally {
     pub arrived: usize,
@@ -144,11 +147,19 @@ fn feed_noted(
     requires { ⌜ Fits (methodAt last) (now image) (callsFrom (now rule) (now tree) (now calls) 0) (map Member.Component (upFrom 0 (componentCount (now image)))) (begin (now collection)) ⌝ }
     ensures { λ r. ⌜ Stands (methodAt last) (stateOf r (now (collection .exit))) (fed (now (image .entry)) (callsFrom (now (rule .entry)) (now (tree .entry)) (now (calls .entry)) 0) (map Member.Component (upFrom 0 (componentCount (now (image .entry))))) (begin (now (collection .entry)))) ⌝ }
 {
-    if marked::next_call(tree, 0) < marked::ROWS {
+    if is_marked(image, tree) {
         return feed_marked(rule, image, tree, calls, last, collection);
     }
     let mut notes = [0u8; memo::WAY_NOTES];
     feed_each_component(rule, image, tree, calls, last, collection, &mut notes)
+}
+
+// Whether marks are made: the rule may ask `has`, and there are components enough.
+fn is_marked(image: &[u8], tree: &[u32]) -> bool {
+    if image::record_count(image, Section::Components) < MARKED_BOARD {
+        return false;
+    }
+    marked::next_call(tree, 0) < marked::ROWS
 }
 
 // The same with the marks made.

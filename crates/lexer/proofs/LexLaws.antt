@@ -77,10 +77,6 @@ pub past-le : (b : ℕ) (s : List ℕ) → past b s ≤ length s
 unfolding past
 past-le b s = more-le (shapeOf b) s
 
-pub token-length : (b : ℕ) (s : List ℕ) → length (token b s .text) ≡ suc (past b s)
-unfolding token
-token-length b s = ap suc (length-take-le (past b s) s (past-le b s))
-
 -- the tokens after the first n bytes
 pub lexFrom-drop : (s : List ℕ) (n : ℕ) → lexFrom s n ≡ lex (drop n s)
 unfolding lexFrom lex

@@ -280,29 +280,12 @@ pub last-later : (call : Call) (calls : List Call) → isLast (call .method) ≡
 unfolding lastCall
 last-later call calls e = rw e
 
--- its method, and the truth of a quantifier's predicate
+-- its method
 pub last-method : (calls : List Call) (call : Call) → lastCall calls ≡ some call → lastMethod calls ≡ call .method
 unfolding lastMethod
 last-method calls call e = ap methodIn e
 
-pub last-test : (image : List ℕ) (calls : List Call) (call : Call) (m : Member) → lastCall calls ≡ some call → isQuantifier (call .method) ≡ true
-    → lastTest image calls m ≡ trueFor image (call .args) m
-unfolding lastTest
-last-test image calls call m e q = ap (λ (last : Option Call). testIn image last m) e ∙ rw q
-
 -- ---- numbers and rows, one member after the other
-
-pub how-many-none : (passes : Member → Bool) → howMany passes [] ≡ 0
-unfolding howMany kept
-how-many-none passes = refl
-
-pub how-many-passes : (passes : Member → Bool) (m : Member) → passes m ≡ true → howMany passes (m ∷ []) ≡ 1
-unfolding howMany kept
-how-many-passes passes m e = rw e
-
-pub how-many-fails : (passes : Member → Bool) (m : Member) → passes m ≡ false → howMany passes (m ∷ []) ≡ 0
-unfolding howMany kept
-how-many-fails passes m e = rw e
 
 pub how-many-append : (passes : Member → Bool) (xs ys : List Member) → howMany passes (xs ++ ys) ≡ howMany passes xs + howMany passes ys
 unfolding howMany

@@ -222,6 +222,3 @@ at-kind k ts e = eq-eqb (currentKind ts) k e
 module _ {ts : List Token} {t₀ t₁ e₀ e₁ : List ℕ} {l : ℕ} {c d : Cursor} (k : ℕ) (n : k ≡ NONE → ⊥) (e : currentKind (drop (c .token) ts) ≡ k) where
   pub bump-ahead : Did ts t₀ t₁ e₀ e₁ l c d bump → c .token < d .token
   bump-ahead a = ahead (bump-less (sees-kind k n) _ (at-kind k _ e)) a
-
-  pub expect-ahead : Did ts t₀ t₁ e₀ e₁ l c d (expect k) → c .token < d .token
-  expect-ahead a = ahead (expect-less k n _ (at-kind k _ e)) a

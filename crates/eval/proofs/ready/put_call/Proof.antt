@@ -5,7 +5,8 @@ use lib.ListN.{length-set}
 use Prim.Native.Nat.{ℕ, _*_}
 use mathlib.Core.List.{List}
 use mathlib.Core.Path.{ap, _∙_}
-use Rattle.eval.proofs.CallLaws.{args-small, row-put, method-small}
+use Rattle.eval.proofs.CallLaws.{args-small, method-small}
+use Rattle.eval.proofs.TableLaws.{row-put}
 use native.Mathlib.Omega.{arith}
 use denote.Ref.{now}
 use borrow.Author.Needs.{needs}

@@ -6,8 +6,8 @@ use borrow.Author.Needs.{needs}
 use Rattle.eval.proofs.walk.feed_noted.Statement.{statement}
 use Rattle.eval.proofs.walk.feed_noted.Tie as tie
 
-next-call-requires : tie.Need-next-call-requires
-next-call-requires c κs = search needs
+is-marked-requires : tie.Need-is-marked-requires
+is-marked-requires c κs = search needs
 
 feed-marked-requires : tie.Need-feed-marked-requires
 feed-marked-requires c κs = search needs
@@ -34,7 +34,7 @@ pub feed-noted-spec : {M : Type 1} → statement M
 feed-noted-spec =
     tie.close
     (tie.spec
-    next-call-requires
+    is-marked-requires
     feed-marked-requires
     same-length
     returns
