@@ -22,13 +22,13 @@ const SECTIONS: usize = 7;
 const PAIRS_SIZE: usize = 56;
 
 // How many categories, feature kinds, directions, severities and wired marks there are.
-const CATEGORIES: u32 = 14;
+pub const CATEGORIES: u32 = 14;
 
-const FEATURE_KINDS: u32 = 10;
+pub const FEATURE_KINDS: u32 = 10;
 
-const DIRECTIONS: u32 = 4;
+pub const DIRECTIONS: u32 = 4;
 
-const SEVERITIES: u32 = 3;
+pub const SEVERITIES: u32 = 3;
 
 const WIRED_MARKS: u32 = 2;
 

@@ -8,25 +8,13 @@ use lib.ListN.{drop}
 use Rattle.syntax.specs.Kind.{CALL-EXPR, IDENT-EXPR, CONTAINS-EXPR}
 use Rattle.trees.specs.Green.{Forest, nil, leaf, node}
 use Rattle.board.specs.Image.{category, featureKind, direction, severity}
+pub use Rattle.board.specs.Check.{CATEGORIES, FEATURE-KINDS, DIRECTIONS, SEVERITIES}
 use Rattle.instance.specs.Instance.{componentConnected}
 use Rattle.predicate.specs.Rows.{ROW, levelAt}
 use Rattle.predicate.specs.declared.atom.Member.{Member}
 use Rattle.predicate.specs.declared.atom.Member.the-variants.{Component, Feature, Diagnostic}
 use Rattle.profile.specs.declared.Profile.{Profile}
 use Rattle.profile.specs.declared.Profile.the-variants.{Number, Unknown}
-
--- how many values each field has
-abbrev pub CATEGORIES : ℕ
-CATEGORIES = 14
-
-abbrev pub FEATURE-KINDS : ℕ
-FEATURE-KINDS = 10
-
-abbrev pub DIRECTIONS : ℕ
-DIRECTIONS = 4
-
-abbrev pub SEVERITIES : ℕ
-SEVERITIES = 3
 
 -- the first profile of a feature, after two for each category; the first of a diagnostic; how many there are in all
 abbrev pub FIRST-OF-FEATURES : ℕ

@@ -9,15 +9,6 @@ use syntax::kind;
 ghost use mathlib.Core.Path.{_≡_};
 ghost use Rattle.profile.specs.Profile.{ofComponent, ofFeature, ofDiagnostic, profileOf, asksMore, mentionsBelow};
 
-// How many values each field has.
-pub const CATEGORIES: u32 = 14;
-
-pub const FEATURE_KINDS: u32 = 10;
-
-pub const DIRECTIONS: u32 = 4;
-
-pub const SEVERITIES: u32 = 3;
-
 // The first profiles of features and of diagnostics, after those of components, and how many there are in all.
 pub const FIRST_OF_FEATURES: usize = 28;
 
@@ -56,7 +47,7 @@ pub fn profile_of(image: &[u8], member: Member) -> Profile
 pub fn of_component(category: u32, connected: bool) -> Profile
     ensures { λ r. ⌜ r ≡ ofComponent category connected ⌝ }
 {
-    if CATEGORIES <= category {
+    if board::CATEGORIES <= category {
         return Profile::Unknown;
     }
     if connected {
@@ -69,16 +60,16 @@ pub fn of_component(category: u32, connected: bool) -> Profile
 pub fn of_feature(category: u32, kind: u32, direction: u32) -> Profile
     ensures { λ r. ⌜ r ≡ ofFeature category kind direction ⌝ }
 {
-    if CATEGORIES <= category {
+    if board::CATEGORIES <= category {
         return Profile::Unknown;
     }
-    if FEATURE_KINDS <= kind {
+    if board::FEATURE_KINDS <= kind {
         return Profile::Unknown;
     }
-    if DIRECTIONS <= direction {
+    if board::DIRECTIONS <= direction {
         return Profile::Unknown;
     }
-    let number = (category * FEATURE_KINDS + kind) * DIRECTIONS + direction;
+    let number = (category * board::FEATURE_KINDS + kind) * board::DIRECTIONS + direction;
     Profile::Number(FIRST_OF_FEATURES + number as usize)
 }
 
@@ -86,7 +77,7 @@ pub fn of_feature(category: u32, kind: u32, direction: u32) -> Profile
 pub fn of_diagnostic(severity: u32) -> Profile
     ensures { λ r. ⌜ r ≡ ofDiagnostic severity ⌝ }
 {
-    if SEVERITIES <= severity {
+    if board::SEVERITIES <= severity {
         return Profile::Unknown;
     }
     Profile::Number(FIRST_OF_DIAGNOSTICS + severity as usize)
