@@ -29,7 +29,7 @@ use Rattle.calls.specs.Table.{methodAt}
 use Rattle.eval.specs.declared.walk.Tally.{Tally}
 use Rattle.eval.specs.declared.walk.Analysis.{Analysis}
 use Rattle.eval.specs.Ready.{CALL-ROW, callIn, callsFrom}
-use Rattle.eval.specs.Feed.{State, stateOf, listed, arrive, fed, decided, Fits, Stands, Arrives, Named, AnalysisOf}
+use Rattle.eval.specs.Feed.{State, stateOf, listed, arrive, fed, decided, Fits, Stands, Arrives, Named, AnalysisOf, otherThan}
 use Rattle.eval.proofs.ReadyLaws.{calls-at, calls-over, method-is, method-past, last-between, quantifier-of, count-no-quantifier}
 
 -- a state by its parts
@@ -350,6 +350,13 @@ unfolding isOfAnalysis
 analysis-of image name diagnostic e h n =
     record { known = n; asked = n .named-is ∙ ap (λ (s : ℕ). same (text image s) name) (h ∙ e) }
 
+-- what is known of the one to keep
+pub other-named : {image name : List ℕ} (found : Analysis) {known other r : Analysis} → Named image name known → Named image name other → r ≡ otherThan found known other
+    → Named image name r
+other-named {image} {name} found {known} {other} n o e =
+    subst (Named image name) (sym e)
+    (whether (eqb (found .string) (known .string)) (λ t. rw t o) (λ t. rw t n))
+
 -- all that are made of the numbers up to a count
 pub all-start : {last : Method} (image : List ℕ) (calls : List Call) (of : List ℕ → List Member) (s : State) (n count : ℕ) → count ≡ n
     → Fits last image calls (of (upFrom 0 n)) s → Feeding last image calls (of (upFrom 0 n)) s (of (upTo 0 count)) s
@@ -424,17 +431,23 @@ module _ (rule image tree rows : List ℕ) (i : ℕ) where
         ∙ here (λ cs. state (t .arrived + 1) (t .passed + cond (isQuantifier (methodAt method) && truth image m (childrenAt rule tree args)) 1 0) table ≡ fed image cs (m ∷ []) (stateOf t table))
         (fed-last image call later m (stateOf t table) (isQuantifier (methodAt method) && truth image m (childrenAt rule tree args)) l refl)
 
-    -- there is room for it
+    -- it arrives, and there is room for it
+    pub here-one : (m : Member) → isLast (methodAt method) ≡ true → arrivals image calls (m ∷ []) ≡ m ∷ []
+    here-one m l = here (λ cs. arrivals image cs (m ∷ []) ≡ m ∷ []) (arrive-last image call later m l)
+
     pub here-room : {last : Method} (m : Member) (s : State) → isLast (methodAt method) ≡ true → Fits last image calls (m ∷ []) s → COLLECTION-ROW * (s .arrived + 1) ≤ length (s .table)
-    here-room {last} m s l f = here (λ cs. Fits last image cs (m ∷ []) s → COLLECTION-ROW * (s .arrived + 1) ≤ length (s .table)) (fits-one (arrive-last image call later m l)) f
+    here-room m s l f = fits-one (here-one m l) f
 
   -- no row is left
   module _ (h : length rows < CALL-ROW * i + CALL-ROW) where
     over-end : (P : List Call → Type 0) → P [] → P calls
     over-end P p = subst P (sym (calls-over rule tree rows i h)) p
 
+    pub end-one : (m : Member) → arrivals image calls (m ∷ []) ≡ m ∷ []
+    end-one m = over-end (λ cs. arrivals image cs (m ∷ []) ≡ m ∷ []) (arrive-end image (m ∷ []))
+
     pub end-room : {last : Method} (m : Member) (s : State) → Fits last image calls (m ∷ []) s → COLLECTION-ROW * (s .arrived + 1) ≤ length (s .table)
-    end-room {last} m s f = over-end (λ cs. Fits last image cs (m ∷ []) s → COLLECTION-ROW * (s .arrived + 1) ≤ length (s .table)) (fits-one (arrive-end image (m ∷ []))) f
+    end-room m s f = fits-one (end-one m) f
 
     pub end-put : (m : Member) (t : Tally) (table : List ℕ) {after : List ℕ} → after ≡ sets table (COLLECTION-ROW * t .arrived) (rowOf m)
         → stateOf (record { arrived = t .arrived + 1; passed = t .passed }) after ≡ fed image calls (m ∷ []) (stateOf t table)

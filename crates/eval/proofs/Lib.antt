@@ -1,5 +1,5 @@
 pub mod FeedLaws
-pub mod ComponentLaws
+pub mod ListedLaws
 pub mod ReadyLaws
 pub mod TableLaws
 pub mod SourceLaws
@@ -11,3 +11,4 @@ pub mod RunLaws
 pub mod AmountLaws
 pub mod MarkedLaws
 pub mod MemoLaws
+pub mod StepLaws

@@ -1,11 +1,11 @@
 -- Notes made and read, and a memo in which nothing is noted. Assumes nothing.
 use mathlib.Core.Path.{_≡_, refl, sym, ap, _∙_, subst}
 use mathlib.Core.Bool.{Bool, true, false, true≢false}
-use mathlib.Core.List.{List}
+use mathlib.Core.List.{List, [], _∷_}
 use Prim.Native.Nat.{ℕ, zero, suc, _+_, _*_, _≤_, _<_}
 use native.Mathlib.Omega.{arith}
-use borrow.Author.Tests.{eqb-true, eqb-false}
-use lib.Dec.{eqb}
+use borrow.Author.Tests.{lt-ltb, le-ltb, eqb-true, eqb-false}
+use lib.Dec.{eqb, ltb}
 use lib.ListN.{length, getD, take, set, replicate, length-set, length-replicate}
 use lib.Seq.{getD-set-same, getD-set-other, getD-take}
 use Rattle.syntax.proofs.BoolLaws.{whether}
@@ -16,7 +16,7 @@ use Rattle.profile.specs.declared.Profile.the-variants.{Number}
 use Rattle.profile.specs.Profile.{PROFILES, profileOf, asksMore, mentionsBelow}
 use Rattle.profile.proofs.ProfileLaws.{profile-small, alike, mentions-rows}
 use Rattle.eval.specs.Marked.{NO-BITS, MARKS, PLACES, placesIn, marksIn, bitsOf, BitIs, Marks, Made}
-use Rattle.eval.specs.Memo.{NOTED-CALLS, WAY-NOTES, NOT-KNOWN, NOT-TO-KNOW, known, argsOf, byteOf, wayOf, noteAt, Notes, Asked, Noted, NotedMarked}
+use Rattle.eval.specs.Memo.{NOTED-CALLS, WAY-NOTES, NOT-KNOWN, NOT-TO-KNOW, known, argsOf, byteOf, noteIn, wayOf, noteAt, Notes, Asked, Noted, NotedMarked}
 use Rattle.eval.proofs.MarkedLaws.{bits-small, alike-has, told-rows, rows-kept, marks-kept, marks-none, made-length, made-marks}
 
 -- a byte that says nothing makes no truth known
@@ -29,6 +29,28 @@ way-small : (rule image tree memo : List ℕ) (marked : Bool) (m : Member) → w
 unfolding wayOf
 way-small rule image tree memo false m = omega arith
 way-small rule image tree memo true m = omega (arith, bits-small rule image tree (placesIn memo) m)
+
+-- ---- the byte of a call in the notes at a place: of a later call, past the memo, and else
+
+past-end : (l : List ℕ) (i d : ℕ) → length l ≤ i → getD l i d ≡ d
+past-end [] i d h = refl
+past-end (x ∷ l) zero d h = absurd (omega arith)
+past-end (x ∷ l) (suc i) d h = past-end l i d (omega arith)
+
+pub note-late : (memo : List ℕ) {i : ℕ} (place : ℕ) → NOTED-CALLS ≤ i → NOT-KNOWN ≡ noteIn memo i place
+unfolding noteIn
+note-late memo {i} place h = sym (rw (le-ltb i NOTED-CALLS h))
+
+pub note-past : (memo : List ℕ) (i place : ℕ) → length memo ≤ place + PROFILES * i → NOT-KNOWN ≡ noteIn memo i place
+unfolding noteIn
+note-past memo i place h =
+    whether (ltb i NOTED-CALLS) (λ t. sym (rw t (past-end memo (place + PROFILES * i) NOT-KNOWN h))) (λ t. sym (rw t))
+
+pub note-read : (memo : List ℕ) {i : ℕ} (place : ℕ) → i < NOTED-CALLS → getD memo (place + PROFILES * i) NOT-KNOWN ≡ noteIn memo i place
+unfolding noteIn
+note-read memo {i} place h = sym (rw (lt-ltb i NOTED-CALLS h))
+
+-- ---- a memo in which nothing is noted
 
 -- nothing is noted in a memo whose notes are zeros
 zeros : (n i : ℕ) → _≡_ {A = ℕ} (getD (replicate n 0) i 0) 0

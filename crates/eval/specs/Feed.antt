@@ -5,8 +5,8 @@ use mathlib.Core.List.{List, []}
 use mathlib.Core.Option.{Option, none, some}
 use mathlib.Core.Bool.{Bool, true, false, cond, _&&_}
 use mathlib.Core.Path.{_≡_}
-use lib.Dec.{ltb}
-use lib.ListN.{length}
+use lib.Dec.{eqb, ltb}
+use lib.ListN.{length, getD}
 use lib.Seq.{sets}
 use Rattle.syntax.specs.Text.{same}
 use Rattle.board.specs.Image.{text}
@@ -16,10 +16,11 @@ use Rattle.predicate.specs.declared.atom.Member.the-variants.{Diagnostic}
 use Rattle.predicate.specs.Truth.{truth}
 use Rattle.predicate.specs.Rows.{childrenAt}
 use Rattle.meaning.specs.Value.{rowsOf, withMembers}
-use Rattle.meaning.specs.Calls.{Method, Where, All, Any, None, Count, Features, Diagnostics, Call}
+use Rattle.meaning.specs.Calls.{Method, Where, All, Any, None, Count, Features, Diagnostics, Call, methodNumber}
 use Rattle.meaning.specs.Pipeline.{isOfAnalysis}
 use Rattle.meaning.specs.Walk.{isQuantifier, arrivals, lastCall, testIn, howMany}
 use Rattle.calls.specs.Table.{methodAt}
+use Rattle.eval.specs.Ready.{CALL-ROW}
 use Rattle.eval.specs.declared.walk.Tally.{Tally}
 use Rattle.eval.specs.declared.walk.Analysis.{Analysis}
 
@@ -89,6 +90,11 @@ pub record Arrives (rule image tree : List ℕ) (method args : ℕ) (m : Member)
   pub arrived : r .arrived ≡ t .arrived + 1
   pub passed : r .passed ≡ t .passed + cond (isQuantifier (methodAt method) && truth image m (childrenAt rule tree args)) 1 0
 
+-- a call was found to be `features`
+pub record IsFeatures (rows : List ℕ) (i : ℕ) (r : Bool) : Type 0 where
+  pub there : r ≡ true → CALL-ROW * i + CALL-ROW ≤ length rows
+  pub method : r ≡ true → getD rows (CALL-ROW * i) 0 ≡ methodNumber Features
+
 -- what is known of an analysis: whether its text is a name
 pub record Named (image name : List ℕ) (a : Analysis) : Type 0 where
   pub named-is : a .named ≡ same (text image (a .string)) name
@@ -97,6 +103,10 @@ pub record Named (image name : List ℕ) (a : Analysis) : Type 0 where
 pub record AnalysisOf (image name : List ℕ) (diagnostic : ℕ) (a : Analysis) : Type 0 where
   pub known : Named image name a
   pub asked : a .named ≡ isOfAnalysis image name (Diagnostic diagnostic)
+
+-- of two that were known, the one to keep beside that which was found last
+abbrev pub otherThan : Analysis → Analysis → Analysis → Analysis
+otherThan found known other = cond (eqb (found .string) (known .string)) other known
 
 -- all members of a source were sent, from a table that held `table`
 unfoldable pub walked : (image : List ℕ) → List Call → List Member → List ℕ → State

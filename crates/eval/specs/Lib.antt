@@ -4,3 +4,5 @@ pub mod Pipeline
 pub mod Run
 pub mod Marked
 pub mod Memo
+pub mod Step
+pub mod Listed

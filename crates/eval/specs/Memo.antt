@@ -4,6 +4,7 @@ use Prim.Native.Nat.{ℕ, _+_, _*_, _≤_, _<_}
 use mathlib.Core.Bool.{Bool, true, false, cond}
 use mathlib.Core.List.{List}
 use mathlib.Core.Path.{_≡_}
+use lib.Dec.{ltb}
 use lib.ListN.{length, getD, set}
 use Rattle.predicate.specs.declared.atom.Member.{Member}
 use Rattle.predicate.specs.Truth.{truth}
@@ -62,6 +63,20 @@ pub record Notes (rule image tree calls memo : List ℕ) : Type 0 where
   pub marks : Marks rule image tree (placesIn memo) (marksIn memo)
   pub noted : (i k : ℕ) (marked : Bool) (m : Member) (value : Bool) → i < NOTED-CALLS → profileOf image m ≡ Number k
       → getD memo (noteAt (wayOf rule image tree memo marked m) i k) 0 ≡ known value → truth image m (childrenAt rule tree (argsOf calls i)) ≡ value
+
+-- what is no place in the notes, and above all places
+abbrev pub NO-PLACE : ℕ
+NO-PLACE = 1048576
+
+-- the byte of a call in the notes that begin at a place
+unfoldable pub noteIn : List ℕ → ℕ → ℕ → ℕ
+noteIn memo i place = cond (ltb i NOTED-CALLS) (getD memo (place + PROFILES * i) NOT-KNOWN) NOT-KNOWN
+
+-- the notes of a member begin at a place: a truth that is noted there for a call is the member's
+pub record Placed (image memo : List ℕ) (m : Member) (place : ℕ) : Type 0 where
+  pub small : place ≤ NO-PLACE
+  pub told : (rule tree calls : List ℕ) → Notes rule image tree calls memo → (i : ℕ) (value : Bool) → noteIn memo i place ≡ known value
+      → truth image m (childrenAt rule tree (argsOf calls i)) ≡ value
 
 -- a call's predicate was asked of a member
 pub record Asked (rule image tree calls : List ℕ) (i : ℕ) (m : Member) (before after : List ℕ) (r : Bool) : Type 0 where

@@ -13,7 +13,7 @@ ghost use lib.ListN.{length};
 ghost use Rattle.profile.specs.Profile.{profileOf};
 ghost use Rattle.eval.specs.Ready.{CALL-ROW};
 ghost use Rattle.eval.specs.Marked.{PLACES};
-ghost use Rattle.eval.specs.Memo.{NOTED-CALLS, byteOf, Notes, Asked, Noted, NotedMarked};
+ghost use Rattle.eval.specs.Memo.{NOTED-CALLS, NO-PLACE, byteOf, noteIn, Notes, Placed, Asked, Noted, NotedMarked};
 
 // The calls whose predicates are noted. That of a later call is asked of each member.
 pub(crate) const NOTED_CALLS: usize = 4;
@@ -24,11 +24,40 @@ pub(crate) const WAY_NOTES: usize = profile::PROFILES * NOTED_CALLS;
 // What a byte says: nothing is known yet, the predicate is false, it is true, or its answer is not to be noted.
 const NOT_KNOWN: u8 = 0;
 
-const KNOWN_FALSE: u8 = 1;
+pub(crate) const KNOWN_FALSE: u8 = 1;
 
-const KNOWN_TRUE: u8 = 2;
+pub(crate) const KNOWN_TRUE: u8 = 2;
 
 const NOT_TO_KNOW: u8 = 3;
+
+// What is no place in the notes, and above all places.
+const NO_PLACE: usize = 0x100000;
+
+// Where the notes of a member begin.
+pub(crate) fn place_of(image: &[u8], member: Member, profile: Profile, memo: &[u8]) -> usize
+    requires { ⌜ profileOf (now image) member ≡ profile ⌝ }
+    ensures { λ r. ⌜ Placed (now (image .entry)) (now (memo .entry)) member r ⌝ }
+{
+    match profile {
+        Profile::Number(k) => k,
+        Profile::Unknown => NO_PLACE,
+    }
+}
+
+// What is noted of the predicate of call i, of members whose notes begin at a place.
+pub(crate) fn noted(memo: &[u8], i: usize, place: usize) -> u8
+    requires { ⌜ place ≤ NO-PLACE ⌝ }
+    ensures { λ r. ⌜ r ≡ noteIn (now (memo .entry)) i place ⌝ }
+{
+    if NOTED_CALLS <= i {
+        return NOT_KNOWN;
+    }
+    let at = place + profile::PROFILES * i;
+    if memo.len() <= at {
+        return NOT_KNOWN;
+    }
+    memo[at]
+}
 
 // Whether the predicate of call i is true of a member: as noted, or by asking it.
 pub(crate) fn ask(

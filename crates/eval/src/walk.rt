@@ -1,14 +1,17 @@
 // Members sent through the calls of a pipeline, one source member at a time: each `where`, then its features, each further `where`. No
 // collection but the last is kept, and no member is sent after one that decides a quantifier.
+use crate::listed;
 use crate::marked;
 use crate::memo;
 use crate::ready;
+use crate::step;
 use board::image;
 use board::image::Section;
 use calls::method;
 use instance;
 use predicate::atom::Member;
 use predicate::node;
+use profile;
 use syntax::kind;
 use syntax::text;
 ghost use mathlib.Core.Path.{_≡_};
@@ -28,7 +31,7 @@ ghost use Rattle.meaning.specs.Walk.{isLast};
 ghost use Rattle.calls.specs.Table.{methodAt};
 ghost use Rattle.eval.specs.Ready.{CALL-ROW, callsIn, callsFrom, sourceMembers};
 ghost use Rattle.eval.specs.Memo.{argsOf, Notes};
-ghost use Rattle.eval.specs.Feed.{stateOf, begin, fed, decided, Decides, Fits, Stands, Arrives, Named, AnalysisOf, walked};
+ghost use Rattle.eval.specs.Feed.{stateOf, begin, fed, decided, Decides, Fits, Stands, Arrives, Named, AnalysisOf, otherThan, IsFeatures, walked};
 
 // The numbers of a row of the collection table.
 const COLLECTION_ROW: usize = 2;
@@ -94,7 +97,8 @@ fn is_decided(last: usize, tally: Tally) -> bool
     }
 }
 
-// `components`: every component of the board. Where there is no call all have rows, and a first call `count` gives their number.
+// `components`: every component of the board. Where there is no call all have rows, and a first call `count` gives their number; so it is
+// with their features, where `features` comes first.
 fn feed_components(
     rule: &[u8],
     image: &[u8],
@@ -107,7 +111,10 @@ fn feed_components(
     ensures { λ r. ⌜ Stands (methodAt last) (stateOf r (now (collection .exit))) (fed (now (image .entry)) (callsFrom (now (rule .entry)) (now (tree .entry)) (now (calls .entry)) 0) (map Member.Component (upFrom 0 (componentCount (now (image .entry))))) (begin (now (collection .entry)))) ⌝ }
 {
     if calls.len() < ready::CALL_ROW {
-        return list_components(image, collection);
+        return Tally {
+            arrived: listed::list_components(image, collection),
+            passed: 0,
+        };
     }
     if calls[0] as usize == method::COUNT {
         return Tally {
@@ -115,24 +122,21 @@ fn feed_components(
             passed: 0,
         };
     }
+    if calls[0] as usize == method::FEATURES {
+        if calls.len() < 2 * ready::CALL_ROW {
+            return Tally {
+                arrived: listed::list_owned(image, collection),
+                passed: 0,
+            };
+        }
+        if calls[ready::CALL_ROW] as usize == method::COUNT {
+            return Tally {
+                arrived: listed::count_owned(image),
+                passed: 0,
+            };
+        }
+    }
     feed_noted(rule, image, tree, calls, last, collection)
-}
-
-// Writes the rows of all components.
-fn list_components(image: &[u8], collection: &mut [u32]) -> Tally
-    requires { ⌜ Fits Where (now image) [] (map Member.Component (upFrom 0 (componentCount (now image)))) (begin (now collection)) ⌝ }
-    ensures { λ r. ⌜ stateOf r (now (collection .exit)) ≡ fed (now (image .entry)) [] (map Member.Component (upFrom 0 (componentCount (now (image .entry))))) (begin (now (collection .entry))) ⌝ }
-{
-    let count = image::record_count(image, Section::Components);
-    let mut component = 0;
-    while component < count {
-        put_member(collection, component as usize, Member::Component(component));
-        component += 1;
-    }
-    Tally {
-        arrived: component as usize,
-        passed: 0,
-    }
 }
 
 // Sends every component through the calls, with room for notes; and for marks where a `has` may be asked.
@@ -208,8 +212,59 @@ fn feed_each_component(
     };
     let mut component = 0;
     while component < count {
-        let member = Member::Component(component);
-        tally = feed(
+        tally = feed_component(
+            rule,
+            image,
+            tree,
+            calls,
+            last,
+            component,
+            collection,
+            notes,
+            tally,
+        );
+        if is_decided(last, tally) {
+            return tally;
+        }
+        component += 1;
+    }
+    tally
+}
+
+// Sends one component: its features where they are asked for first, else as the notes tell, or by asking.
+fn feed_component(
+    rule: &[u8],
+    image: &[u8],
+    tree: &[u32],
+    calls: &[u32],
+    last: usize,
+    component: u32,
+    collection: &mut [u32],
+    notes: &mut [u8],
+    tally: Tally,
+) -> Tally
+    requires { ⌜ Fits (methodAt last) (now image) (callsFrom (now rule) (now tree) (now calls) 0) (Member.Component component ∷ []) (stateOf tally (now collection)) × Notes (now rule) (now image) (now tree) (now calls) (now notes) ⌝ }
+    ensures { λ r. ⌜ Stands (methodAt last) (stateOf r (now (collection .exit))) (fed (now (image .entry)) (callsFrom (now (rule .entry)) (now (tree .entry)) (now (calls .entry)) 0) (Member.Component component ∷ []) (stateOf tally (now (collection .entry)))) × Notes (now (rule .entry)) (now (image .entry)) (now (tree .entry)) (now (calls .entry)) (now (notes .exit)) ⌝ }
+{
+    if is_features(calls, 0) {
+        return feed_features(
+            rule,
+            image,
+            tree,
+            calls,
+            last,
+            1,
+            component,
+            collection,
+            notes,
+            tally,
+        );
+    }
+    let member = Member::Component(component);
+    let profile = profile::profile_of(image, member);
+    let step = step::step_of(calls, 0, memo::place_of(image, member, profile, notes), notes);
+    if step::is_open(step) {
+        return feed(
             rule,
             image,
             tree,
@@ -221,12 +276,18 @@ fn feed_each_component(
             notes,
             tally,
         );
-        if is_decided(last, tally) {
-            return tally;
-        }
-        component += 1;
     }
-    tally
+    step::take(step, member, collection, tally)
+}
+
+// Whether there is an i-th call, and it is `features`.
+fn is_features(calls: &[u32], i: usize) -> bool
+    ensures { λ r. ⌜ IsFeatures (now (calls .entry)) i r ⌝ }
+{
+    if calls.len() / ready::CALL_ROW <= i {
+        return false;
+    }
+    calls[ready::CALL_ROW * i] as usize == method::FEATURES
 }
 
 // `analysis('name')`: the diagnostics of the analysis with this name.
@@ -249,10 +310,13 @@ fn feed_diagnostics(
         passed: 0,
     };
     let mut analysis = compare_name(image, name, 0);
+    let mut other = analysis;
     let mut diagnostic = 0;
     while diagnostic < count {
-        analysis = analysis_of(image, name, diagnostic, analysis);
-        tally = feed_diagnostic(
+        let found = analysis_of(image, name, diagnostic, analysis, other);
+        other = other_than(found, analysis, other);
+        analysis = found;
+        tally = feed_if_named(
             rule,
             image,
             tree,
@@ -272,16 +336,35 @@ fn feed_diagnostics(
     tally
 }
 
-// The analysis of a diagnostic; its text is compared only where it is not the analysis known already.
-fn analysis_of(image: &[u8], name: &[u8], diagnostic: u32, known: Analysis) -> Analysis
-    requires { ⌜ Named (now image) (now name) known ⌝ }
+// The analysis of a diagnostic; its text is compared only where it is neither of the two that are known already.
+fn analysis_of(
+    image: &[u8],
+    name: &[u8],
+    diagnostic: u32,
+    known: Analysis,
+    other: Analysis,
+) -> Analysis
+    requires { ⌜ Named (now image) (now name) known × Named (now image) (now name) other ⌝ }
     ensures { λ r. ⌜ AnalysisOf (now (image .entry)) (now (name .entry)) diagnostic r ⌝ }
 {
     let string = image::field(image, Section::Diagnostics, diagnostic, image::ANALYSIS);
     if string == known.string {
         return known;
     }
+    if string == other.string {
+        return other;
+    }
     compare_name(image, name, string)
+}
+
+// Of two analyses that were known, the one to keep beside that which was found last.
+fn other_than(found: Analysis, known: Analysis, other: Analysis) -> Analysis
+    ensures { λ r. ⌜ r ≡ otherThan found known other ⌝ }
+{
+    if found.string == known.string {
+        return other;
+    }
+    known
 }
 
 // The analysis whose text is the string with this number.
@@ -295,7 +378,7 @@ fn compare_name(image: &[u8], name: &[u8], string: u32) -> Analysis
 }
 
 // Sends a diagnostic whose analysis has the name asked for.
-fn feed_diagnostic(
+fn feed_if_named(
     rule: &[u8],
     image: &[u8],
     tree: &[u32],
@@ -311,7 +394,40 @@ fn feed_diagnostic(
     ensures { λ r. ⌜ Stands (methodAt last) (stateOf r (now (collection .exit))) (fed (now (image .entry)) (callsFrom (now (rule .entry)) (now (tree .entry)) (now (calls .entry)) 0) (keep named (Member.Diagnostic diagnostic) []) (stateOf tally (now (collection .entry)))) × Notes (now (rule .entry)) (now (image .entry)) (now (tree .entry)) (now (calls .entry)) (now (notes .exit)) ⌝ }
 {
     if named {
-        let member = Member::Diagnostic(diagnostic);
+        return feed_diagnostic(
+            rule,
+            image,
+            tree,
+            calls,
+            last,
+            diagnostic,
+            collection,
+            notes,
+            tally,
+        );
+    }
+    tally
+}
+
+// Sends one diagnostic: as the notes tell, or by asking.
+fn feed_diagnostic(
+    rule: &[u8],
+    image: &[u8],
+    tree: &[u32],
+    calls: &[u32],
+    last: usize,
+    diagnostic: u32,
+    collection: &mut [u32],
+    notes: &mut [u8],
+    tally: Tally,
+) -> Tally
+    requires { ⌜ Fits (methodAt last) (now image) (callsFrom (now rule) (now tree) (now calls) 0) (Member.Diagnostic diagnostic ∷ []) (stateOf tally (now collection)) × Notes (now rule) (now image) (now tree) (now calls) (now notes) ⌝ }
+    ensures { λ r. ⌜ Stands (methodAt last) (stateOf r (now (collection .exit))) (fed (now (image .entry)) (callsFrom (now (rule .entry)) (now (tree .entry)) (now (calls .entry)) 0) (Member.Diagnostic diagnostic ∷ []) (stateOf tally (now (collection .entry)))) × Notes (now (rule .entry)) (now (image .entry)) (now (tree .entry)) (now (calls .entry)) (now (notes .exit)) ⌝ }
+{
+    let member = Member::Diagnostic(diagnostic);
+    let profile = profile::profile_of(image, member);
+    let step = step::step_of(calls, 0, memo::place_of(image, member, profile, notes), notes);
+    if step::is_open(step) {
         return feed(
             rule,
             image,
@@ -325,7 +441,7 @@ fn feed_diagnostic(
             tally,
         );
     }
-    tally
+    step::take(step, member, collection, tally)
 }
 
 // Sends one member through the calls from the i-th on.
@@ -425,8 +541,49 @@ fn feed_features(
     let mut feature = image::field(image, Section::Components, component, image::FIRST_FEATURE);
     let mut tally = tally;
     while feature < end {
-        let member = Member::Feature(component, feature);
-        tally = feed(
+        tally = feed_feature(
+            rule,
+            image,
+            tree,
+            calls,
+            last,
+            i,
+            component,
+            feature,
+            collection,
+            notes,
+            tally,
+        );
+        if is_decided(last, tally) {
+            return tally;
+        }
+        feature += 1;
+    }
+    tally
+}
+
+// Sends one feature: as the notes tell, or by asking.
+fn feed_feature(
+    rule: &[u8],
+    image: &[u8],
+    tree: &[u32],
+    calls: &[u32],
+    last: usize,
+    i: usize,
+    component: u32,
+    feature: u32,
+    collection: &mut [u32],
+    notes: &mut [u8],
+    tally: Tally,
+) -> Tally
+    requires { ⌜ Fits (methodAt last) (now image) (callsFrom (now rule) (now tree) (now calls) (CALL-ROW * i)) (Member.Feature component feature ∷ []) (stateOf tally (now collection)) × Notes (now rule) (now image) (now tree) (now calls) (now notes) ⌝ }
+    ensures { λ r. ⌜ Stands (methodAt last) (stateOf r (now (collection .exit))) (fed (now (image .entry)) (callsFrom (now (rule .entry)) (now (tree .entry)) (now (calls .entry)) (CALL-ROW * i)) (Member.Feature component feature ∷ []) (stateOf tally (now (collection .entry)))) × Notes (now (rule .entry)) (now (image .entry)) (now (tree .entry)) (now (calls .entry)) (now (notes .exit)) ⌝ }
+{
+    let member = Member::Feature(component, feature);
+    let profile = profile::profile_of(image, member);
+    let step = step::step_of(calls, i, memo::place_of(image, member, profile, notes), notes);
+    if step::is_open(step) {
+        return feed(
             rule,
             image,
             tree,
@@ -438,12 +595,8 @@ fn feed_features(
             notes,
             tally,
         );
-        if is_decided(last, tally) {
-            return tally;
-        }
-        feature += 1;
     }
-    tally
+    step::take(step, member, collection, tally)
 }
 
 // A member arrives at a call that gives no collection: it is counted, and a quantifier's predicate is asked.
@@ -480,7 +633,7 @@ fn arrive(
 }
 
 // Writes a member's row.
-fn put_member(collection: &mut [u32], row: usize, member: Member)
+pub(crate) fn put_member(collection: &mut [u32], row: usize, member: Member)
     requires { ⌜ COLLECTION-ROW * (row + 1) ≤ length (now collection) ⌝ }
     ensures { λ _. ⌜ now (collection .exit) ≡ sets (now (collection .entry)) (COLLECTION-ROW * row) (rowOf member) ⌝ }
 {

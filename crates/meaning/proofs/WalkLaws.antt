@@ -325,14 +325,14 @@ rows-length (m ∷ ms) = omega (arith, length-append (rowOf m) (rowsOf ms), row-
 abbrev pub upTo : ℕ → ℕ → List ℕ
 upTo first end = upFrom first (end - first)
 
-up-turn : (first end : ℕ) → first < end → upTo first end ≡ first ∷ upTo (first + 1) end
+pub up-turn : (first end : ℕ) → first < end → upTo first end ≡ first ∷ upTo (first + 1) end
 unfolding upFrom
 up-turn first end h = rw (← one) (rw add-one)
   where
     one : suc (end - (first + 1)) ≡ end - first
     one = omega arith
 
-up-over : (first end : ℕ) → end ≤ first → upTo first end ≡ []
+pub up-over : (first end : ℕ) → end ≤ first → upTo first end ≡ []
 unfolding upFrom
 up-over first end h = ap (upFrom first) none-left
   where

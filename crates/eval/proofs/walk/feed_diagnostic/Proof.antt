@@ -1,15 +1,24 @@
--- `feed_diagnostic` sends one that is of the analysis. Assumes nothing.
-use Rattle.eval.proofs.FeedLaws.{fed-lost, fits-alike, stands-fed, stands-alike, keep-one, keep-none}
-use Rattle.eval.specs.Feed.{stateOf}
-use Rattle.eval.specs.Ready.{callsFrom}
-use Rattle.predicate.specs.declared.atom.Member.the-variants.{Diagnostic}
-use denote.Ref.{now}
+-- `feed_diagnostic` does what the notes tell, or asks. Assumes nothing.
+use Rattle.eval.proofs.StepLaws.{step-room, step-taken}
+use mathlib.Core.Path.{sym, _∙_}
 use borrow.Author.Needs.{needs}
 use Rattle.eval.proofs.walk.feed_diagnostic.Statement.{statement}
 use Rattle.eval.proofs.walk.feed_diagnostic.Tie as tie
 
+profile-of-requires : tie.Need-profile-of-requires
+profile-of-requires c κs = search needs
+
+place-of-requires : tie.Need-place-of-requires
+place-of-requires c κs = sym (c .before .profile-of .ensures)
+
+step-of-requires : tie.Need-step-of-requires
+step-of-requires c κs = c .before .place-of .ensures .small
+
+is-open-requires : tie.Need-is-open-requires
+is-open-requires c κs = search needs
+
 feed-requires : tie.Need-feed-requires
-feed-requires c κs = (fits-alike (keep-one (now (c .before .before .before .before .before .before .before .before .before .args .image)) (callsFrom (now (c .before .before .before .before .before .before .before .before .before .args .rule)) (now (c .before .before .before .before .before .before .before .before .before .args .tree)) (now (c .before .before .before .before .before .before .before .before .before .args .calls)) 0) (Diagnostic (c .before .before .before .before .before .before .before .before .before .args .diagnostic)) (c .before .before .if1 .taken)) (c .before .before .before .before .before .before .before .before .before .pre .0), c .before .before .before .before .before .before .before .before .before .pre .1)
+feed-requires c κs = c .before .before .before .before .before .before .before .before .before .before .before .before .before .before .before .pre
 
 same-length : tie.Need-same-length
 same-length c = search needs
@@ -18,11 +27,33 @@ same-length-2 : tie.Need-same-length-2
 same-length-2 c = search needs
 
 returns : tie.Need-returns
-returns c = (stands-alike (stateOf (c .before .before .before .before .before .before .before .before .before .before .before .before .before .before .args .tally) (now (c .before .before .before .before .before .before .before .before .before .before .before .before .before .before .args .collection))) (keep-one (now (c .before .before .before .before .before .before .before .before .before .before .before .before .before .before .args .image)) (callsFrom (now (c .before .before .before .before .before .before .before .before .before .before .before .before .before .before .args .rule)) (now (c .before .before .before .before .before .before .before .before .before .before .before .before .before .before .args .tree)) (now (c .before .before .before .before .before .before .before .before .before .before .before .before .before .before .args .calls)) 0) (Diagnostic (c .before .before .before .before .before .before .before .before .before .before .before .before .before .before .args .diagnostic)) (c .before .before .before .before .before .before .before .if1 .taken)) (c .before .before .before .before .feed .ensures .0), c .before .before .before .before .feed .ensures .1)
+returns c = c .before .before .before .before .feed .ensures
+
+take-requires : tie.Need-take-requires
+take-requires c κs = (step-room (c .before .before .before .step-of .ensures .so _ _ _ _ (c .before .before .before .before .before .before .before .before .before .before .before .before .before .before .pre .1) (c .before .before .before .before .before .place-of .ensures)) (c .before .before .before .before .before .before .before .before .before .before .before .before .before .before .pre .0), c .before .before .before .before .before .before .before .before .before .before .before .before .before .before .pre .0 .fewer)
+
+same-length-3 : tie.Need-same-length-3
+same-length-3 c = search needs
+
+same-length-4 : tie.Need-same-length-4
+same-length-4 c = search needs
 
 returns-2 : tie.Need-returns-2
-returns-2 c = (stands-fed (c .before .before .before .before .before .before .before .pre .0) (fed-lost (stateOf (c .before .before .before .before .before .before .before .args .tally) (now (c .before .before .before .before .before .before .before .args .collection))) (keep-none (now (c .before .before .before .before .before .before .before .args .image)) (callsFrom (now (c .before .before .before .before .before .before .before .args .rule)) (now (c .before .before .before .before .before .before .before .args .tree)) (now (c .before .before .before .before .before .before .before .args .calls)) 0) (Diagnostic (c .before .before .before .before .before .before .before .args .diagnostic)) (c .if1 .left))), c .before .before .before .before .before .before .before .pre .1)
+returns-2 c = (step-taken (c .before .before .before .before .before .before .step-of .ensures .so _ _ _ _ (c .before .before .before .before .before .before .before .before .before .before .before .before .before .before .before .before .before .pre .1) (c .before .before .before .before .before .before .before .before .place-of .ensures)) (c .before .before .before .before .before .before .before .before .before .before .before .before .before .before .before .before .before .pre .0) (sym (c .before .before .before .before .before .is-open .ensures) ∙ c .before .before .before .before .if1 .left) (c .before .before .take .ensures), c .before .before .before .before .before .before .before .before .before .before .before .before .before .before .before .before .before .pre .1)
 
 pub feed-diagnostic-spec : {M : Type 1} → statement M
 feed-diagnostic-spec =
-    tie.close (tie.spec feed-requires same-length same-length-2 returns returns-2)
+    tie.close
+    (tie.spec
+    profile-of-requires
+    place-of-requires
+    step-of-requires
+    is-open-requires
+    feed-requires
+    same-length
+    same-length-2
+    returns
+    take-requires
+    same-length-3
+    same-length-4
+    returns-2)

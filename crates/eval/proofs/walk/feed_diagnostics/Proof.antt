@@ -1,5 +1,5 @@
 -- `feed_diagnostics` sends every diagnostic of the analysis: those left come to what all come to. Assumes nothing.
-use Rattle.eval.proofs.FeedLaws.{same-length, fits-first, Feeding, feeding-on, feeding-stop, feeding-end, feeding-length, turn-asked, over-kept, all-start}
+use Rattle.eval.proofs.FeedLaws.{same-length, fits-first, Feeding, feeding-on, feeding-stop, feeding-end, feeding-length, turn-asked, over-kept, other-named, all-start}
 use Rattle.meaning.proofs.WalkLaws.{upTo}
 use Rattle.meaning.specs.Pipeline.{isOfAnalysis}
 use Rattle.meaning.specs.Calls.{kept, upFrom}
@@ -21,11 +21,11 @@ use Rattle.eval.proofs.walk.feed_diagnostics.Statement.{statement}
 use Rattle.eval.proofs.walk.feed_diagnostics.Tie as tie
 
 abbrev Inv-loop : tie.InvT-loop
-Inv-loop rule image tree name calls last collection₀ count notes₀ tally₀ analysis₀ diagnostic₀ collection notes tally analysis diagnostic =
-    Named image name analysis × Feeding (methodAt last) image (callsFrom rule tree calls 0) (kept (isOfAnalysis image name) (map Diagnostic (upFrom 0 (diagnosticCount image)))) (begin collection₀) (kept (isOfAnalysis image name) (map Diagnostic (upTo diagnostic count))) (stateOf tally collection) × Notes rule image tree calls notes × (length notes ≡ WAY-NOTES)
+Inv-loop rule image tree name calls last collection₀ count notes₀ tally₀ analysis₀ other₀ diagnostic₀ collection notes tally analysis other diagnostic =
+    Named image name analysis × Named image name other × Feeding (methodAt last) image (callsFrom rule tree calls 0) (kept (isOfAnalysis image name) (map Diagnostic (upFrom 0 (diagnosticCount image)))) (begin collection₀) (kept (isOfAnalysis image name) (map Diagnostic (upTo diagnostic count))) (stateOf tally collection) × Notes rule image tree calls notes × (length notes ≡ WAY-NOTES)
 
 abbrev μ-loop : tie.MeasureT-loop
-μ-loop rule image tree name calls last collection₀ count notes₀ tally₀ analysis₀ diagnostic₀ collection notes tally analysis diagnostic = count - diagnostic
+μ-loop rule image tree name calls last collection₀ count notes₀ tally₀ analysis₀ other₀ diagnostic₀ collection notes tally analysis other diagnostic = count - diagnostic
 
 record-count-requires : tie.Need-record-count-requires Inv-loop μ-loop
 record-count-requires c κs = search needs
@@ -34,40 +34,43 @@ compare-name-requires : tie.Need-compare-name-requires Inv-loop μ-loop
 compare-name-requires c κs = search needs
 
 loop-holds : tie.Need-loop-holds Inv-loop μ-loop
-loop-holds c = (c .compare-name .ensures .1, all-start (now (c .before .before .before .before .before .before .before .before .args .image)) (callsFrom (now (c .before .before .before .before .before .before .before .before .args .rule)) (now (c .before .before .before .before .before .before .before .before .args .tree)) (now (c .before .before .before .before .before .before .before .before .args .calls)) 0) (λ ns. kept (isOfAnalysis (now (c .before .before .before .before .before .before .before .before .args .image)) (now (c .before .before .before .before .before .before .before .before .args .name))) (map Diagnostic ns)) (begin (now (c .before .before .before .before .before .before .before .before .args .collection))) _ _ (c .before .record-count .ensures) (c .before .before .before .before .before .before .before .before .pre), notes-none _ _ _ _ WAY-NOTES (omega arith) (omega arith), length-replicate {A = ℕ} WAY-NOTES 0)
+loop-holds c = (c .compare-name .ensures .1, c .compare-name .ensures .1, all-start (now (c .before .before .before .before .before .before .before .before .args .image)) (callsFrom (now (c .before .before .before .before .before .before .before .before .args .rule)) (now (c .before .before .before .before .before .before .before .before .args .tree)) (now (c .before .before .before .before .before .before .before .before .args .calls)) 0) (λ ns. kept (isOfAnalysis (now (c .before .before .before .before .before .before .before .before .args .image)) (now (c .before .before .before .before .before .before .before .before .args .name))) (map Diagnostic ns)) (begin (now (c .before .before .before .before .before .before .before .before .args .collection))) _ _ (c .before .record-count .ensures) (c .before .before .before .before .before .before .before .before .pre), notes-none _ _ _ _ WAY-NOTES (omega arith) (omega arith), length-replicate {A = ℕ} WAY-NOTES 0)
 
 analysis-of-requires : tie.Need-analysis-of-requires Inv-loop μ-loop
-analysis-of-requires c κs = c .before .loop .inv .0
+analysis-of-requires c κs = (c .before .loop .inv .0, c .before .loop .inv .1)
 
-slice-aggregate-feed-diagnostic : tie.Need-slice-aggregate-feed-diagnostic Inv-loop μ-loop
-slice-aggregate-feed-diagnostic c = omega (arith, c .before .before .before .before .loop .inv .3)
+other-than-requires : tie.Need-other-than-requires Inv-loop μ-loop
+other-than-requires c κs = search needs
 
-feed-diagnostic-requires : tie.Need-feed-diagnostic-requires Inv-loop μ-loop
-feed-diagnostic-requires c κs = (fits-first (turn-asked _ _ (isOfAnalysis (now (c .before .before .before .before .before .before .before .before .before .before .before .before .before .args .image)) (now (c .before .before .before .before .before .before .before .before .before .before .before .before .before .args .name))) Diagnostic _ _ (c .before .before .analysis-of .ensures .asked) (c .before .before .before .loop-test .taken)) (c .before .before .before .before .loop .inv .1 .fits), c .before .before .before .before .loop .inv .2)
+slice-aggregate-feed-if-named : tie.Need-slice-aggregate-feed-if-named Inv-loop μ-loop
+slice-aggregate-feed-if-named c = omega (arith, c .before .before .before .before .before .loop .inv .4)
+
+feed-if-named-requires : tie.Need-feed-if-named-requires Inv-loop μ-loop
+feed-if-named-requires c κs = (fits-first (turn-asked _ _ (isOfAnalysis (now (c .before .before .before .before .before .before .before .before .before .before .before .before .before .before .args .image)) (now (c .before .before .before .before .before .before .before .before .before .before .before .before .before .before .args .name))) Diagnostic _ _ (c .before .before .before .analysis-of .ensures .asked) (c .before .before .before .before .loop-test .taken)) (c .before .before .before .before .before .loop .inv .2 .fits), c .before .before .before .before .before .loop .inv .3)
 
 is-decided-requires : tie.Need-is-decided-requires Inv-loop μ-loop
 is-decided-requires c κs = search needs
 
 same-length-1 : tie.Need-same-length Inv-loop μ-loop
-same-length-1 c = same-length _ _ _ (begin (now (c .before .before .before .before .before .before .before .before .before .before .before .before .before .before .before .before .before .before .before .args .collection))) (feeding-stop (c .before .before .before .before .before .before .before .before .before .before .loop .inv .1) (turn-asked _ _ (isOfAnalysis (now (c .before .before .before .before .before .before .before .before .before .before .before .before .before .before .before .before .before .before .before .args .image)) (now (c .before .before .before .before .before .before .before .before .before .before .before .before .before .before .before .before .before .before .before .args .name))) Diagnostic _ _ (c .before .before .before .before .before .before .before .before .analysis-of .ensures .asked) (c .before .before .before .before .before .before .before .before .before .loop-test .taken)) (c .before .before .before .before .before .feed-diagnostic .ensures .0) (sym (c .before .is-decided .ensures) ∙ c .if1 .taken))
+same-length-1 c = same-length _ _ _ (begin (now (c .before .before .before .before .before .before .before .before .before .before .before .before .before .before .before .before .before .before .before .before .args .collection))) (feeding-stop (c .before .before .before .before .before .before .before .before .before .before .before .loop .inv .2) (turn-asked _ _ (isOfAnalysis (now (c .before .before .before .before .before .before .before .before .before .before .before .before .before .before .before .before .before .before .before .before .args .image)) (now (c .before .before .before .before .before .before .before .before .before .before .before .before .before .before .before .before .before .before .before .before .args .name))) Diagnostic _ _ (c .before .before .before .before .before .before .before .before .before .analysis-of .ensures .asked) (c .before .before .before .before .before .before .before .before .before .before .loop-test .taken)) (c .before .before .before .before .before .feed-if-named .ensures .0) (sym (c .before .is-decided .ensures) ∙ c .if1 .taken))
 
 returns : tie.Need-returns Inv-loop μ-loop
-returns c = feeding-stop (c .before .before .before .before .before .before .before .before .before .before .loop .inv .1) (turn-asked _ _ (isOfAnalysis (now (c .before .before .before .before .before .before .before .before .before .before .before .before .before .before .before .before .before .before .before .args .image)) (now (c .before .before .before .before .before .before .before .before .before .before .before .before .before .before .before .before .before .before .before .args .name))) Diagnostic _ _ (c .before .before .before .before .before .before .before .before .analysis-of .ensures .asked) (c .before .before .before .before .before .before .before .before .before .loop-test .taken)) (c .before .before .before .before .before .feed-diagnostic .ensures .0) (sym (c .before .is-decided .ensures) ∙ c .if1 .taken)
+returns c = feeding-stop (c .before .before .before .before .before .before .before .before .before .before .before .loop .inv .2) (turn-asked _ _ (isOfAnalysis (now (c .before .before .before .before .before .before .before .before .before .before .before .before .before .before .before .before .before .before .before .before .args .image)) (now (c .before .before .before .before .before .before .before .before .before .before .before .before .before .before .before .before .before .before .before .before .args .name))) Diagnostic _ _ (c .before .before .before .before .before .before .before .before .before .analysis-of .ensures .asked) (c .before .before .before .before .before .before .before .before .before .before .loop-test .taken)) (c .before .before .before .before .before .feed-if-named .ensures .0) (sym (c .before .is-decided .ensures) ∙ c .if1 .taken)
 
 add-diagnostic : tie.Need-add-diagnostic Inv-loop μ-loop
-add-diagnostic c = omega (arith, c .before .before .before .before .before .before .before .before .before .loop-test .taken)
+add-diagnostic c = omega (arith, c .before .before .before .before .before .before .before .before .before .before .loop-test .taken)
 
 loop-less : tie.Need-loop-less Inv-loop μ-loop
-loop-less c = omega (arith, c .before .before .before .before .before .before .before .before .before .loop-test .taken)
+loop-less c = omega (arith, c .before .before .before .before .before .before .before .before .before .before .loop-test .taken)
 
 loop-again : tie.Need-loop-again Inv-loop μ-loop
-loop-again c = (c .before .before .before .before .before .before .before .before .analysis-of .ensures .known, feeding-on (c .before .before .before .before .before .before .before .before .before .before .loop .inv .1) (turn-asked _ _ (isOfAnalysis (now (c .before .before .before .before .before .before .before .before .before .before .before .before .before .before .before .before .before .before .before .args .image)) (now (c .before .before .before .before .before .before .before .before .before .before .before .before .before .before .before .before .before .before .before .args .name))) Diagnostic _ _ (c .before .before .before .before .before .before .before .before .analysis-of .ensures .asked) (c .before .before .before .before .before .before .before .before .before .loop-test .taken)) (c .before .before .before .before .before .feed-diagnostic .ensures .0) (sym (c .before .is-decided .ensures) ∙ c .if1 .left), c .before .before .before .before .before .feed-diagnostic .ensures .1, omega (arith, c .before .before .before .before .before .before .before .before .before .before .loop .inv .3))
+loop-again c = (c .before .before .before .before .before .before .before .before .before .analysis-of .ensures .known, other-named (c .before .before .before .before .before .before .before .before .before .analysis-of .result) (c .before .before .before .before .before .before .before .before .before .before .before .loop .inv .0) (c .before .before .before .before .before .before .before .before .before .before .before .loop .inv .1) (c .before .before .before .before .before .before .before .before .other-than .ensures), feeding-on (c .before .before .before .before .before .before .before .before .before .before .before .loop .inv .2) (turn-asked _ _ (isOfAnalysis (now (c .before .before .before .before .before .before .before .before .before .before .before .before .before .before .before .before .before .before .before .before .args .image)) (now (c .before .before .before .before .before .before .before .before .before .before .before .before .before .before .before .before .before .before .before .before .args .name))) Diagnostic _ _ (c .before .before .before .before .before .before .before .before .before .analysis-of .ensures .asked) (c .before .before .before .before .before .before .before .before .before .before .loop-test .taken)) (c .before .before .before .before .before .feed-if-named .ensures .0) (sym (c .before .is-decided .ensures) ∙ c .if1 .left), c .before .before .before .before .before .feed-if-named .ensures .1, omega (arith, c .before .before .before .before .before .before .before .before .before .before .before .loop .inv .4))
 
 same-length-2 : tie.Need-same-length-2 Inv-loop μ-loop
-same-length-2 c = feeding-length (c .before .loop .inv .1)
+same-length-2 c = feeding-length (c .before .loop .inv .2)
 
 returns-2 : tie.Need-returns-2 Inv-loop μ-loop
-returns-2 c = feeding-end (c .before .loop .inv .1) (over-kept _ _ (isOfAnalysis (now (c .before .before .before .before .before .before .before .before .before .before .args .image)) (now (c .before .before .before .before .before .before .before .before .before .before .args .name))) Diagnostic _ _ (c .loop-test .left))
+returns-2 c = feeding-end (c .before .loop .inv .2) (over-kept _ _ (isOfAnalysis (now (c .before .before .before .before .before .before .before .before .before .before .args .image)) (now (c .before .before .before .before .before .before .before .before .before .before .args .name))) Diagnostic _ _ (c .loop-test .left))
 
 pub feed-diagnostics-spec : {M : Type 1} → statement M
 feed-diagnostics-spec =
@@ -79,8 +82,9 @@ feed-diagnostics-spec =
     compare-name-requires
     loop-holds
     analysis-of-requires
-    slice-aggregate-feed-diagnostic
-    feed-diagnostic-requires
+    other-than-requires
+    slice-aggregate-feed-if-named
+    feed-if-named-requires
     is-decided-requires
     same-length-1
     returns

@@ -1,5 +1,6 @@
 -- A member through the calls from a place on, by itself or by its features: the calls left fall around the cycle. Assumes nothing.
 use Rattle.eval.proofs.FeedLaws.{same-length, fed-lost, fits-first, fits-alike, stands-fed, stands-alike, Feeding, feeding-on, feeding-stop, feeding-end, feeding-length, turn, over, features-start, here-kept, here-dropped, here-passed, here-features, here-feature, here-diagnostic, here-last, here-arrives, here-room, end-room, end-put}
+use Rattle.eval.proofs.StepLaws.{step-room, step-taken}
 use Rattle.eval.specs.Feed.{stateOf}
 use Rattle.eval.specs.Memo.{Notes}
 use Rattle.eval.specs.Ready.{CALL-ROW, callsFrom}
@@ -18,30 +19,53 @@ use borrow.Fn.Kinds.{In}
 use borrow.Fn.PlainCycle.{Measures, is, falls, and}
 use Rattle.eval.proofs.walk.feed.Reads as feed
 use Rattle.eval.proofs.walk.feed.Kinds as feed-kinds
-use Rattle.eval.proofs.walk.+feed+feed_features.Lts-feed as feed-lts
+use Rattle.eval.proofs.walk.+feed+feed_feature+feed_features.Lts-feed as feed-lts
+use Rattle.eval.proofs.walk.feed_feature.Reads as feed-feature
+use Rattle.eval.proofs.walk.feed_feature.Kinds as feed-feature-kinds
+use Rattle.eval.proofs.walk.+feed+feed_feature+feed_features.Lts-feed_feature as feed-feature-lts
 use Rattle.eval.proofs.walk.feed_features.Reads as feed-features
 use Rattle.eval.proofs.walk.feed_features.Kinds as feed-features-kinds
-use Rattle.eval.proofs.walk.+feed+feed_features.Lts-feed_features as feed-features-lts
+use Rattle.eval.proofs.walk.+feed+feed_feature+feed_features.Lts-feed_features as feed-features-lts
 use Rattle.board.proofs.image.field.Reads as field-reads
 use Rattle.eval.proofs.memo.ask.Reads as ask-reads
+use Rattle.eval.proofs.memo.place_of.Reads as place-of-reads
+use Rattle.eval.proofs.step.is_open.Reads as is-open-reads
+use Rattle.eval.proofs.step.step_of.Reads as step-of-reads
+use Rattle.eval.proofs.step.take.Reads as take-reads
 use Rattle.eval.proofs.walk.arrive.Reads as arrive-reads
 use Rattle.eval.proofs.walk.is_decided.Reads as is-decided-reads
 use Rattle.eval.proofs.walk.put_member.Reads as put-member-reads
 use Rattle.instance.proofs.features_end.Reads as features-end-reads
-use Rattle.eval.proofs.walk.+feed+feed_features.{statement}
-use Rattle.eval.proofs.walk.+feed+feed_features.Tie.{close}
+use Rattle.profile.proofs.profile_of.Reads as profile-of-reads
+use Rattle.eval.proofs.walk.+feed+feed_feature+feed_features.{statement}
+use Rattle.eval.proofs.walk.+feed+feed_feature+feed_features.Tie.{close}
 
 abbrev μ-feed : Measures 6 feed-kinds.ps ℕ
-μ-feed κs a = 2 * (length (now (a .1 .1 .1 .0)) - a .1 .1 .1 .1 .1 .0)
+μ-feed κs a = 3 * (length (now (a .1 .1 .1 .0)) - a .1 .1 .1 .1 .1 .0)
+
+abbrev μ-feed-feature : Measures 6 feed-feature-kinds.ps ℕ
+μ-feed-feature κs a = 3 * (length (now (a .1 .1 .1 .0)) - a .1 .1 .1 .1 .1 .0) + 1
 
 abbrev μ-feed-features : Measures 6 feed-features-kinds.ps ℕ
-μ-feed-features κs a = 2 * (length (now (a .1 .1 .1 .0)) - a .1 .1 .1 .1 .1 .0) + 1
+μ-feed-features κs a = 3 * (length (now (a .1 .1 .1 .0)) - a .1 .1 .1 .1 .1 .0) + 2
 
 abbrev feed-at : ℕ → In 6 feed-kinds.ps
 feed-at t = and 6 feed-kinds.ps (is 6 feed-kinds.ps μ-feed t) feed.Pre
 
 abbrev feed-below : ℕ → In 6 feed-kinds.ps
 feed-below t = and 6 feed-kinds.ps (falls 6 feed-kinds.ps _<_ μ-feed t) feed.Pre
+
+abbrev feed-feature-at : ℕ → In 6 feed-feature-kinds.ps
+feed-feature-at t =
+    and 6 feed-feature-kinds.ps (is 6 feed-feature-kinds.ps μ-feed-feature t) feed-feature.Pre
+
+abbrev feed-feature-below : ℕ → In 6 feed-feature-kinds.ps
+feed-feature-below t =
+    and
+    6
+    feed-feature-kinds.ps
+    (falls 6 feed-feature-kinds.ps _<_ μ-feed-feature t)
+    feed-feature.Pre
 
 abbrev feed-features-at : ℕ → In 6 feed-features-kinds.ps
 feed-features-at t =
@@ -58,8 +82,11 @@ feed-features-below t =
 abbrev feed-calls : ℕ → feed-lts.Claims
 feed-calls t = (put-member-reads.Asked, put-member-reads.Learnt, ask-reads.Asked, ask-reads.Learnt, feed-below t, feed.Post, feed-features-below t, feed-features.Post, arrive-reads.Asked, arrive-reads.Learnt)
 
+abbrev feed-feature-calls : ℕ → feed-feature-lts.Claims
+feed-feature-calls t = (profile-of-reads.Asked, profile-of-reads.Learnt, place-of-reads.Asked, place-of-reads.Learnt, step-of-reads.Asked, step-of-reads.Learnt, is-open-reads.Asked, is-open-reads.Learnt, feed-below t, feed.Post, take-reads.Asked, take-reads.Learnt)
+
 abbrev feed-features-calls : ℕ → feed-features-lts.Claims
-feed-features-calls t = (features-end-reads.Asked, features-end-reads.Learnt, field-reads.Asked, field-reads.Learnt, feed-below t, feed.Post, is-decided-reads.Asked, is-decided-reads.Learnt)
+feed-features-calls t = (features-end-reads.Asked, features-end-reads.Learnt, field-reads.Asked, field-reads.Learnt, feed-feature-below t, feed-feature.Post, is-decided-reads.Asked, is-decided-reads.Learnt)
 
 feed-put-member-requires : (t : ℕ) → feed-lts.Need-put-member-requires (feed-calls t) (feed-at t) feed.Post
 feed-put-member-requires t c κs = end-room (now (c .before .before .before .before .before .before .before .before .args .rule)) (now (c .before .before .before .before .before .before .before .before .args .image)) (now (c .before .before .before .before .before .before .before .before .args .tree)) (now (c .before .before .before .before .before .before .before .before .args .calls)) (c .before .before .before .before .before .before .before .before .args .i) (omega (arith, c .before .if1 .taken)) (c .before .before .before .before .before .before .before .before .args .member) (stateOf (c .before .before .before .before .before .before .before .before .args .tally) (now (c .before .before .before .before .before .before .before .before .args .collection))) (c .before .before .before .before .before .before .before .before .pre .1 .0)
@@ -157,6 +184,42 @@ feed-same-length-9 t c = search needs
 feed-returns-8 : (t : ℕ) → feed-lts.Need-returns-8 (feed-calls t) (feed-at t) feed.Post
 feed-returns-8 t c = (stands-fed (c .before .before .before .before .before .before .before .before .before .before .before .before .before .before .before .pre .1 .0) (here-arrives (now (c .before .before .before .before .before .before .before .before .before .before .before .before .before .before .before .args .rule)) (now (c .before .before .before .before .before .before .before .before .before .before .before .before .before .before .before .args .image)) (now (c .before .before .before .before .before .before .before .before .before .before .before .before .before .before .before .args .tree)) (now (c .before .before .before .before .before .before .before .before .before .before .before .before .before .before .before .args .calls)) (c .before .before .before .before .before .before .before .before .before .before .before .before .before .before .before .args .i) (omega (arith, c .before .before .before .before .before .before .before .before .if1 .left)) (c .before .before .before .before .before .before .before .before .before .before .before .before .before .before .before .args .member) (c .before .before .before .before .before .before .before .before .before .before .before .before .before .before .before .args .tally) _ (now (c .before .before .before .before .before .before .before .before .before .before .before .before .before .before .before .args .collection)) (here-last (now (c .before .before .before .before .before .before .before .before .before .before .before .before .before .before .before .args .rule)) (now (c .before .before .before .before .before .before .before .before .before .before .before .before .before .before .before .args .image)) (now (c .before .before .before .before .before .before .before .before .before .before .before .before .before .before .before .args .tree)) (now (c .before .before .before .before .before .before .before .before .before .before .before .before .before .before .before .args .calls)) (c .before .before .before .before .before .before .before .before .before .before .before .before .before .before .before .args .i) (omega (arith, c .before .before .before .before .before .before .before .before .if1 .left)) (c .before .before .before .before .before .before .if2 .left) (c .before .before .before .before .before .if4 .left) (c .before .before .before .before .if5 .left)) (c .before .before .arrive .ensures .0)), c .before .before .arrive .ensures .1)
 
+feed-feature-profile-of-requires : (t : ℕ) → feed-feature-lts.Need-profile-of-requires (feed-feature-calls t) (feed-feature-at t) feed-feature.Post
+feed-feature-profile-of-requires t c κs = search needs
+
+feed-feature-place-of-requires : (t : ℕ) → feed-feature-lts.Need-place-of-requires (feed-feature-calls t) (feed-feature-at t) feed-feature.Post
+feed-feature-place-of-requires t c κs = sym (c .before .profile-of .ensures)
+
+feed-feature-step-of-requires : (t : ℕ) → feed-feature-lts.Need-step-of-requires (feed-feature-calls t) (feed-feature-at t) feed-feature.Post
+feed-feature-step-of-requires t c κs = c .before .place-of .ensures .small
+
+feed-feature-is-open-requires : (t : ℕ) → feed-feature-lts.Need-is-open-requires (feed-feature-calls t) (feed-feature-at t) feed-feature.Post
+feed-feature-is-open-requires t c κs = search needs
+
+feed-feature-feed-requires : (t : ℕ) → feed-feature-lts.Need-feed-requires (feed-feature-calls t) (feed-feature-at t) feed-feature.Post
+feed-feature-feed-requires t c κs = (omega (arith, c .before .before .before .before .before .before .before .before .before .before .before .before .before .before .before .pre .0), c .before .before .before .before .before .before .before .before .before .before .before .before .before .before .before .pre .1)
+
+feed-feature-same-length : (t : ℕ) → feed-feature-lts.Need-same-length (feed-feature-calls t) (feed-feature-at t) feed-feature.Post
+feed-feature-same-length t c = search needs
+
+feed-feature-same-length-2 : (t : ℕ) → feed-feature-lts.Need-same-length-2 (feed-feature-calls t) (feed-feature-at t) feed-feature.Post
+feed-feature-same-length-2 t c = search needs
+
+feed-feature-returns : (t : ℕ) → feed-feature-lts.Need-returns (feed-feature-calls t) (feed-feature-at t) feed-feature.Post
+feed-feature-returns t c = c .before .before .before .before .feed .ensures
+
+feed-feature-take-requires : (t : ℕ) → feed-feature-lts.Need-take-requires (feed-feature-calls t) (feed-feature-at t) feed-feature.Post
+feed-feature-take-requires t c κs = (step-room (c .before .before .before .step-of .ensures .so _ _ _ _ (c .before .before .before .before .before .before .before .before .before .before .before .before .before .before .pre .1 .1) (c .before .before .before .before .before .place-of .ensures)) (c .before .before .before .before .before .before .before .before .before .before .before .before .before .before .pre .1 .0), c .before .before .before .before .before .before .before .before .before .before .before .before .before .before .pre .1 .0 .fewer)
+
+feed-feature-same-length-3 : (t : ℕ) → feed-feature-lts.Need-same-length-3 (feed-feature-calls t) (feed-feature-at t) feed-feature.Post
+feed-feature-same-length-3 t c = search needs
+
+feed-feature-same-length-4 : (t : ℕ) → feed-feature-lts.Need-same-length-4 (feed-feature-calls t) (feed-feature-at t) feed-feature.Post
+feed-feature-same-length-4 t c = search needs
+
+feed-feature-returns-2 : (t : ℕ) → feed-feature-lts.Need-returns-2 (feed-feature-calls t) (feed-feature-at t) feed-feature.Post
+feed-feature-returns-2 t c = (step-taken (c .before .before .before .before .before .before .step-of .ensures .so _ _ _ _ (c .before .before .before .before .before .before .before .before .before .before .before .before .before .before .before .before .before .pre .1 .1) (c .before .before .before .before .before .before .before .before .place-of .ensures)) (c .before .before .before .before .before .before .before .before .before .before .before .before .before .before .before .before .before .pre .1 .0) (sym (c .before .before .before .before .before .is-open .ensures) ∙ c .before .before .before .before .if1 .left) (c .before .before .take .ensures), c .before .before .before .before .before .before .before .before .before .before .before .before .before .before .before .before .before .pre .1 .1)
+
 abbrev feed-features-Inv-loop : feed-features-lts.InvT-loop
 feed-features-Inv-loop rule image tree calls last i component collection₀ notes₀ end feature₀ tally₀ collection notes feature tally =
     Feeding (methodAt last) image (callsFrom rule tree calls (CALL-ROW * i)) (featuresOf image component) (stateOf tally₀ collection₀) (map (Feature component) (upTo feature end)) (stateOf tally collection) × Notes rule image tree calls notes × (length notes ≡ length notes₀)
@@ -174,20 +237,20 @@ feed-features-field-requires t c κs = search needs
 feed-features-loop-holds : (t : ℕ) → feed-features-lts.Need-loop-holds (feed-features-calls t) (feed-features-at t) feed-features.Post feed-features-Inv-loop feed-features-μ-loop
 feed-features-loop-holds t c = (features-start _ _ _ (stateOf (c .before .before .before .before .before .before .before .before .args .tally) (now (c .before .before .before .before .before .before .before .before .args .collection))) _ _ (c .field .ensures) (c .before .features-end .ensures) (c .before .before .before .before .before .before .before .before .pre .1 .0), c .before .before .before .before .before .before .before .before .pre .1 .1, refl)
 
-feed-features-feed-requires : (t : ℕ) → feed-features-lts.Need-feed-requires (feed-features-calls t) (feed-features-at t) feed-features.Post feed-features-Inv-loop feed-features-μ-loop
-feed-features-feed-requires t c κs = (omega (arith, c .before .before .before .before .before .before .before .before .before .before .before .before .pre .0), (fits-first (turn _ _ (Feature (c .before .before .before .before .before .before .before .before .before .before .before .before .args .component)) _ _ (c .before .before .loop-test .taken)) (c .before .before .before .loop .inv .0 .fits), c .before .before .before .loop .inv .1))
+feed-features-feed-feature-requires : (t : ℕ) → feed-features-lts.Need-feed-feature-requires (feed-features-calls t) (feed-features-at t) feed-features.Post feed-features-Inv-loop feed-features-μ-loop
+feed-features-feed-feature-requires t c κs = (omega (arith, c .before .before .before .before .before .before .before .before .before .before .before .before .pre .0), (fits-first (turn _ _ (Feature (c .before .before .before .before .before .before .before .before .before .before .before .before .args .component)) _ _ (c .before .before .loop-test .taken)) (c .before .before .before .loop .inv .0 .fits), c .before .before .before .loop .inv .1))
 
 feed-features-is-decided-requires : (t : ℕ) → feed-features-lts.Need-is-decided-requires (feed-features-calls t) (feed-features-at t) feed-features.Post feed-features-Inv-loop feed-features-μ-loop
 feed-features-is-decided-requires t c κs = search needs
 
 feed-features-same-length : (t : ℕ) → feed-features-lts.Need-same-length (feed-features-calls t) (feed-features-at t) feed-features.Post feed-features-Inv-loop feed-features-μ-loop
-feed-features-same-length t c = same-length _ _ _ (stateOf (c .before .before .before .before .before .before .before .before .before .before .before .before .before .before .before .before .before .before .before .args .tally) (now (c .before .before .before .before .before .before .before .before .before .before .before .before .before .before .before .before .before .before .before .args .collection))) (feeding-stop (c .before .before .before .before .before .before .before .before .before .before .loop .inv .0) (turn _ _ (Feature (c .before .before .before .before .before .before .before .before .before .before .before .before .before .before .before .before .before .before .before .args .component)) _ _ (c .before .before .before .before .before .before .before .before .before .loop-test .taken)) (c .before .before .before .before .before .before .feed .ensures .0) (sym (c .before .is-decided .ensures) ∙ c .if1 .taken))
+feed-features-same-length t c = same-length _ _ _ (stateOf (c .before .before .before .before .before .before .before .before .before .before .before .before .before .before .before .before .before .before .before .args .tally) (now (c .before .before .before .before .before .before .before .before .before .before .before .before .before .before .before .before .before .before .before .args .collection))) (feeding-stop (c .before .before .before .before .before .before .before .before .before .before .loop .inv .0) (turn _ _ (Feature (c .before .before .before .before .before .before .before .before .before .before .before .before .before .before .before .before .before .before .before .args .component)) _ _ (c .before .before .before .before .before .before .before .before .before .loop-test .taken)) (c .before .before .before .before .before .before .feed-feature .ensures .0) (sym (c .before .is-decided .ensures) ∙ c .if1 .taken))
 
 feed-features-same-length-2 : (t : ℕ) → feed-features-lts.Need-same-length-2 (feed-features-calls t) (feed-features-at t) feed-features.Post feed-features-Inv-loop feed-features-μ-loop
 feed-features-same-length-2 t c = omega (arith, c .before .before .before .before .before .before .before .before .before .before .loop .inv .2)
 
 feed-features-returns : (t : ℕ) → feed-features-lts.Need-returns (feed-features-calls t) (feed-features-at t) feed-features.Post feed-features-Inv-loop feed-features-μ-loop
-feed-features-returns t c = (feeding-stop (c .before .before .before .before .before .before .before .before .before .before .loop .inv .0) (turn _ _ (Feature (c .before .before .before .before .before .before .before .before .before .before .before .before .before .before .before .before .before .before .before .args .component)) _ _ (c .before .before .before .before .before .before .before .before .before .loop-test .taken)) (c .before .before .before .before .before .before .feed .ensures .0) (sym (c .before .is-decided .ensures) ∙ c .if1 .taken), c .before .before .before .before .before .before .feed .ensures .1)
+feed-features-returns t c = (feeding-stop (c .before .before .before .before .before .before .before .before .before .before .loop .inv .0) (turn _ _ (Feature (c .before .before .before .before .before .before .before .before .before .before .before .before .before .before .before .before .before .before .before .args .component)) _ _ (c .before .before .before .before .before .before .before .before .before .loop-test .taken)) (c .before .before .before .before .before .before .feed-feature .ensures .0) (sym (c .before .is-decided .ensures) ∙ c .if1 .taken), c .before .before .before .before .before .before .feed-feature .ensures .1)
 
 feed-features-add-feature : (t : ℕ) → feed-features-lts.Need-add-feature (feed-features-calls t) (feed-features-at t) feed-features.Post feed-features-Inv-loop feed-features-μ-loop
 feed-features-add-feature t c = omega (arith, c .before .before .before .before .before .before .before .before .before .loop-test .taken)
@@ -196,7 +259,7 @@ feed-features-loop-less : (t : ℕ) → feed-features-lts.Need-loop-less (feed-f
 feed-features-loop-less t c = omega (arith, c .before .before .before .before .before .before .before .before .before .loop-test .taken)
 
 feed-features-loop-again : (t : ℕ) → feed-features-lts.Need-loop-again (feed-features-calls t) (feed-features-at t) feed-features.Post feed-features-Inv-loop feed-features-μ-loop
-feed-features-loop-again t c = (feeding-on (c .before .before .before .before .before .before .before .before .before .before .loop .inv .0) (turn _ _ (Feature (c .before .before .before .before .before .before .before .before .before .before .before .before .before .before .before .before .before .before .before .args .component)) _ _ (c .before .before .before .before .before .before .before .before .before .loop-test .taken)) (c .before .before .before .before .before .before .feed .ensures .0) (sym (c .before .is-decided .ensures) ∙ c .if1 .left), c .before .before .before .before .before .before .feed .ensures .1, omega (arith, c .before .before .before .before .before .before .before .before .before .before .loop .inv .2))
+feed-features-loop-again t c = (feeding-on (c .before .before .before .before .before .before .before .before .before .before .loop .inv .0) (turn _ _ (Feature (c .before .before .before .before .before .before .before .before .before .before .before .before .before .before .before .before .before .before .before .args .component)) _ _ (c .before .before .before .before .before .before .before .before .before .loop-test .taken)) (c .before .before .before .before .before .before .feed-feature .ensures .0) (sym (c .before .is-decided .ensures) ∙ c .if1 .left), c .before .before .before .before .before .before .feed-feature .ensures .1, omega (arith, c .before .before .before .before .before .before .before .before .before .before .loop .inv .2))
 
 feed-features-same-length-3 : (t : ℕ) → feed-features-lts.Need-same-length-3 (feed-features-calls t) (feed-features-at t) feed-features.Post feed-features-Inv-loop feed-features-μ-loop
 feed-features-same-length-3 t c = feeding-length (c .before .loop .inv .0)
@@ -207,8 +270,8 @@ feed-features-same-length-4 t c = c .before .loop .inv .2
 feed-features-returns-2 : (t : ℕ) → feed-features-lts.Need-returns-2 (feed-features-calls t) (feed-features-at t) feed-features.Post feed-features-Inv-loop feed-features-μ-loop
 feed-features-returns-2 t c = (feeding-end (c .before .loop .inv .0) (over _ _ (Feature (c .before .before .before .before .before .before .before .before .before .before .args .component)) _ _ (c .loop-test .left)), c .before .loop .inv .1)
 
-pub +feed+feed-features-spec : {M : Type 1} → statement M
-+feed+feed-features-spec = close μ-feed μ-feed-features (λ t. feed-lts.spec (feed-calls t)
+pub +feed+feed-feature+feed-features-spec : {M : Type 1} → statement M
++feed+feed-feature+feed-features-spec = close μ-feed μ-feed-feature μ-feed-features (λ t. feed-lts.spec (feed-calls t)
     (feed-at t)
     feed.Post
     (feed-put-member-requires t)
@@ -243,6 +306,21 @@ pub +feed+feed-features-spec : {M : Type 1} → statement M
     (feed-arrive-requires t)
     (feed-same-length-9 t)
     (feed-returns-8 t))
+    (λ t. feed-feature-lts.spec (feed-feature-calls t)
+    (feed-feature-at t)
+    feed-feature.Post
+    (feed-feature-profile-of-requires t)
+    (feed-feature-place-of-requires t)
+    (feed-feature-step-of-requires t)
+    (feed-feature-is-open-requires t)
+    (feed-feature-feed-requires t)
+    (feed-feature-same-length t)
+    (feed-feature-same-length-2 t)
+    (feed-feature-returns t)
+    (feed-feature-take-requires t)
+    (feed-feature-same-length-3 t)
+    (feed-feature-same-length-4 t)
+    (feed-feature-returns-2 t))
     λ t. feed-features-lts.spec (feed-features-calls t)
     (feed-features-at t)
     feed-features.Post
@@ -251,7 +329,7 @@ pub +feed+feed-features-spec : {M : Type 1} → statement M
     (feed-features-features-end-requires t)
     (feed-features-field-requires t)
     (feed-features-loop-holds t)
-    (feed-features-feed-requires t)
+    (feed-features-feed-feature-requires t)
     (feed-features-is-decided-requires t)
     (feed-features-same-length t)
     (feed-features-same-length-2 t)
