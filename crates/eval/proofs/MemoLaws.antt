@@ -1,208 +1,267 @@
 -- Notes made and read, and a memo in which nothing is noted. Assumes nothing.
 use mathlib.Core.Path.{_≡_, refl, sym, ap, _∙_, subst}
-use mathlib.Core.Bool.{Bool, true, false, true≢false}
-use mathlib.Core.List.{List, [], _∷_}
+use mathlib.Core.Bool.{Bool, true, false}
+use mathlib.Core.List.{List}
 use Prim.Native.Nat.{ℕ, zero, suc, _+_, _*_, _≤_, _<_}
 use native.Mathlib.Omega.{arith}
-use borrow.Author.Tests.{lt-ltb, le-ltb, eqb-true, eqb-false}
+use borrow.Author.Tests.{lt-ltb, le-ltb, eqb-true, eqb-false, ltb-true, ltb-false}
 use lib.Dec.{eqb, ltb}
-use lib.ListN.{length, getD, take, set, replicate, length-set, length-replicate}
-use lib.Seq.{getD-set-same, getD-set-other, getD-take}
+use lib.ListN.{length, getD, take, set, replicate, length-set, length-replicate, List·getD-eq-default}
+use lib.Seq.{getD-set-same, getD-set-other, getD-take, take-set-lt}
 use Rattle.syntax.proofs.BoolLaws.{whether}
+use Rattle.instance.specs.Instance.{ownersWired}
 use Rattle.predicate.specs.declared.atom.Member.{Member}
 use Rattle.predicate.specs.Truth.{truth}
 use Rattle.predicate.specs.Rows.{childrenAt}
-use Rattle.profile.specs.declared.Profile.the-variants.{Number}
-use Rattle.profile.specs.Profile.{PROFILES, profileOf, asksMore, mentionsBelow}
-use Rattle.profile.proofs.ProfileLaws.{profile-small, alike, mentions-rows}
-use Rattle.eval.specs.Marked.{NO-BITS, MARKS, PLACES, placesIn, marksIn, bitsOf, BitIs, Marks, Made}
-use Rattle.eval.specs.Memo.{NOTED-CALLS, WAY-NOTES, NOT-KNOWN, NOT-TO-KNOW, known, argsOf, byteOf, noteIn, wayOf, noteAt, Notes, Asked, Noted, NotedMarked}
-use Rattle.eval.proofs.MarkedLaws.{bits-small, alike-has, told-rows, rows-kept, marks-kept, marks-none, made-length, made-marks}
+use Rattle.profile.specs.declared.Profile.{Profile}
+use Rattle.profile.specs.declared.Profile.the-variants.{Number, Unknown}
+use Rattle.profile.specs.Profile.{PROFILES, profileOf}
+use Rattle.profile.proofs.ProfileLaws.{profile-small}
+use Rattle.eval.specs.Marked.{NO-BITS, MARKS, PLACES, MEMO, SETTLED, bitsOf, TellsBelow, Made}
+use Rattle.eval.specs.Memo.{NOTED-CALLS, WAY-NOTES, PLAIN, NO-PLACE, NOT-KNOWN, known, argsOf, byteOf, placeBy, placeOf, noteIn, Notes, Placed, Asked, Noted, kept, made}
+use Rattle.eval.proofs.MarkedLaws.{alike-has, told-rows, Kept, kept-set, marks-kept, bits-kept, marks-none, made-length, made-marks}
 
 -- a byte that says nothing makes no truth known
 not-known : (value : Bool) → NOT-KNOWN ≡ known value → ⊥
 not-known true e = omega arith
 not-known false e = omega arith
 
--- the ways are few
-way-small : (rule image tree memo : List ℕ) (marked : Bool) (m : Member) → wayOf rule image tree memo marked m ≤ NO-BITS
-unfolding wayOf
-way-small rule image tree memo false m = omega arith
-way-small rule image tree memo true m = omega (arith, bits-small rule image tree (placesIn memo) m)
+-- ---- what is noted at a place
 
--- ---- the byte of a call in the notes at a place: of a later call, past the memo, and else
+module _ (memo : List ℕ) (i place : ℕ) where
+  pub note-later : NOTED-CALLS ≤ i → NOT-KNOWN ≡ noteIn memo i place
+  unfolding noteIn
+  note-later h = rw (le-ltb i NOTED-CALLS h)
 
-past-end : (l : List ℕ) (i d : ℕ) → length l ≤ i → getD l i d ≡ d
-past-end [] i d h = refl
-past-end (x ∷ l) zero d h = absurd (omega arith)
-past-end (x ∷ l) (suc i) d h = past-end l i d (omega arith)
+  module _ (h : i < NOTED-CALLS) where
+    pub note-at : getD memo (place + PROFILES * i) NOT-KNOWN ≡ noteIn memo i place
+    unfolding noteIn
+    note-at = rw (lt-ltb i NOTED-CALLS h)
 
-pub note-late : (memo : List ℕ) {i : ℕ} (place : ℕ) → NOTED-CALLS ≤ i → NOT-KNOWN ≡ noteIn memo i place
-unfolding noteIn
-note-late memo {i} place h = sym (rw (le-ltb i NOTED-CALLS h))
+    pub note-outside : length memo ≤ place + PROFILES * i → NOT-KNOWN ≡ noteIn memo i place
+    note-outside l = sym (List·getD-eq-default memo NOT-KNOWN l) ∙ note-at
 
-pub note-past : (memo : List ℕ) (i place : ℕ) → length memo ≤ place + PROFILES * i → NOT-KNOWN ≡ noteIn memo i place
-unfolding noteIn
-note-past memo i place h =
-    whether (ltb i NOTED-CALLS) (λ t. sym (rw t (past-end memo (place + PROFILES * i) NOT-KNOWN h))) (λ t. sym (rw t))
+-- ---- the place of a member
 
-pub note-read : (memo : List ℕ) {i : ℕ} (place : ℕ) → i < NOTED-CALLS → getD memo (place + PROFILES * i) NOT-KNOWN ≡ noteIn memo i place
-unfolding noteIn
-note-read memo {i} place h = sym (rw (lt-ltb i NOTED-CALLS h))
+-- the profile and the bits that a place below NO-PLACE tells
+record PlaceIs (p : Profile) (bits place : ℕ) : Type 0 where
+  number : ℕ
+  profile-is : p ≡ Number number
+  few : bits < NO-BITS
+  is : place ≡ 1 + WAY-NOTES * bits + number
+
+place-is : (p : Profile) (bits place : ℕ) → place ≡ placeBy p bits → place < NO-PLACE → PlaceIs p bits place
+unfolding placeBy
+place-is (Number k) bits place e h =
+    whether (ltb bits NO-BITS)
+    (λ t. record { number = k; profile-is = refl; few = ltb-true bits NO-BITS t; is = e ∙ rw t })
+    (λ t.
+    let z : placeBy (Number k) bits ≡ NO-PLACE = rw t in
+    absurd (omega arith))
+place-is Unknown bits place e h = absurd (omega arith)
+
+-- two calls with the same byte are one
+same-call : (a b k l i j : ℕ) → k < PROFILES → l < PROFILES → i < NOTED-CALLS → j < NOTED-CALLS
+    → 1 + WAY-NOTES * a + k + PROFILES * i ≡ 1 + WAY-NOTES * b + l + PROFILES * j → i ≡ j
+same-call a b k l i j x y s u e =
+    let rows : NOTED-CALLS * a + i ≡ NOTED-CALLS * b + j = omega arith in
+    omega arith
+
+-- as it is found
+module _ (image memo : List ℕ) (m : Member) where
+  placed : {place : ℕ} → place ≡ placeOf image memo m → place ≤ NO-PLACE → Placed image memo m place
+  placed e h = record { is = e; small = h; told = λ rule tree calls n i value t. n .noted i m value (ap (noteIn memo i) (sym e) ∙ t) }
+
+  pub placed-unknown : {p : Profile} → profileOf image m ≡ p → p ≡ Unknown → Placed image memo m NO-PLACE
+  unfolding placeBy
+  placed-unknown e f = placed (sym (ap (λ (p : Profile). placeBy p (bitsOf image memo m)) (e ∙ f))) (omega arith)
+
+  module _ {p : Profile} {k bits : ℕ} (e : profileOf image m ≡ p) (f : p ≡ Number k) (b : bits ≡ bitsOf image memo m) where
+    by-number : placeOf image memo m ≡ placeBy (Number k) bits
+    by-number = sym (λ j. placeBy (sym (e ∙ f) j) (b j))
+
+    pub placed-nowhere : NO-BITS ≤ bits → Placed image memo m NO-PLACE
+    unfolding placeBy
+    placed-nowhere h = placed (sym (by-number ∙ rw (le-ltb bits NO-BITS h))) (omega arith)
+
+    pub placed-at : bits < NO-BITS → Placed image memo m (1 + WAY-NOTES * bits + k)
+    unfolding placeBy
+    placed-at h = placed (sym (by-number ∙ rw (lt-ltb bits NO-BITS h))) (omega (arith, profile-small image m k (e ∙ f)))
 
 -- ---- a memo in which nothing is noted
 
--- nothing is noted in a memo whose notes are zeros
+module _ (image memo : List ℕ) (few : length memo ≤ MEMO) (clear : (x : ℕ) → x < MARKS → getD memo x 0 ≡ 0) where
+  nothing-noted : (i : ℕ) (m : Member) (value : Bool) → noteIn memo i (placeOf image memo m) ≡ known value → ⊥
+  nothing-noted i m value e =
+      whether (ltb i NOTED-CALLS)
+      (λ t. not-known value (sym (blank (ltb-true i NOTED-CALLS t)) ∙ note-at memo i (placeOf image memo m) (ltb-true i NOTED-CALLS t) ∙ e))
+      (λ t. not-known value (note-later memo i (placeOf image memo m) (ltb-false i NOTED-CALLS t) ∙ e))
+    where
+      inside : i < NOTED-CALLS → placeOf image memo m + PROFILES * i < MEMO → getD memo (placeOf image memo m + PROFILES * i) 0 ≡ 0
+      inside s h =
+          let p = place-is (profileOf image m) (bitsOf image memo m) (placeOf image memo m) refl (omega arith) in
+          clear (placeOf image memo m + PROFILES * i) (omega (arith, p .is, p .few, profile-small image m (p .number) (p .profile-is)))
+
+      blank : i < NOTED-CALLS → getD memo (placeOf image memo m + PROFILES * i) 0 ≡ 0
+      blank s =
+          whether (ltb (placeOf image memo m + PROFILES * i) MEMO) (λ t. inside s (ltb-true (placeOf image memo m + PROFILES * i) MEMO t))
+          (λ t. List·getD-eq-default memo 0 (omega (arith, few, ltb-false (placeOf image memo m + PROFILES * i) MEMO t)))
+
 zeros : (n i : ℕ) → _≡_ {A = ℕ} (getD (replicate n 0) i 0) 0
 zeros zero i = refl
 zeros (suc n) zero = refl
 zeros (suc n) (suc i) = zeros n i
 
-pub notes-none : (rule image tree calls : List ℕ) (n : ℕ) → WAY-NOTES ≤ n → n ≤ PLACES → Notes rule image tree calls (replicate n 0)
+-- one without marks
+pub notes-none : (rule image tree calls : List ℕ) (n : ℕ) → PLAIN ≤ n → n ≤ PLACES → Notes rule image tree calls (replicate n 0)
 notes-none rule image tree calls n h l =
+    let long = length-replicate {A = ℕ} n 0 in
     record {
-      room = omega (arith, length-replicate {A = ℕ} n 0);
-      marks = marks-none rule image tree (replicate n 0) (omega (arith, length-replicate {A = ℕ} n 0));
-      noted = λ i k marked m value s p e. absurd (not-known value (sym (zeros n (noteAt (wayOf rule image tree (replicate n 0) marked m) i k)) ∙ e));
+      room = omega arith;
+      marks = marks-none rule image tree (replicate n 0) (omega arith);
+      settled = λ e. absurd (omega (arith, zeros n 0, e));
+      noted = λ i m value e. absurd (nothing-noted image (replicate n 0) (omega arith) (λ x _. zeros n x) i m value e);
     }
 
--- nor where marks were made
-module _ {rule image tree memo : List ℕ} {n : ℕ} (w : Made rule image tree memo n) (front : List ℕ) (long : length front ≡ PLACES + n)
-    (same : (x : ℕ) → x < PLACES + n → getD front x 0 ≡ getD memo x 0) where
-  blank : (i k way : ℕ) → i < NOTED-CALLS → k < PROFILES → way ≤ NO-BITS → _≡_ {A = ℕ} (getD front (noteAt way i k) 0) 0
-  blank i k way s h v = same (noteAt way i k) (omega arith) ∙ w .clear (noteAt way i k) (omega arith)
-
-  notes-made : (calls : List ℕ) → Notes rule image tree calls front
-  notes-made calls =
-      record {
-        room = omega arith;
-        marks = made-marks w front long same;
-        noted = λ i k marked m value s p e. absurd (not-known value (sym (blank i k (wayOf rule image tree front marked m) s (profile-small image m k p) (way-small rule image tree front marked m)) ∙ e));
-      }
-
+-- one in which marks were made
 pub notes-front : {rule image tree memo : List ℕ} {n : ℕ} (calls : List ℕ) → Made rule image tree memo n → Notes rule image tree calls (take (PLACES + n) memo)
-notes-front {memo = memo} {n = n} calls w = notes-made w (take (PLACES + n) memo) (made-length w) (λ x h. getD-take (PLACES + n) memo x 0 h) calls
+notes-front {rule} {image} {tree} {memo} {n} calls w =
+    let long = made-length w in
+    record {
+      room = omega arith;
+      marks = made-marks w;
+      settled = λ e. absurd (omega (arith, clear 0 (omega arith), e));
+      noted = λ i m value e. absurd (nothing-noted image (take (PLACES + n) memo) (omega (arith, w .most)) clear i m value e);
+    }
+  where
+    clear : (x : ℕ) → x < MARKS → getD (take (PLACES + n) memo) x 0 ≡ 0
+    clear x h = getD-take (PLACES + n) memo x 0 (omega arith) ∙ w .clear x h
+
+-- ---- a byte written
+
+-- what is noted elsewhere stays
+note-kept : (memo : List ℕ) (at v i place : ℕ) → (place + PROFILES * i ≡ at → ⊥) → noteIn (set memo at v) i place ≡ noteIn memo i place
+unfolding noteIn
+note-kept memo at v i place h = rw (getD-set-other memo at (place + PROFILES * i) v NOT-KNOWN h)
+
+-- no note is in the first byte
+place-positive : (p : Profile) (bits : ℕ) → 0 < placeBy p bits
+unfolding placeBy
+place-positive (Number k) bits = whether (ltb bits NO-BITS) (λ t. rw t (omega arith)) (λ t. rw t (omega arith))
+place-positive Unknown bits = omega arith
 
 -- a byte that makes a truth known says that the predicate asks for no more, and the truth
-made : (more r value : Bool) → byteOf more r ≡ known value → (more ≡ false) × (r ≡ value)
+byte-says : (more r value : Bool) → byteOf more r ≡ known value → (more ≡ false) × (r ≡ value)
 unfolding byteOf
-made true r true e = absurd (omega arith)
-made true r false e = absurd (omega arith)
-made false true true e = (refl, refl)
-made false true false e = absurd (omega arith)
-made false false true e = absurd (omega arith)
-made false false false e = (refl, refl)
-
--- a member's way by its profile alone is no other
-same-way : (rule image tree memo : List ℕ) (a b : Bool) (m o : Member) → wayOf rule image tree memo a m ≡ wayOf rule image tree memo b o → a ≡ b
-unfolding wayOf
-same-way rule image tree memo false false m o e = refl
-same-way rule image tree memo true true m o e = refl
-same-way rule image tree memo false true m o e = absurd (omega arith)
-same-way rule image tree memo true false m o e = absurd (omega arith)
-
--- asked after a note was made
-pub asked-after : {rule image tree calls : List ℕ} {i : ℕ} {m : Member} (memo : List ℕ) (at v : ℕ) {after : List ℕ} {r : Bool} → Asked rule image tree calls i m (set memo at v) after r → Asked rule image tree calls i m memo after r
-asked-after memo at v a = record { value = a .value; notes = a .notes; long = a .long ∙ length-set memo at v }
+byte-says true r true e = absurd (omega arith)
+byte-says true r false e = absurd (omega arith)
+byte-says false true true e = (refl, refl)
+byte-says false true false e = absurd (omega arith)
+byte-says false false true e = absurd (omega arith)
+byte-says false false false e = (refl, refl)
 
 module _ {rule image tree calls memo : List ℕ} (n : Notes rule image tree calls memo) where
-  -- the answer was noted, by the profile alone
-  pub known-plain : {i k : ℕ} {m : Member} {r : Bool} → i < NOTED-CALLS → profileOf image m ≡ Number k → getD memo (PROFILES * i + k) 0 ≡ known r → Asked rule image tree calls i m memo memo r
-  unfolding wayOf
-  known-plain {i} {k} {m} {r} s p e =
-      record { value = sym (n .noted i k false m r s p (ap (λ (x : ℕ). getD memo x 0) (omega arith) ∙ e)); notes = n; long = refl }
+  -- the first byte is written
+  pub notes-settled : (v : ℕ) → (v ≡ SETTLED → ownersWired image ≡ true) → Notes rule image tree calls (set memo 0 v)
+  notes-settled v h =
+      record {
+        room = omega (arith, n .room, length-set memo 0 v);
+        marks = marks-kept same (n .marks);
+        settled = λ e. h (sym (getD-set-same memo 0 v 0 (omega (arith, n .room))) ∙ e);
+        noted = λ i m value e. n .noted i m value (sym (stays i m) ∙ e);
+      }
+    where
+      same : Kept memo (set memo 0 v)
+      same = kept-set memo 0 v (omega arith)
 
-  -- and by the marks too
-  pub known-marked : {i k bits : ℕ} {m : Member} {r : Bool} → i < NOTED-CALLS → profileOf image m ≡ Number k → BitIs (bitsOf rule image tree (placesIn memo) m) (15 * NO-BITS) bits → bits < NO-BITS
-      → getD memo (noteAt (bits + 1) i k) 0 ≡ known r → Asked rule image tree calls i m memo memo r
-  unfolding wayOf
-  known-marked {i} {k} {bits} {m} {r} s p b l e =
-      record { value = sym (n .noted i k true m r s p (ap (λ (x : ℕ). getD memo (noteAt (x + 1) i k) 0) (sym (b .so l)) ∙ e)); notes = n; long = refl }
+      stays : (i : ℕ) (m : Member) → noteIn (set memo 0 v) i (placeOf image (set memo 0 v) m) ≡ noteIn memo i (placeOf image memo m)
+      stays i m =
+          ap (λ (b : ℕ). noteIn (set memo 0 v) i (placeBy (profileOf image m) b)) (bits-kept same image m)
+          ∙ note-kept memo 0 v i (placeOf image memo m) (λ z. omega (arith, z, place-positive (profileOf image m) (bitsOf image memo m)))
 
-  -- it is noted now, if it is that of all members with the profile and of that way
-  module _ (i k : ℕ) (m : Member) (r more : Bool) {after : List ℕ} (marked : Bool) (at : ℕ) (s : i < NOTED-CALLS) (p : profileOf image m ≡ Number k)
-      (a : at ≡ noteAt (wayOf rule image tree memo marked m) i k) (h : at < length memo) (value : r ≡ truth image m (childrenAt rule tree (argsOf calls i)))
-      (byte : after ≡ set memo at (byteOf more r))
-      (same : more ≡ false → (o : Member) → profileOf image o ≡ Number k → wayOf rule image tree memo marked o ≡ wayOf rule image tree memo marked m
-      → truth image m (childrenAt rule tree (argsOf calls i)) ≡ truth image o (childrenAt rule tree (argsOf calls i))) where
-    -- the marks stay
-    low : at < MARKS
-    low = omega (arith, a, profile-small image m k p, way-small rule image tree memo marked m)
+  -- an answer that was noted
+  pub asked-known : {i place x : ℕ} {m : Member} {r : Bool} → Placed image memo m place → x ≡ noteIn memo i place → x ≡ known r → Asked rule image tree calls i m memo memo r
+  asked-known {i} {r = r} p e f = record { value = sym (p .told rule tree calls n i r (sym e ∙ f)); notes = n; long = refl }
 
-    places-stay : placesIn after ≡ placesIn memo
-    places-stay = ap placesIn byte ∙ rows-kept memo at (byteOf more r) low
+  -- one that is noted now, as that of all members of this place
+  module _ (i place : ℕ) (m : Member) (r more : Bool) (p : Placed image memo m place) (s : i < NOTED-CALLS) (h : place + PROFILES * i < length memo)
+      (value : r ≡ truth image m (childrenAt rule tree (argsOf calls i))) (below : TellsBelow tree (argsOf calls i) m memo more) where
+    here-is : PlaceIs (profileOf image m) (bitsOf image memo m) place
+    here-is = place-is (profileOf image m) (bitsOf image memo m) place (p .is) (omega (arith, n .marks .few))
 
-    marks-stay : marksIn after ≡ marksIn memo
-    marks-stay = ap marksIn byte ∙ marks-kept memo at (byteOf more r) low
+    same : Kept memo (set memo (place + PROFILES * i) (byteOf more r))
+    same =
+        kept-set memo (place + PROFILES * i) (byteOf more r)
+        (omega (arith, here-is .is, here-is .few, profile-small image m (here-is .number) (here-is .profile-is)))
 
-    way-kept : (b : Bool) (o : Member) → wayOf rule image tree after b o ≡ wayOf rule image tree memo b o
-    unfolding wayOf
-    way-kept false o = refl
-    way-kept true o = ap (λ (places : List ℕ). bitsOf rule image tree places o + 1) places-stay
-
-    noted-here : (o : Member) (v : Bool) → profileOf image o ≡ Number k → wayOf rule image tree memo marked o ≡ wayOf rule image tree memo marked m → byteOf more r ≡ known v
+    -- another member with the same place has the same answer
+    other-noted : (o : Member) (v : Bool) → PlaceIs (profileOf image o) (bitsOf image memo o) place → byteOf more r ≡ known v
         → truth image o (childrenAt rule tree (argsOf calls i)) ≡ v
-    noted-here o v q w e =
-        let t = made more r v e in
-        sym (same (t .0) o q w) ∙ sym value ∙ t .1
+    other-noted o v q e =
+        let x = profile-small image m (here-is .number) (here-is .profile-is) in
+        let y = profile-small image o (q .number) (q .profile-is) in
+        let number : q .number ≡ here-is .number = omega (arith, here-is .is) in
+        let bits : bitsOf image memo m ≡ bitsOf image memo o = omega (arith, here-is .is) in
+        let t = byte-says more r v e in
+        sym (alike-has (n .marks) (n .settled) m o (here-is .number) (childrenAt rule tree (argsOf calls i)) (here-is .profile-is) (q .profile-is ∙ ap Number number) bits (here-is .few)
+        (told-rows rule tree memo m (argsOf calls i) (below .told rule (t .0))))
+        ∙ sym value
+        ∙ t .1
 
-    noted-all : (j l : ℕ) (b : Bool) (o : Member) (v : Bool) → j < NOTED-CALLS → profileOf image o ≡ Number l → getD after (noteAt (wayOf rule image tree memo b o) j l) 0 ≡ known v
+    noted-all : (j : ℕ) (o : Member) (v : Bool) → noteIn (set memo (place + PROFILES * i) (byteOf more r)) j (placeOf image memo o) ≡ known v
         → truth image o (childrenAt rule tree (argsOf calls j)) ≡ v
-    noted-all j l b o v u q e = whether (eqb (noteAt (wayOf rule image tree memo b o) j l) at) here there
+    noted-all j o v e = whether (eqb (placeOf image memo o + PROFILES * j) (place + PROFILES * i)) here there
       where
-        there : eqb (noteAt (wayOf rule image tree memo b o) j l) at ≡ false → truth image o (childrenAt rule tree (argsOf calls j)) ≡ v
+        there : eqb (placeOf image memo o + PROFILES * j) (place + PROFILES * i) ≡ false → truth image o (childrenAt rule tree (argsOf calls j)) ≡ v
         there t =
-            n .noted j l b o v u q
-            (sym (ap (λ (bytes : List ℕ). getD bytes (noteAt (wayOf rule image tree memo b o) j l) 0) byte
-            ∙ getD-set-other memo at (noteAt (wayOf rule image tree memo b o) j l) (byteOf more r) 0 (eqb-false (noteAt (wayOf rule image tree memo b o) j l) at t))
-            ∙ e)
+            n .noted j o v
+            (sym (note-kept memo (place + PROFILES * i) (byteOf more r) j (placeOf image memo o) (eqb-false (placeOf image memo o + PROFILES * j) (place + PROFILES * i) t)) ∙ e)
 
-        here : eqb (noteAt (wayOf rule image tree memo b o) j l) at ≡ true → truth image o (childrenAt rule tree (argsOf calls j)) ≡ v
-        here t =
-            let x : noteAt (wayOf rule image tree memo b o) j l ≡ noteAt (wayOf rule image tree memo marked m) i k = eqb-true (noteAt (wayOf rule image tree memo b o) j l) at t ∙ a in
-            let y = profile-small image m k p in
-            let z = profile-small image o l q in
-            let call : j ≡ i = omega arith in
-            let number : l ≡ k = omega arith in
-            let way : wayOf rule image tree memo b o ≡ wayOf rule image tree memo marked m = omega arith in
+        found : j < NOTED-CALLS → placeOf image memo o + PROFILES * j ≡ place + PROFILES * i → truth image o (childrenAt rule tree (argsOf calls j)) ≡ v
+        found u t =
+            let q = place-is (profileOf image o) (bitsOf image memo o) (placeOf image memo o) refl (omega (arith, n .marks .few)) in
+            let x = profile-small image m (here-is .number) (here-is .profile-is) in
+            let y = profile-small image o (q .number) (q .profile-is) in
+            let call : j ≡ i = same-call (bitsOf image memo o) (bitsOf image memo m) (q .number) (here-is .number) j i y x u s (omega (arith, here-is .is)) in
+            let at : placeOf image memo o ≡ place = omega arith in
             ap (λ (x : ℕ). truth image o (childrenAt rule tree (argsOf calls x))) call
-            ∙ noted-here o v (q ∙ ap Number number) (ap (λ (b : Bool). wayOf rule image tree memo b o) (sym (same-way rule image tree memo b marked o m way)) ∙ way)
-            (sym (ap (λ (bytes : List ℕ). getD bytes at 0) byte ∙ getD-set-same memo at (byteOf more r) 0 h)
-            ∙ sym (ap (λ (x : ℕ). getD after x 0) (eqb-true (noteAt (wayOf rule image tree memo b o) j l) at t))
+            ∙ other-noted o v (record { number = q .number; profile-is = q .profile-is; few = q .few; is = sym at ∙ q .is })
+            (sym (getD-set-same memo (place + PROFILES * i) (byteOf more r) 0 h)
+            ∙ ap (λ (x : ℕ). getD (set memo (place + PROFILES * i) (byteOf more r)) x 0) (sym t)
+            ∙ note-at (set memo (place + PROFILES * i) (byteOf more r)) j (placeOf image memo o) u
             ∙ e)
 
-    pub asked-noted : Asked rule image tree calls i m memo after r
-    asked-noted =
+        here : eqb (placeOf image memo o + PROFILES * j) (place + PROFILES * i) ≡ true → truth image o (childrenAt rule tree (argsOf calls j)) ≡ v
+        here t =
+            whether (ltb j NOTED-CALLS)
+            (λ u. found (ltb-true j NOTED-CALLS u) (eqb-true (placeOf image memo o + PROFILES * j) (place + PROFILES * i) t))
+            (λ u. absurd (not-known v (note-later (set memo (place + PROFILES * i) (byteOf more r)) j (placeOf image memo o) (ltb-false j NOTED-CALLS u) ∙ e)))
+
+    notes-noted : Notes rule image tree calls (set memo (place + PROFILES * i) (byteOf more r))
+    notes-noted =
         record {
-          value = value;
-          notes = record {
-            room = omega (arith, n .room, ap length byte, length-set memo at (byteOf more r));
-            marks = subst (λ (places : List ℕ). Marks rule image tree places (marksIn after)) (sym places-stay) (subst (Marks rule image tree (placesIn memo)) (sym marks-stay) (n .marks));
-            noted = λ j l b o v u q e. noted-all j l b o v u q (ap (λ (w : ℕ). getD after (noteAt w j l) 0) (sym (way-kept b o)) ∙ e);
-          };
-          long = ap length byte ∙ length-set memo at (byteOf more r);
+          room = omega (arith, n .room, same .long);
+          marks = marks-kept same (n .marks);
+          settled = λ e. n .settled (sym (getD-set-other memo (place + PROFILES * i) 0 (byteOf more r) 0 (λ z. omega (arith, here-is .is, z))) ∙ e);
+          noted = λ j o v e.
+              noted-all j o v
+              (ap (λ (b : ℕ). noteIn (set memo (place + PROFILES * i) (byteOf more r)) j (placeBy (profileOf image o) b)) (sym (bits-kept same image o)) ∙ e);
         }
 
-  -- by the profile alone
-  pub asked-plain : {i k : ℕ} {m : Member} {r more : Bool} {after : List ℕ} → i < NOTED-CALLS → profileOf image m ≡ Number k → more ≡ mentionsBelow m tree (argsOf calls i) → more ≡ false
-      → Noted rule image tree (argsOf calls i) m (PROFILES * i + k) memo after r → Asked rule image tree calls i m memo after r
-  unfolding wayOf
-  asked-plain {i} {k} {m} {r} s p e f d =
-      asked-noted i k m r false false (PROFILES * i + k) s p (omega arith) (omega (arith, n .room, profile-small image m k p)) (d .value) (d .byte)
-      (λ t o q w. alike image m o k (childrenAt rule tree (argsOf calls i)) p q (mentions-rows (asksMore m) rule tree (argsOf calls i) (sym e ∙ f)))
+  pub asked-noted : {i place : ℕ} {m : Member} {r : Bool} {after : List ℕ} → Placed image memo m place → r ≡ truth image m (childrenAt rule tree (argsOf calls i))
+      → Noted tree (argsOf calls i) m i place r memo after → Asked rule image tree calls i m memo after r
+  asked-noted p value (kept e) = record { value = value; notes = subst (Notes rule image tree calls) (sym e) n; long = ap length e }
+  asked-noted {i} {place} {m} {r} p value (made more s h below e) =
+      record {
+        value = value;
+        notes = subst (Notes rule image tree calls) (sym e) (notes-noted i place m r more p s h value below);
+        long = ap length e ∙ length-set memo (place + PROFILES * i) (byteOf more r);
+      }
 
-  -- noted as one that asks for more, it is still to be asked
-  module _ (i k : ℕ) (m : Member) (s : i < NOTED-CALLS) (p : profileOf image m ≡ Number k) where
-    pub notes-more : Notes rule image tree calls (set memo (PROFILES * i + k) NOT-TO-KNOW)
-    unfolding wayOf byteOf
-    notes-more =
-        asked-noted i k m (truth image m (childrenAt rule tree (argsOf calls i))) true false (PROFILES * i + k) s p (omega arith) (omega (arith, n .room, profile-small image m k p)) refl refl
-        (λ t. absurd (true≢false t)) .notes
+-- marks were made, and then the first byte written
+module _ {rule image tree memo : List ℕ} {n : ℕ} (w : Made rule image tree memo n) (v : ℕ) where
+  pub front-length : length (take (PLACES + n) (set memo 0 v)) ≡ PLACES + n
+  front-length = ap length (take-set-lt (PLACES + n) memo 0 v (omega arith)) ∙ length-set (take (PLACES + n) memo) 0 v ∙ made-length w
 
-  -- by the marks too
-  pub asked-marked : {i k bits : ℕ} {m : Member} {r : Bool} {after : List ℕ} → i < NOTED-CALLS → profileOf image m ≡ Number k → BitIs (bitsOf rule image tree (placesIn memo) m) (15 * NO-BITS) bits → bits < NO-BITS
-      → PLACES ≤ length memo → NotedMarked rule image tree (argsOf calls i) m (noteAt (bits + 1) i k) memo after r → Asked rule image tree calls i m memo after r
-  unfolding wayOf
-  asked-marked {i} {k} {bits} {m} {r} {after} s p b l h d =
-      asked-noted i k m r (d .more) true (noteAt (bits + 1) i k) s p (ap (λ (x : ℕ). noteAt (x + 1) i k) (b .so l)) (omega (arith, profile-small image m k p)) (d .value) (d .byte)
-      (λ t o q w. alike-has rule image tree (placesIn memo) m o k (childrenAt rule tree (argsOf calls i)) p q (omega (arith, w)) (n .marks .few) (told-rows rule tree (placesIn memo) m (argsOf calls i) (d .told .told rule t)))
+  pub front-settled : (calls : List ℕ) → (v ≡ SETTLED → ownersWired image ≡ true) → Notes rule image tree calls (take (PLACES + n) (set memo 0 v))
+  front-settled calls h = subst (Notes rule image tree calls) (sym (take-set-lt (PLACES + n) memo 0 v (omega arith))) (notes-settled (notes-front calls w) v h)

@@ -1,7 +1,8 @@
 // What is known of `has` before members are sent: for the first CALL_EXPR rows of a tree, in the memo, a block of marks each, one for each
 // component, and the number of the row. Which of these `has` are true of a member is a number, its bits.
 use crate::memo;
-use instance;
+use board::image;
+use board::image::Section;
 use marks;
 use predicate::atom::Member;
 use predicate::node;
@@ -10,10 +11,11 @@ use profile;
 use syntax::kind;
 ghost use mathlib.Core.Path.{_≡_};
 ghost use Prim.Native.Nat.{_+_, _*_, _≤_, _<_};
-ghost use lib.ListN.{length, getD, replicate};
+ghost use lib.ListN.{length, replicate};
+ghost use Rattle.board.specs.Image.{componentCount};
 ghost use Rattle.predicate.specs.Rows.{ROW};
-ghost use Rattle.marks.specs.Marks.{markOf};
-ghost use Rattle.eval.specs.Marked.{HASES, BLOCK, ROWS, NO-BITS, PLACES, MEMO, Marks, placesIn, marksIn, BitIs, MarkIs, bitAt, bitsOf, RowTold, TellsBelow, Made, MakesRow};
+ghost use Rattle.marks.specs.Marks.{marksOf, featureMarks};
+ghost use Rattle.eval.specs.Marked.{HASES, BLOCK, ROWS, MEMO, bitAt, bitsAt, bitsOf, RowTold, TellsBelow, FoundRow, Made, MakesRow};
 
 // How many CALL_EXPR rows have marks at most.
 const HASES: usize = 4;
@@ -24,9 +26,8 @@ const BLOCK: usize = 4096;
 // A row has marks only if its number is a byte.
 pub(crate) const ROWS: usize = 256;
 
-// Where the marks are in the memo, after the notes by profile and those for each of the bits; where the numbers of the rows are; and the
-// memo's bytes.
-const MARKS: usize = memo::WAY_NOTES * (NO_BITS + 1);
+// Where the marks are in the memo, after the notes for each of the bits; where the numbers of the rows are; and the memo's bytes.
+const MARKS: usize = 1 + memo::WAY_NOTES * NO_BITS;
 
 pub(crate) const PLACES: usize = MARKS + BLOCK * HASES;
 
@@ -35,85 +36,65 @@ pub(crate) const MEMO: usize = PLACES + HASES;
 // What is no bit, and above all bits.
 pub(crate) const NO_BITS: usize = 16;
 
-// Which of the marked `has` are true of a member, as bits; NO_BITS or more where its component has no mark.
-pub(crate) fn bits(rule: &[u8], image: &[u8], tree: &[u32], memo: &[u8], member: Member) -> usize
-    requires { ⌜ (PLACES ≤ length (now memo)) × Marks (now rule) (now image) (now tree) (placesIn (now memo)) (marksIn (now memo)) ⌝ }
-    ensures { λ r. ⌜ BitIs (bitsOf (now (rule .entry)) (now (image .entry)) (now (tree .entry)) (placesIn (now (memo .entry))) member) (15 * NO-BITS) r ⌝ }
-{
-    let places = &memo[PLACES..];
-    let marks = &memo[MARKS..PLACES];
-    let first = bit(rule, image, tree, places, marks, 0, member);
-    let second = bit(rule, image, tree, places, marks, 1, member);
-    let third = bit(rule, image, tree, places, marks, 2, member);
-    let fourth = bit(rule, image, tree, places, marks, 3, member);
-    first + 2 * second + 4 * third + 8 * fourth
-}
+// The highest mark by which a `has` is true of a component, and of a feature of it.
+const OF_COMPONENT: u8 = 2;
 
-// Whether the j-th marked `has` is true of a member: 1 or 0, or NO_BITS where its component has no mark.
-fn bit(
-    rule: &[u8],
-    image: &[u8],
-    tree: &[u32],
-    places: &[u8],
-    marks: &[u8],
-    j: usize,
-    member: Member,
-) -> usize
-    requires { ⌜ Marks (now rule) (now image) (now tree) (now places) (now marks) ⌝ }
-    ensures { λ r. ⌜ BitIs (bitAt (now (rule .entry)) (now (image .entry)) (now (tree .entry)) (now (places .entry)) j member) NO-BITS r ⌝ }
+const OF_FEATURE: u8 = 1;
+
+// Which of the marked `has` are true of a member, as bits; NO_BITS where its component has no marks.
+pub(crate) fn bits(image: &[u8], memo: &[u8], member: Member) -> usize
+    ensures { λ r. ⌜ r ≡ bitsOf (now (image .entry)) (now (memo .entry)) member ⌝ }
 {
-    if places.len() <= j {
+    if memo.len() <= PLACES {
         return 0;
     }
     match member {
-        Member::Component(component) => {
-            let mark = mark(marks, j, component);
-            if mark != 0 {
-                return mark;
-            }
-            let value = node::find_string_literal(rule, tree, row_of(places[j]));
-            one_if(instance::has_feature(image, component, value))
-        }
-        Member::Feature(component, _) => mark(marks, j, component),
+        Member::Component(component) => bits_at(image, memo, OF_COMPONENT, component),
+        Member::Feature(component, _) => bits_at(image, memo, OF_FEATURE, component),
         Member::Diagnostic(_) => 0,
     }
 }
 
-// The place of a row by its number.
-fn row_of(number: u8) -> usize
-    ensures { λ r. ⌜ r ≡ ROW * number ⌝ }
+// Those of a component's marks, up to the highest that counts.
+fn bits_at(image: &[u8], memo: &[u8], most: u8, component: u32) -> usize
+    ensures { λ r. ⌜ r ≡ bitsAt (now (image .entry)) (now (memo .entry)) most component ⌝ }
 {
-    rows::ROW * (number as usize)
-}
-
-// 1 for true, 0 for false.
-fn one_if(value: bool) -> usize
-    ensures { λ r. ⌜ r ≡ markOf value ⌝ }
-{
-    if value {
-        return 1;
+    if image::record_count(image, Section::Components) <= component {
+        return NO_BITS;
     }
-    0
-}
-
-// The mark of a component in the j-th block, or NO_BITS where it has none.
-fn mark(marks: &[u8], j: usize, component: u32) -> usize
-    requires { ⌜ BLOCK * (j + 1) ≤ length (now marks) ⌝ }
-    ensures { λ r. ⌜ MarkIs (now (marks .entry)) j component r ⌝ }
-{
     let place = component as usize;
     if BLOCK <= place {
         return NO_BITS;
     }
-    if marks[BLOCK * j + place] == 0 {
+    let first = bit(memo, most, place, 0);
+    let second = bit(memo, most, place, 1);
+    let third = bit(memo, most, place, 2);
+    let fourth = bit(memo, most, place, 3);
+    first + 2 * second + 4 * third + 8 * fourth
+}
+
+// Whether the j-th marked `has` is true by the mark at a place of its block, as 1 or 0.
+fn bit(memo: &[u8], most: u8, place: usize, j: usize) -> usize
+    requires { ⌜ (place < BLOCK) × (j < HASES) ⌝ }
+    ensures { λ r. ⌜ (r ≡ bitAt (now (memo .entry)) most place j) × (r ≤ 1) ⌝ }
+{
+    if memo.len() <= PLACES + j {
+        return 0;
+    }
+    let mark = memo[MARKS + BLOCK * j + place];
+    if mark == 0 {
+        return 0;
+    }
+    if most < mark {
         return 0;
     }
     1
 }
 
 // Whether a node inside the one whose row is at a place, at any depth, asks for more of a member than its profile and its bits.
-pub(crate) fn asks_below(tree: &[u32], at: usize, member: Member, places: &[u8]) -> bool
-    ensures { λ r. ⌜ TellsBelow (now (tree .entry)) at member (now (places .entry)) r ⌝ }
+pub(crate) fn asks_below(tree: &[u32], at: usize, member: Member, memo: &[u8]) -> bool
+    requires { ⌜ 0 < length (now memo) ⌝ }
+    ensures { λ r. ⌜ TellsBelow (now (tree .entry)) at member (now (memo .entry)) r ⌝ }
 {
     if tree.len() < rows::ROW {
         return true;
@@ -124,7 +105,7 @@ pub(crate) fn asks_below(tree: &[u32], at: usize, member: Member, places: &[u8])
     let level = tree[at + 1] as usize;
     let mut row = at + rows::ROW;
     while rows::is_below(tree, level, row) {
-        if !is_told(tree, row, member, places) {
+        if !is_told(tree, row, member, memo) {
             return true;
         }
         row += rows::ROW;
@@ -133,31 +114,39 @@ pub(crate) fn asks_below(tree: &[u32], at: usize, member: Member, places: &[u8])
 }
 
 // Whether the node whose row is at a place asks for no more of a member than its profile and its bits.
-fn is_told(tree: &[u32], row: usize, member: Member, places: &[u8]) -> bool
-    requires { ⌜ row + ROW ≤ length (now tree) ⌝ }
-    ensures { λ r. ⌜ RowTold (now (tree .entry)) row member (now (places .entry)) r ⌝ }
+fn is_told(tree: &[u32], row: usize, member: Member, memo: &[u8]) -> bool
+    requires { ⌜ (row + ROW ≤ length (now tree)) × (0 < length (now memo)) ⌝ }
+    ensures { λ r. ⌜ RowTold (now (tree .entry)) row member (now (memo .entry)) r ⌝ }
 {
-    if !profile::asks_more(member, tree[row]) {
+    let settled = memo[0] == memo::SETTLED;
+    if !profile::asks_more(member, settled, tree[row]) {
         return true;
     }
     if tree[row] != kind::CALL_EXPR {
         return false;
     }
-    place_of(places, row) < places.len()
+    find_row(memo, row) < memo.len()
 }
 
-// Which of the marked rows is at a place; their number where none is.
-fn place_of(places: &[u8], row: usize) -> usize
-    ensures { λ r. ⌜ (r < length (now (places .entry)) → ROW * getD (now (places .entry)) r 0 ≡ row) ⌝ }
+// Where the memo has the number of the row at a place; past the memo where it has not.
+fn find_row(memo: &[u8], row: usize) -> usize
+    ensures { λ r. ⌜ FoundRow (now (memo .entry)) row r ⌝ }
 {
-    let mut j = 0;
-    while j < places.len() {
-        if row_of(places[j]) == row {
-            return j;
+    let mut at = PLACES;
+    while at < memo.len() {
+        if row_of(memo[at]) == row {
+            return at;
         }
-        j += 1;
+        at += 1;
     }
-    j
+    at
+}
+
+// The place of a row by its number.
+fn row_of(number: u8) -> usize
+    ensures { λ r. ⌜ r ≡ ROW * number ⌝ }
+{
+    rows::ROW * (number as usize)
 }
 
 // Makes marks for the first CALL_EXPR rows of a tree in a memo in which nothing is noted, and gives the number of these rows: the memo's
@@ -188,7 +177,15 @@ fn make_block(rule: &[u8], image: &[u8], tree: &[u32], row: usize, n: usize, mem
     let value = node::find_string_literal(rule, tree, rows::ROW * row);
     let base = MARKS + BLOCK * n;
     let end = base + BLOCK;
-    marks::mark_properties(image, value, &mut memo[base..end]);
+    mark_block(image, value, &mut memo[base..end]);
+}
+
+// Marks the components that have the property that a text names, and the others that have a feature of which the text is the name.
+fn mark_block(image: &[u8], value: &[u8], block: &mut [u8])
+    ensures { λ _. ⌜ now (block .exit) ≡ featureMarks (now (image .entry)) (now (value .entry)) (componentCount (now (image .entry))) 0 (marksOf (now (image .entry)) (now (value .entry)) (length (now (block .entry)))) ⌝ }
+{
+    marks::mark_properties(image, value, block);
+    marks::mark_features(image, value, block);
 }
 
 // The number of the first CALL_EXPR row from a row on, or ROWS where no row below has marks.

@@ -12,6 +12,7 @@ use instance;
 use predicate::atom::Member;
 use predicate::node;
 use profile;
+use profile::Profile;
 use syntax::kind;
 use syntax::text;
 ghost use mathlib.Core.Path.{_≡_};
@@ -23,13 +24,16 @@ ghost use lib.Seq.{sets};
 ghost use Rattle.board.specs.Image.{componentCount, diagnosticCount};
 ghost use Rattle.board.specs.Check.{COLLECTION-ROW};
 ghost use Rattle.board.specs.WellFormed.{WellFormed, Room};
+ghost use Rattle.instance.specs.Instance.{ownersWired};
 ghost use Rattle.predicate.specs.Rows.{ROW, kindAt, childrenAt};
+ghost use Rattle.profile.specs.Profile.{profileOf};
 ghost use Rattle.meaning.specs.Value.{rowOf, wholeRows};
 ghost use Rattle.meaning.specs.Calls.{Where, keep, kept, upFrom, featuresOf};
 ghost use Rattle.meaning.specs.Pipeline.{isOfAnalysis};
 ghost use Rattle.meaning.specs.Walk.{isLast};
 ghost use Rattle.calls.specs.Table.{methodAt};
 ghost use Rattle.eval.specs.Ready.{CALL-ROW, callsIn, callsFrom, sourceMembers};
+ghost use Rattle.eval.specs.Marked.{SETTLED};
 ghost use Rattle.eval.specs.Memo.{argsOf, Notes};
 ghost use Rattle.eval.specs.Feed.{stateOf, begin, fed, decided, Decides, Fits, Stands, Arrives, Named, AnalysisOf, otherThan, IsFeatures, walked};
 
@@ -154,7 +158,8 @@ fn feed_noted(
     if is_marked(image, tree) {
         return feed_marked(rule, image, tree, calls, last, collection);
     }
-    let mut notes = [0u8; memo::WAY_NOTES];
+    let mut notes = [0u8; memo::PLAIN];
+    notes[0] = settle(image, calls);
     feed_each_component(rule, image, tree, calls, last, collection, &mut notes)
 }
 
@@ -180,6 +185,7 @@ fn feed_marked(
 {
     let mut notes = [0u8; marked::MEMO];
     let rows = marked::make_marks(rule, image, tree, &mut notes);
+    notes[0] = settle(image, calls);
     let end = marked::PLACES + rows;
     feed_each_component(
         rule,
@@ -190,6 +196,32 @@ fn feed_marked(
         collection,
         &mut notes[..end],
     )
+}
+
+// The first byte of the notes: where features are asked for, whether the owner of every connection is wired.
+fn settle(image: &[u8], calls: &[u32]) -> u8
+    ensures { λ r. ⌜ (r ≡ SETTLED → ownersWired (now (image .entry)) ≡ true) ⌝ }
+{
+    if !asks_features(calls) {
+        return 0;
+    }
+    if instance::owners_wired(image) {
+        return memo::SETTLED;
+    }
+    0
+}
+
+// Whether one of the calls is `features`.
+fn asks_features(calls: &[u32]) -> bool {
+    let count = calls.len() / ready::CALL_ROW;
+    let mut i = 0;
+    while i < count {
+        if calls[ready::CALL_ROW * i] as usize == method::FEATURES {
+            return true;
+        }
+        i += 1;
+    }
+    false
 }
 
 // Sends every component through the calls.
@@ -261,7 +293,7 @@ fn feed_component(
         );
     }
     let member = Member::Component(component);
-    let profile = profile::profile_of(image, member);
+    let profile = profile::component_profile(image, component);
     let step = step::step_of(calls, 0, memo::place_of(image, member, profile, notes), notes);
     if step::is_open(step) {
         return feed(
@@ -304,7 +336,7 @@ fn feed_diagnostics(
     ensures { λ r. ⌜ Stands (methodAt last) (stateOf r (now (collection .exit))) (fed (now (image .entry)) (callsFrom (now (rule .entry)) (now (tree .entry)) (now (calls .entry)) 0) (kept (isOfAnalysis (now (image .entry)) (now (name .entry))) (map Member.Diagnostic (upFrom 0 (diagnosticCount (now (image .entry)))))) (begin (now (collection .entry)))) ⌝ }
 {
     let count = image::record_count(image, Section::Diagnostics);
-    let mut notes = [0u8; memo::WAY_NOTES];
+    let mut notes = [0u8; memo::PLAIN];
     let mut tally = Tally {
         arrived: 0,
         passed: 0,
@@ -425,7 +457,7 @@ fn feed_diagnostic(
     ensures { λ r. ⌜ Stands (methodAt last) (stateOf r (now (collection .exit))) (fed (now (image .entry)) (callsFrom (now (rule .entry)) (now (tree .entry)) (now (calls .entry)) 0) (Member.Diagnostic diagnostic ∷ []) (stateOf tally (now (collection .entry)))) × Notes (now (rule .entry)) (now (image .entry)) (now (tree .entry)) (now (calls .entry)) (now (notes .exit)) ⌝ }
 {
     let member = Member::Diagnostic(diagnostic);
-    let profile = profile::profile_of(image, member);
+    let profile = profile::diagnostic_profile(image, diagnostic);
     let step = step::step_of(calls, 0, memo::place_of(image, member, profile, notes), notes);
     if step::is_open(step) {
         return feed(
@@ -537,6 +569,7 @@ fn feed_features(
     requires { ⌜ Fits (methodAt last) (now image) (callsFrom (now rule) (now tree) (now calls) (CALL-ROW * i)) (featuresOf (now image) component) (stateOf tally (now collection)) × Notes (now rule) (now image) (now tree) (now calls) (now notes) ⌝ }
     ensures { λ r. ⌜ Stands (methodAt last) (stateOf r (now (collection .exit))) (fed (now (image .entry)) (callsFrom (now (rule .entry)) (now (tree .entry)) (now (calls .entry)) (CALL-ROW * i)) (featuresOf (now (image .entry)) component) (stateOf tally (now (collection .entry)))) × Notes (now (rule .entry)) (now (image .entry)) (now (tree .entry)) (now (calls .entry)) (now (notes .exit)) ⌝ }
 {
+    let owner = profile::component_profile(image, component);
     let end = instance::features_end(image, component);
     let mut feature = image::field(image, Section::Components, component, image::FIRST_FEATURE);
     let mut tally = tally;
@@ -549,6 +582,7 @@ fn feed_features(
             last,
             i,
             component,
+            owner,
             feature,
             collection,
             notes,
@@ -562,7 +596,7 @@ fn feed_features(
     tally
 }
 
-// Sends one feature: as the notes tell, or by asking.
+// Sends one feature of a component with this profile: as the notes tell, or by asking.
 fn feed_feature(
     rule: &[u8],
     image: &[u8],
@@ -571,16 +605,17 @@ fn feed_feature(
     last: usize,
     i: usize,
     component: u32,
+    owner: Profile,
     feature: u32,
     collection: &mut [u32],
     notes: &mut [u8],
     tally: Tally,
 ) -> Tally
-    requires { ⌜ Fits (methodAt last) (now image) (callsFrom (now rule) (now tree) (now calls) (CALL-ROW * i)) (Member.Feature component feature ∷ []) (stateOf tally (now collection)) × Notes (now rule) (now image) (now tree) (now calls) (now notes) ⌝ }
+    requires { ⌜ Fits (methodAt last) (now image) (callsFrom (now rule) (now tree) (now calls) (CALL-ROW * i)) (Member.Feature component feature ∷ []) (stateOf tally (now collection)) × Notes (now rule) (now image) (now tree) (now calls) (now notes) × (owner ≡ profileOf (now image) (Member.Component component)) ⌝ }
     ensures { λ r. ⌜ Stands (methodAt last) (stateOf r (now (collection .exit))) (fed (now (image .entry)) (callsFrom (now (rule .entry)) (now (tree .entry)) (now (calls .entry)) (CALL-ROW * i)) (Member.Feature component feature ∷ []) (stateOf tally (now (collection .entry)))) × Notes (now (rule .entry)) (now (image .entry)) (now (tree .entry)) (now (calls .entry)) (now (notes .exit)) ⌝ }
 {
     let member = Member::Feature(component, feature);
-    let profile = profile::profile_of(image, member);
+    let profile = profile::feature_profile(image, owner, feature);
     let step = step::step_of(calls, i, memo::place_of(image, member, profile, notes), notes);
     if step::is_open(step) {
         return feed(

@@ -1,17 +1,18 @@
 -- What the numbers and texts read from an image say of its parts, and how far a loop has come in search of a record that passes a
 -- test: what is left decides as the whole does. Assumes nothing.
-use mathlib.Core.Path.{_≡_, sym, ap, _∙_}
-use mathlib.Core.Bool.{Bool, true, false}
+use mathlib.Core.Path.{_≡_, refl, sym, ap, _∙_}
+use mathlib.Core.Bool.{Bool, true, false, not, _||_, or-true, true≢false}
 use mathlib.Core.List.{List}
-use Prim.Native.Nat.{ℕ, suc, _+_, _-_, _≤_, _<_}
+use Prim.Native.Nat.{ℕ, zero, suc, _+_, _-_, _≤_, _<_}
 use native.Mathlib.Nat.{sub-zero}
 use native.Mathlib.Numerals.{add-one}
 use native.Mathlib.Omega.{arith}
-use borrow.Author.Tests.{eq-eqb, ne-eqb}
+use borrow.Author.Tests.{eq-eqb, ne-eqb, eqb-true, not-true, not-false}
 use lib.Dec.{eqb}
 use Rattle.syntax.specs.Text.{same}
-use Rattle.board.specs.Image.{text, parent, firstFeature, featuresOf, wired, featureCount, featureName, connectionCount, propertyCount}
-use Rattle.instance.specs.Instance.{some, componentConnected, endIs, joins, featureConnected, isProperty, hasProperty, featuresEnd, featureIs, hasFeature}
+use Rattle.syntax.proofs.BoolLaws.{whether}
+use Rattle.board.specs.Image.{text, parent, firstFeature, featuresOf, wired, featureCount, featureName, connectionCount, owner, propertyCount}
+use Rattle.instance.specs.Instance.{some, isWired, componentConnected, endIs, joins, featureConnected, ownerUnwired, ownersWired, isProperty, hasProperty, featuresEnd, featureIs, hasFeature}
 
 -- records are passed over up to n and none passes: whether some does is for those from n to `end` to say
 pub record Searching (passes : ℕ → Bool) (end n : ℕ) (whole : Bool) : Type 0 where
@@ -77,6 +78,56 @@ module _ (image : List ℕ) (component feature : ℕ) where
       → Searching (joins image component t) count 0 (featureConnected image component feature)
   unfolding featureConnected
   connections-start {r} {f} {count} {t} e h d g k = record { rest = rw (sym e ∙ h, ← d, ← g, ← k, sub-zero count) }
+
+-- ---- the owners of connections
+
+neither : (p q : Bool) → (p || q) ≡ false → (p ≡ false) × (q ≡ false)
+neither true q h = absurd (true≢false h)
+neither false q h = (refl, h)
+
+-- where no record passes one test, none passes a harder one
+some-none : (p q : ℕ → Bool) → ((n : ℕ) → p n ≡ false → q n ≡ false) → (n m : ℕ) → some p n m ≡ false → some q n m ≡ false
+unfolding some
+some-none p q harder n zero h = refl
+some-none p q harder n (suc m) h =
+    let t = neither (p n) (some p (suc n) m) h in
+    rw (harder n (t .0)) (some-none p q harder (suc n) m (t .1))
+
+module _ (image : List ℕ) where
+  -- the connections are searched for one whose owner is not wired
+  pub owners-start : {count : ℕ} → count ≡ connectionCount image → Searching (ownerUnwired image) count 0 (not (ownersWired image))
+  unfolding ownersWired
+  owners-start {count} e = record { rest = rw (← e, sub-zero count) (twice (some (ownerUnwired image) 0 count)) }
+    where
+      twice : (t : Bool) → t ≡ not (not t)
+      twice true = refl
+      twice false = refl
+
+  -- where its owner is wired, a connection joins no feature of a component that is not connected
+  none-joins : (component : ℕ) (name : List ℕ) → componentConnected image component ≡ false
+      → (n : ℕ) → ownerUnwired image n ≡ false → joins image component name n ≡ false
+  unfolding joins componentConnected
+  none-joins component name away n h =
+      whether (eqb (owner image n) component) (λ e. absurd (true≢false (sym (self (eqb-true (owner image n) component e)) ∙ away)))
+      (λ d. rw d (whether (eqb (owner image n + 1) (parent image component)) (λ e. absurd (true≢false (sym (above (eqb-true (owner image n + 1) (parent image component) e)) ∙ away))) (λ e. rw e)))
+    where
+      is-wired : isWired image (owner image n) ≡ true
+      is-wired = not-false (isWired image (owner image n)) h
+
+      self : owner image n ≡ component → componentConnected image component ≡ true
+      self e = rw (← e, is-wired)
+
+      above : owner image n + 1 ≡ parent image component → componentConnected image component ≡ true
+      above e =
+          let before : owner image n + 1 - 1 ≡ owner image n = omega arith in
+          rw (← e, ne-eqb (owner image n + 1) 0 (λ z. omega arith), before, is-wired) (or-true (isWired image component))
+
+  -- where the owner of every connection is wired, a feature is connected only with its component
+  pub connected-with-owner : ownersWired image ≡ true → (component feature : ℕ) → featureConnected image component feature ≡ componentConnected image component
+  unfolding ownersWired featureConnected
+  connected-with-owner h component feature =
+      whether (componentConnected image component) (λ e. rw e)
+      (λ e. rw (e, some-none (ownerUnwired image) (joins image component (text image (featureName image feature))) (none-joins component (text image (featureName image feature)) e) 0 (connectionCount image) (not-true (some (ownerUnwired image) 0 (connectionCount image)) h)))
 
 pub properties-start : (image : List ℕ) (component : ℕ) (set name : List ℕ) {count : ℕ} → count ≡ propertyCount image
     → Searching (isProperty image component set name) count 0 (hasProperty image component set name)

@@ -12,10 +12,10 @@ use lib.Dec.{eqb, eqb·suc-zero, eqb·suc-suc}
 use lib.ListN.{length, take, length-take}
 use lib.Seq.{getD-take}
 use Rattle.syntax.specs.Text.{same}
-use Rattle.board.specs.Image.{NUMBER-SIZE, littleEndian, word, field, sectionOffset, text, parent}
-use Rattle.board.specs.declared.image.Section.the-variants.{Connections, Features, Properties}
-use Rattle.instance.specs.Instance.{some, endIs, joins, isProperty, featureIs}
-use Rattle.instance.specs.Places.{RECORD-SIZE, SECOND, THIRD, otherOwner, joinsAt, isPropertyAt, featureIsAt, Skipped}
+use Rattle.board.specs.Image.{NUMBER-SIZE, littleEndian, word, field, sectionOffset, text, parent, wired, owner}
+use Rattle.board.specs.declared.image.Section.the-variants.{Components, Connections, Features, Properties}
+use Rattle.instance.specs.Instance.{some, endIs, joins, ownerUnwired, isProperty, featureIs}
+use Rattle.instance.specs.Places.{RECORD-SIZE, SECOND, THIRD, COMPONENT-SIZE, FIFTH, otherOwner, joinsAt, isPropertyAt, featureIsAt, Skipped}
 use Rattle.instance.proofs.InstanceLaws.{Searching, searching-hit, searching-miss, searching-done}
 
 -- a number that lies in an image's front is the image's
@@ -68,6 +68,19 @@ module _ (image : List ℕ) (component : ℕ) {p : ℕ} (e : p ≡ parent image 
   pub owner-self : p ≤ 0 → component ≡ otherOwner image component
   unfolding otherOwner
   owner-self h = rw (← e, eq-eqb p 0 (omega arith))
+
+-- the owner of a connection, whose mark was read at its place
+module _ (image : List ℕ) {connections components : ℕ} (e : connections ≡ sectionOffset image Connections) (f : components ≡ sectionOffset image Components) (n : ℕ)
+    {o w : ℕ} (g : o ≡ word image (connections + RECORD-SIZE * n)) (k : w ≡ word image (components + COMPONENT-SIZE * o + FIFTH)) where
+  owner-mark : w ≡ wired image (owner image n)
+  unfolding field
+  owner-mark = k ∙ rw (g, f, e, add-zero (sectionOffset image Connections + RECORD-SIZE * n))
+
+  pub owner-wired : w ≡ 1 → ownerUnwired image n ≡ false
+  owner-wired h = rw (← owner-mark, eq-eqb w 1 h)
+
+  pub owner-unwired : (w ≡ 1 → ⊥) → ownerUnwired image n ≡ true
+  owner-unwired h = rw (← owner-mark, ne-eqb w 1 h)
 
 -- a connection that is one of two components', and one that is another's
 pub record Owned (image : List ℕ) (component other at : ℕ) : Type 0 where

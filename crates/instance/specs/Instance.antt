@@ -40,6 +40,14 @@ unfolding componentConnected joins some
 featureConnected image component feature =
     componentConnected image component || some (joins image component (text image (featureName image feature))) 0 (connectionCount image)
 
+-- whether the owner of a connection is not wired, and whether that of every connection is
+abbrev pub ownerUnwired : List ℕ → ℕ → Bool
+ownerUnwired image connection = not (isWired image (owner image connection))
+
+unfoldable pub ownersWired : List ℕ → Bool
+unfolding some
+ownersWired image = not (some (ownerUnwired image) 0 (connectionCount image))
+
 -- whether a component has a property of this set and name
 unfoldable pub isProperty : List ℕ → ℕ → List ℕ → List ℕ → ℕ → Bool
 isProperty image component set name property =

@@ -20,6 +20,13 @@ SECOND = 4
 abbrev pub THIRD : ℕ
 THIRD = 8
 
+-- the bytes of a component, which has five numbers, and where the fifth of these is
+abbrev pub COMPONENT-SIZE : ℕ
+COMPONENT-SIZE = 20
+
+abbrev pub FIFTH : ℕ
+FIFTH = 16
+
 -- more than any place of a record: an offset and a number of records are below 2 ^ 32 each
 abbrev pub PLACES : ℕ
 PLACES = 0x1000000000

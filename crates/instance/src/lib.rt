@@ -5,7 +5,7 @@ use syntax::text;
 ghost use mathlib.Core.Path.{_≡_};
 ghost use Prim.Native.Nat.{_<_};
 ghost use lib.ListN.{take};
-ghost use Rattle.instance.specs.Instance.{componentConnected, endIs, featureConnected, hasProperty, featuresEnd, hasFeature};
+ghost use Rattle.instance.specs.Instance.{componentConnected, endIs, featureConnected, ownersWired, hasProperty, featuresEnd, hasFeature};
 ghost use Rattle.instance.specs.Places.{PLACES, otherOwner, joinsAt, isPropertyAt, featureIsAt, Skipped};
 
 // The mark of a component that is wired.
@@ -17,6 +17,11 @@ const RECORD_SIZE: usize = 12;
 const SECOND: usize = 4;
 
 const THIRD: usize = 8;
+
+// The bytes of a component, which has five numbers, and where the fifth of these is.
+const COMPONENT_SIZE: usize = 20;
+
+const FIFTH: usize = 16;
 
 // Whether a component or its parent is wired.
 pub fn component_connected(image: &[u8], component: u32) -> bool
@@ -58,6 +63,24 @@ pub fn feature_connected(image: &[u8], component: u32, feature: u32) -> bool
         at = here + RECORD_SIZE;
     }
     false
+}
+
+// Whether the owner of every connection is wired: then a feature is connected where its component is, and nowhere else.
+pub fn owners_wired(image: &[u8]) -> bool
+    ensures { λ r. ⌜ r ≡ ownersWired (now (image .entry)) ⌝ }
+{
+    let connections = image::section_offset(image, Section::Connections) as usize;
+    let components = image::section_offset(image, Section::Components) as usize;
+    let count = image::record_count(image, Section::Connections) as usize;
+    let mut n = 0;
+    while n < count {
+        let owner = image::word(image, connections + RECORD_SIZE * n) as usize;
+        if image::word(image, components + COMPONENT_SIZE * owner + FIFTH) != WIRED {
+            return false;
+        }
+        n += 1;
+    }
+    true
 }
 
 // The parent of a component, which may own its connections too; the component itself where it has none.

@@ -1,12 +1,13 @@
--- Which components have a property, as a mark for each. Assumes nothing: these are definitions.
+-- Which components have a property or a feature of a name, as a mark for each. Assumes nothing: these are definitions.
 use Prim.Native.Nat.{ℕ, zero, suc}
 use mathlib.Core.Bool.{Bool, true, false, _&&_, cond}
 use mathlib.Core.List.{List, [], _∷_}
-use lib.ListN.{set}
+use lib.Dec.{eqb, ltb}
+use lib.ListN.{getD, set}
 use Rattle.syntax.specs.Text.{same}
 use Rattle.board.specs.Image.{text, propertyComponent, propertySet, propertyName}
 use Rattle.matching.specs.Search.{propertySetOf, propertyNameOf}
-use Rattle.instance.specs.Instance.{hasProperty}
+use Rattle.instance.specs.Instance.{hasProperty, hasFeature}
 
 -- the mark of what is true, and of what is not
 abbrev pub markOf : Bool → ℕ
@@ -31,3 +32,21 @@ isNamed image set name property = same (text image (propertySet image property))
 unfoldable pub marked : List ℕ → List ℕ → List ℕ → ℕ → List ℕ → List ℕ
 unfolding isNamed
 marked image setName name property marks = cond (isNamed image setName name property) (set marks (propertyComponent image property) 1) marks
+
+-- the mark of component c once n components were looked at for a feature of a name: 2 where it was 0 and c has one
+unfoldable pub featureMark : List ℕ → List ℕ → ℕ → ℕ → ℕ → ℕ
+featureMark image name n c mark = cond (ltb c n && (eqb mark 0 && hasFeature image c name)) 2 mark
+
+-- the marks of the components from one on
+unfoldable pub featureMarks : List ℕ → List ℕ → ℕ → ℕ → List ℕ → List ℕ
+unfolding featureMark
+featureMarks image name n c [] = []
+featureMarks image name n c (mark ∷ marks) = featureMark image name n c mark ∷ featureMarks image name n (suc c) marks
+
+-- the marks once one component was looked at
+unfoldable pub featured : List ℕ → List ℕ → ℕ → List ℕ → List ℕ
+featured image name c marks = cond (eqb (getD marks c 0) 0 && hasFeature image c name) (set marks c 2) marks
+
+-- the mark of a component by whether it has the property that a text names, and a feature of which the text is the name
+abbrev pub markBy : Bool → Bool → ℕ
+markBy property feature = cond property 1 (cond feature 2 0)

@@ -1,13 +1,20 @@
-// Which components have a property, as a mark for each: one pass over the properties, where `instance::has_property` takes one for each
-// component. Any image, text and slice of marks is taken.
+// Which components have a property or a feature of a name, as a mark for each: one pass over the properties, where
+// `instance::has_property` takes one for each component. Any image, text and slice of marks is taken.
 use board::image;
 use board::image::Section;
+use instance;
 use matching::search;
 use matching::search::Found;
 use syntax::text;
 ghost use mathlib.Core.Path.{_≡_};
 ghost use lib.ListN.{length, replicate};
-ghost use Rattle.marks.specs.Marks.{isNamed, propertyMarks, marked, marksOf};
+ghost use Rattle.board.specs.Image.{componentCount};
+ghost use Rattle.marks.specs.Marks.{isNamed, propertyMarks, marked, marksOf, featured, featureMarks};
+
+// The mark of a component that has the property, and of another that has the feature.
+const OF_PROPERTY: u8 = 1;
+
+const OF_FEATURE: u8 = 2;
 
 // Marks the components that have the property that a text names: its set and its name, parted by the first `::`.
 pub fn mark_properties(image: &[u8], value: &[u8], marks: &mut [u8])
@@ -20,6 +27,34 @@ pub fn mark_properties(image: &[u8], value: &[u8], marks: &mut [u8])
     };
     let past = at + 2;
     mark_named(image, &value[..at], &value[past..], marks);
+}
+
+// Marks the components that have no mark yet and have a feature of this name.
+pub fn mark_features(image: &[u8], name: &[u8], marks: &mut [u8])
+    ensures { λ _. ⌜ now (marks .exit) ≡ featureMarks (now (image .entry)) (now (name .entry)) (componentCount (now (image .entry))) 0 (now (marks .entry)) ⌝ }
+{
+    let count = image::record_count(image, Section::Components);
+    let mut component = 0;
+    while component < count {
+        mark_feature(image, name, component, marks);
+        component += 1;
+    }
+}
+
+// Marks a component if it has no mark yet and has a feature of this name.
+fn mark_feature(image: &[u8], name: &[u8], component: u32, marks: &mut [u8])
+    ensures { λ _. ⌜ now (marks .exit) ≡ featured (now (image .entry)) (now (name .entry)) component (now (marks .entry)) ⌝ }
+{
+    let place = component as usize;
+    if marks.len() <= place {
+        return;
+    }
+    if marks[place] != 0 {
+        return;
+    }
+    if instance::has_feature(image, component, name) {
+        marks[place] = OF_FEATURE;
+    }
 }
 
 // Marks those that have a property of this set and name.
@@ -60,7 +95,7 @@ fn mark_owner(image: &[u8], set: &[u8], name: &[u8], property: u32, marks: &mut 
         image::PROPERTY_COMPONENT,
     ) as usize;
     if owner < marks.len() {
-        marks[owner] = 1;
+        marks[owner] = OF_PROPERTY;
     }
 }
 

@@ -1,20 +1,20 @@
-// Members that are alike: what most predicates ask of a member is one of a few hundred numbers, its profile; and whether a predicate
-// asks for more. Any image, member and tree rows are taken.
+// Members that are alike: what most predicates ask of a member is one of some thousand numbers, its profile; and whether a node of a
+// predicate asks for more. Any image, member and profile is taken.
 use board::image;
 use board::image::Section;
 use instance;
 use predicate::atom::Member;
-use predicate::rows;
 use syntax::kind;
 ghost use mathlib.Core.Path.{_≡_};
-ghost use Rattle.profile.specs.Profile.{ofComponent, ofFeature, ofDiagnostic, profileOf, asksMore, mentionsBelow};
+ghost use Rattle.board.specs.Image.{featureKind, direction};
+ghost use Rattle.profile.specs.Profile.{ofComponent, ofFeature, ofDiagnostic, profileOf, asksMore};
 
 // The first profiles of features and of diagnostics, after those of components, and how many there are in all.
 pub const FIRST_OF_FEATURES: usize = 28;
 
-pub const FIRST_OF_DIAGNOSTICS: usize = 588;
+pub const FIRST_OF_DIAGNOSTICS: usize = 1148;
 
-pub const PROFILES: usize = 591;
+pub const PROFILES: usize = 1151;
 
 // The profile of a member; unknown where one of its fields has no such value.
 pub enum Profile {
@@ -27,24 +27,41 @@ pub fn profile_of(image: &[u8], member: Member) -> Profile
     ensures { λ r. ⌜ r ≡ profileOf (now (image .entry)) member ⌝ }
 {
     match member {
-        Member::Component(component) => {
-            let category = image::field(image, Section::Components, component, image::CATEGORY);
-            of_component(category, instance::component_connected(image, component))
-        }
+        Member::Component(component) => component_profile(image, component),
         Member::Feature(component, feature) => {
-            let category = image::field(image, Section::Components, component, image::CATEGORY);
-            let kind = image::field(image, Section::Features, feature, image::FEATURE_KIND);
-            let direction = image::field(image, Section::Features, feature, image::DIRECTION);
-            of_feature(category, kind, direction)
+            let owner = component_profile(image, component);
+            feature_profile(image, owner, feature)
         }
-        Member::Diagnostic(diagnostic) => {
-            of_diagnostic(image::field(image, Section::Diagnostics, diagnostic, image::SEVERITY))
-        }
+        Member::Diagnostic(diagnostic) => diagnostic_profile(image, diagnostic),
     }
 }
 
 // That of a component.
-pub fn of_component(category: u32, connected: bool) -> Profile
+pub fn component_profile(image: &[u8], component: u32) -> Profile
+    ensures { λ r. ⌜ r ≡ profileOf (now (image .entry)) (Member.Component component) ⌝ }
+{
+    let category = image::field(image, Section::Components, component, image::CATEGORY);
+    of_component(category, instance::component_connected(image, component))
+}
+
+// That of a feature, by its owner's.
+pub fn feature_profile(image: &[u8], owner: Profile, feature: u32) -> Profile
+    ensures { λ r. ⌜ r ≡ ofFeature owner (featureKind (now (image .entry)) feature) (direction (now (image .entry)) feature) ⌝ }
+{
+    let kind = image::field(image, Section::Features, feature, image::FEATURE_KIND);
+    let direction = image::field(image, Section::Features, feature, image::DIRECTION);
+    of_feature(owner, kind, direction)
+}
+
+// That of a diagnostic.
+pub fn diagnostic_profile(image: &[u8], diagnostic: u32) -> Profile
+    ensures { λ r. ⌜ r ≡ profileOf (now (image .entry)) (Member.Diagnostic diagnostic) ⌝ }
+{
+    of_diagnostic(image::field(image, Section::Diagnostics, diagnostic, image::SEVERITY))
+}
+
+// The profile by a component's category and whether it is connected.
+fn of_component(category: u32, connected: bool) -> Profile
     ensures { λ r. ⌜ r ≡ ofComponent category connected ⌝ }
 {
     if board::CATEGORIES <= category {
@@ -56,11 +73,14 @@ pub fn of_component(category: u32, connected: bool) -> Profile
     Profile::Number(2 * (category as usize))
 }
 
-// That of a feature of a component of a category.
-pub fn of_feature(category: u32, kind: u32, direction: u32) -> Profile
-    ensures { λ r. ⌜ r ≡ ofFeature category kind direction ⌝ }
+// By the profile of a feature's owner, its kind and its direction.
+fn of_feature(owner: Profile, kind: u32, direction: u32) -> Profile
+    ensures { λ r. ⌜ r ≡ ofFeature owner kind direction ⌝ }
 {
-    if board::CATEGORIES <= category {
+    let Profile::Number(k) = owner else {
+        return Profile::Unknown;
+    };
+    if FIRST_OF_FEATURES <= k {
         return Profile::Unknown;
     }
     if board::FEATURE_KINDS <= kind {
@@ -69,12 +89,12 @@ pub fn of_feature(category: u32, kind: u32, direction: u32) -> Profile
     if board::DIRECTIONS <= direction {
         return Profile::Unknown;
     }
-    let number = (category * board::FEATURE_KINDS + kind) * board::DIRECTIONS + direction;
-    Profile::Number(FIRST_OF_FEATURES + number as usize)
+    let kinds = k * (board::FEATURE_KINDS as usize) + kind as usize;
+    Profile::Number(FIRST_OF_FEATURES + (kinds * (board::DIRECTIONS as usize) + direction as usize))
 }
 
-// That of a diagnostic.
-pub fn of_diagnostic(severity: u32) -> Profile
+// By a diagnostic's severity.
+fn of_diagnostic(severity: u32) -> Profile
     ensures { λ r. ⌜ r ≡ ofDiagnostic severity ⌝ }
 {
     if board::SEVERITIES <= severity {
@@ -83,35 +103,17 @@ pub fn of_diagnostic(severity: u32) -> Profile
     Profile::Number(FIRST_OF_DIAGNOSTICS + severity as usize)
 }
 
-// Whether a node inside the one whose row is at a place, at any depth, asks for more than the profile of a member.
-pub fn mentions_below(tree: &[u32], at: usize, member: Member) -> bool
-    ensures { λ r. ⌜ r ≡ mentionsBelow member (now (tree .entry)) at ⌝ }
-{
-    if tree.len() < rows::ROW {
-        return false;
-    }
-    if tree.len() - rows::ROW < at {
-        return false;
-    }
-    let level = tree[at + 1] as usize;
-    let mut row = at + rows::ROW;
-    while rows::is_below(tree, level, row) {
-        if asks_more(member, tree[row]) {
-            return true;
-        }
-        row += rows::ROW;
-    }
-    false
-}
-
-// Whether a node of a kind asks for more than the profile of a member: `has` of a component and of a feature, `connected` of a feature,
-// `message.contains` of a diagnostic.
-pub fn asks_more(member: Member, kind: u32) -> bool
-    ensures { λ r. ⌜ r ≡ asksMore member kind ⌝ }
+// Whether a node of a kind asks for more than the profile of a member: `has` of a component and of a feature, `message.contains` of a
+// diagnostic; and `connected` of a feature, unless it is settled that features are connected only with their components.
+pub fn asks_more(member: Member, settled: bool, kind: u32) -> bool
+    ensures { λ r. ⌜ r ≡ asksMore member settled kind ⌝ }
 {
     match member {
         Member::Component(_) => kind == kind::CALL_EXPR,
         Member::Feature(_, _) => {
+            if settled {
+                return kind == kind::CALL_EXPR;
+            }
             if kind == kind::CALL_EXPR {
                 return true;
             }

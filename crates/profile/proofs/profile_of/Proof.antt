@@ -1,5 +1,8 @@
 -- `profile_of` gives `profileOf`, by the sort of member. Assumes nothing.
+use mathlib.Core.Path.{sym, ap, _∙_}
+use denote.Ref.{now}
 use Rattle.profile.specs.Profile.{profileOf}
+use Rattle.profile.proofs.ProfileLaws.{feature-profile}
 use borrow.Author.Needs.{needs}
 use Rattle.profile.proofs.profile_of.Statement.{statement}
 use Rattle.profile.proofs.profile_of.Tie as tie
@@ -7,67 +10,44 @@ use Rattle.profile.proofs.profile_of.Tie as tie
 enum-known-member : tie.Need-enum-known-member
 enum-known-member c = search needs
 
-field-requires : tie.Need-field-requires
-field-requires c κs = search needs
-
-component-connected-requires : tie.Need-component-connected-requires
-component-connected-requires c κs = search needs
-
-of-component-requires : tie.Need-of-component-requires
-of-component-requires c κs = search needs
+component-profile-requires : tie.Need-component-profile-requires
+component-profile-requires c κs = search needs
 
 enum-known-member-2 : tie.Need-enum-known-member-2
 enum-known-member-2 c = search needs
 
-field-requires-2 : tie.Need-field-requires-2
-field-requires-2 c κs = search needs
+component-profile-requires-2 : tie.Need-component-profile-requires-2
+component-profile-requires-2 c κs = search needs
 
-field-requires-3 : tie.Need-field-requires-3
-field-requires-3 c κs = search needs
-
-field-requires-4 : tie.Need-field-requires-4
-field-requires-4 c κs = search needs
-
-of-feature-requires : tie.Need-of-feature-requires
-of-feature-requires c κs = search needs
+feature-profile-requires : tie.Need-feature-profile-requires
+feature-profile-requires c κs = search needs
 
 enum-known-member-3 : tie.Need-enum-known-member-3
 enum-known-member-3 c = search needs
 
-field-requires-5 : tie.Need-field-requires-5
-field-requires-5 c κs = search needs
-
-of-diagnostic-requires : tie.Need-of-diagnostic-requires
-of-diagnostic-requires c κs = search needs
+diagnostic-profile-requires : tie.Need-diagnostic-profile-requires
+diagnostic-profile-requires c κs = search needs
 
 returns : tie.Need-returns
-unfolding profileOf
-returns c = rw (c .before .before .before .before .member .given .1, ← c .before .before .field .ensures, ← c .before .component-connected .ensures) (c .of-component .ensures)
+returns c = c .component-profile .ensures ∙ sym (ap (profileOf (now (c .before .before .before .before .before .args .image))) (c .before .before .member .given .1))
 
 returns-2 : tie.Need-returns-2
-unfolding profileOf
-returns-2 c = rw (c .before .before .before .before .before .member2 .given .1, ← c .before .before .before .field2 .ensures, ← c .before .before .field3 .ensures, ← c .before .field4 .ensures) (c .of-feature .ensures)
+returns-2 c = feature-profile _ _ _ (c .before .component-profile2 .ensures) (c .feature-profile .ensures) ∙ sym (ap (profileOf (now (c .before .before .before .before .before .before .args .image))) (c .before .before .before .member2 .given .1))
 
 returns-3 : tie.Need-returns-3
-unfolding profileOf
-returns-3 c = rw (c .before .before .before .member3 .given .1, ← c .before .field5 .ensures) (c .of-diagnostic .ensures)
+returns-3 c = c .diagnostic-profile .ensures ∙ sym (ap (profileOf (now (c .before .before .before .before .before .args .image))) (c .before .before .member3 .given .1))
 
 pub profile-of-spec : {M : Type 1} → statement M
 profile-of-spec =
     tie.close
     (tie.spec
     enum-known-member
-    field-requires
-    component-connected-requires
-    of-component-requires
+    component-profile-requires
     enum-known-member-2
-    field-requires-2
-    field-requires-3
-    field-requires-4
-    of-feature-requires
+    component-profile-requires-2
+    feature-profile-requires
     enum-known-member-3
-    field-requires-5
-    of-diagnostic-requires
+    diagnostic-profile-requires
     returns
     returns-2
     returns-3)

@@ -10,10 +10,10 @@ use Rattle.eval.proofs.marked.asks_below.Statement.{statement}
 use Rattle.eval.proofs.marked.asks_below.Tie as tie
 
 abbrev Inv-loop : tie.InvT-loop
-Inv-loop tree at member places level row₀ row = Telling tree at member places level row
+Inv-loop tree at member memo level row₀ row = Telling tree at member memo level row
 
 abbrev μ-loop : tie.MeasureT-loop
-μ-loop tree at member places level row₀ row = length tree - row
+μ-loop tree at member memo level row₀ row = length tree - row
 
 returns : tie.Need-returns Inv-loop μ-loop
 returns c = tells-more
@@ -46,7 +46,7 @@ is-below-requires : tie.Need-is-below-requires Inv-loop μ-loop
 is-below-requires c κs = tt
 
 is-told-requires : tie.Need-is-told-requires Inv-loop μ-loop
-is-told-requires c κs = row-there _ _ (below-row _ _ _ (sym (c .before .is-below .ensures) ∙ c .if3 .taken) .0)
+is-told-requires c κs = (row-there _ _ (below-row _ _ _ (sym (c .before .is-below .ensures) ∙ c .if3 .taken) .0), c .before .before .before .before .before .before .before .before .pre)
 
 returns-3 : tie.Need-returns-3 Inv-loop μ-loop
 returns-3 c = tells-more

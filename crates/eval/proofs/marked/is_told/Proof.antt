@@ -1,8 +1,11 @@
--- `is_told` goes by the kind of the row, and looks for a `has` among the places. Assumes nothing.
+-- `is_told` goes by the kind of the row, and looks for a `has` among the rows of the memo. Assumes nothing.
 use Rattle.eval.proofs.MarkedLaws.{row-plain, row-untold, row-marked}
 use borrow.Author.Needs.{needs}
 use Rattle.eval.proofs.marked.is_told.Statement.{statement}
 use Rattle.eval.proofs.marked.is_told.Tie as tie
+
+shared-slice-read-settled : tie.Need-shared-slice-read-settled
+shared-slice-read-settled c = search needs
 
 mul-asks-more : tie.Need-mul-asks-more
 mul-asks-more c = search needs
@@ -25,16 +28,17 @@ shared-slice-read-if2 c = search needs
 returns-2 : tie.Need-returns-2
 returns-2 c = row-untold
 
-place-of-requires : tie.Need-place-of-requires
-place-of-requires c κs = search needs
+find-row-requires : tie.Need-find-row-requires
+find-row-requires c κs = search needs
 
 returns-3 : tie.Need-returns-3
-returns-3 c = row-marked (c .before .if2 .left) (c .place-of .ensures)
+returns-3 c = row-marked (c .before .if2 .left) (c .find-row .ensures)
 
 pub is-told-spec : {M : Type 1} → statement M
 is-told-spec =
     tie.close
     (tie.spec
+    shared-slice-read-settled
     mul-asks-more
     shared-slice-read-asks-more
     asks-more-requires
@@ -42,5 +46,5 @@ is-told-spec =
     mul-if2
     shared-slice-read-if2
     returns-2
-    place-of-requires
+    find-row-requires
     returns-3)

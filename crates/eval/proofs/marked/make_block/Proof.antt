@@ -35,23 +35,23 @@ add-base c = search needs
 add-end : tie.Need-add-end
 add-end c = search needs
 
-sub-mark-properties : tie.Need-sub-mark-properties
-sub-mark-properties c = search needs
+sub-mark-block : tie.Need-sub-mark-block
+sub-mark-block c = search needs
 
-part-mark-properties-start : tie.Need-part-mark-properties-start
-part-mark-properties-start c = search needs
+part-mark-block-start : tie.Need-part-mark-block-start
+part-mark-block-start c = search needs
 
-part-mark-properties-end : tie.Need-part-mark-properties-end
-part-mark-properties-end c = simp length-set (omega (arith, c .before .before .before .before .before .pre))
+part-mark-block-end : tie.Need-part-mark-block-end
+part-mark-block-end c = simp length-set (omega (arith, c .before .before .before .before .before .pre))
 
-mark-properties-requires : tie.Need-mark-properties-requires
-mark-properties-requires c κs = search needs
+mark-block-requires : tie.Need-mark-block-requires
+mark-block-requires c κs = search needs
 
 same-length : tie.Need-same-length
-same-length c = same-len-mid {X = ℕ} (MARKS + BLOCK * c .before .before .before .before .before .before .before .before .before .args .n) (MARKS + BLOCK * c .before .before .before .before .before .before .before .before .before .args .n + BLOCK - (MARKS + BLOCK * c .before .before .before .before .before .before .before .before .before .args .n)) (set (now (c .before .before .before .before .before .before .before .before .before .args .memo)) (PLACES + c .before .before .before .before .before .before .before .before .before .args .n) (c .before .before .before .before .before .before .before .before .before .args .row)) (c .before .before .mark-properties .last .1 .1 .0) (c .before .before .mark-properties .kept .1 .1 .0) ∙ length-set (now (c .before .before .before .before .before .before .before .before .before .args .memo)) (PLACES + c .before .before .before .before .before .before .before .before .before .args .n) (c .before .before .before .before .before .before .before .before .before .args .row)
+same-length c = same-len-mid {X = ℕ} (MARKS + BLOCK * c .before .before .before .before .before .before .before .before .before .args .n) (MARKS + BLOCK * c .before .before .before .before .before .before .before .before .before .args .n + BLOCK - (MARKS + BLOCK * c .before .before .before .before .before .before .before .before .before .args .n)) (set (now (c .before .before .before .before .before .before .before .before .before .args .memo)) (PLACES + c .before .before .before .before .before .before .before .before .before .args .n) (c .before .before .before .before .before .before .before .before .before .args .row)) (c .before .before .mark-block .last .1 .1 .0) (c .before .before .mark-block .kept .1 .1 .0) ∙ length-set (now (c .before .before .before .before .before .before .before .before .before .args .memo)) (PLACES + c .before .before .before .before .before .before .before .before .before .args .n) (c .before .before .before .before .before .before .before .before .before .args .row)
 
 returns : tie.Need-returns
-returns c = makes-row _ _ _ _ _ _ (c .before .before .before .before .before .before .before .before .before .pre .1) (c .before .before .before .before .before .before .before .before .before .pre .2) (c .before .before .before .before .find-string-literal .ensures) (c .before .before .mark-properties .ensures) (simp (length-take, length-drop, length-set) (omega (arith, c .before .before .before .before .before .before .before .before .before .pre)))
+returns c = makes-row _ _ _ _ _ _ (c .before .before .before .before .before .before .before .before .before .pre .1) (c .before .before .before .before .before .before .before .before .before .pre .2) (c .before .before .before .before .find-string-literal .ensures) (c .before .before .mark-block .ensures) (simp (length-take, length-drop, length-set) (omega (arith, c .before .before .before .before .before .before .before .before .before .pre)))
 
 pub make-block-spec : {M : Type 1} → statement M
 make-block-spec =
@@ -65,9 +65,9 @@ make-block-spec =
     mul-base
     add-base
     add-end
-    sub-mark-properties
-    part-mark-properties-start
-    part-mark-properties-end
-    mark-properties-requires
+    sub-mark-block
+    part-mark-block-start
+    part-mark-block-end
+    mark-block-requires
     same-length
     returns)

@@ -1,14 +1,9 @@
 -- `memo::ask` gives the truth of the predicate, and what is noted stays true. Assumes nothing.
-use denote.Ref.{now}
-use mathlib.Core.Path.{sym, _∙_}
+use mathlib.Core.Path.{sym}
 use Prim.Native.Nat.{_+_, _*_}
 use native.Mathlib.Omega.{arith}
-use lib.ListN.{length-set}
-use Rattle.profile.specs.Profile.{PROFILES}
-use Rattle.profile.proofs.ProfileLaws.{profile-small}
 use Rattle.eval.specs.Ready.{CALL-ROW}
-use Rattle.eval.specs.Memo.{NOT-TO-KNOW}
-use Rattle.eval.proofs.MemoLaws.{known-plain, asked-plain, notes-more, asked-after}
+use Rattle.eval.proofs.MemoLaws.{asked-known, asked-noted}
 use borrow.Author.Needs.{needs}
 use Rattle.eval.proofs.memo.ask.Statement.{statement}
 use Rattle.eval.proofs.memo.ask.Tie as tie
@@ -31,71 +26,41 @@ cast-args c = omega (arith, c .shared-slice-known5 .given (CALL-ROW * c .before 
 profile-of-requires : tie.Need-profile-of-requires
 profile-of-requires c κs = search needs
 
-enum-known-found : tie.Need-enum-known-found
-enum-known-found c = search needs
+place-of-requires : tie.Need-place-of-requires
+place-of-requires c κs = sym (c .before .profile-of .ensures)
 
-enum-told : tie.Need-enum-told
-enum-told c = search needs
-
-eval-args-requires : tie.Need-eval-args-requires
-eval-args-requires c κs = search needs
-
-returns : tie.Need-returns
-returns c = search needs
-
-eval-args-requires-2 : tie.Need-eval-args-requires-2
-eval-args-requires-2 c κs = search needs
-
-returns-2 : tie.Need-returns-2
-returns-2 c = search needs
-
-mul-at : tie.Need-mul-at
-mul-at c = search needs
-
-add-at : tie.Need-add-at
-add-at c = omega (arith, profile-small _ (c .before .before .before .before .before .before .before .before .before .before .before .args .member) _ (sym (c .before .before .before .before .profile-of .ensures) ∙ c .before .before .found .given .1))
-
-slice-read-known : tie.Need-slice-read-known
-slice-read-known c = omega (arith, c .before .if1 .left, c .before .before .before .before .before .before .before .before .before .before .before .before .pre .1 .room, profile-small _ (c .before .before .before .before .before .before .before .before .before .before .before .before .args .member) _ (sym (c .before .before .before .before .before .profile-of .ensures) ∙ c .before .before .before .found .given .1))
-
-returns-3 : tie.Need-returns-3
-returns-3 c = known-plain (c .before .before .before .before .before .before .before .before .before .before .before .before .before .pre .1) (c .before .before .if1 .left) (sym (c .before .before .before .before .before .before .profile-of .ensures) ∙ c .before .before .before .before .found .given .1) (c .if2 .taken)
-
-returns-4 : tie.Need-returns-4
-returns-4 c = known-plain (c .before .before .before .before .before .before .before .before .before .before .before .before .before .before .pre .1) (c .before .before .before .if1 .left) (sym (c .before .before .before .before .before .before .before .profile-of .ensures) ∙ c .before .before .before .before .before .found .given .1) (c .if3 .taken)
-
-ask-marked-requires : tie.Need-ask-marked-requires
-ask-marked-requires c κs = (c .before .before .before .before .before .before .before .before .before .before .before .before .before .before .before .before .pre .0, c .before .before .before .before .before .if1 .left, (sym (c .before .before .before .before .before .before .before .before .before .profile-of .ensures) ∙ c .before .before .before .before .before .before .before .found .given .1), c .before .before .before .before .before .before .before .before .before .before .before .before .before .before .before .before .pre .1)
+noted-requires : tie.Need-noted-requires
+noted-requires c κs = c .before .place-of .ensures .small
 
 same-length : tie.Need-same-length
 same-length c = search needs
 
-returns-5 : tie.Need-returns-5
-returns-5 c = search needs
-
-mentions-below-requires : tie.Need-mentions-below-requires
-mentions-below-requires c κs = search needs
-
-slice-write-memo : tie.Need-slice-write-memo
-slice-write-memo c = omega (arith, c .before .before .before .before .before .before .if1 .left, c .before .before .before .before .before .before .before .before .before .before .before .before .before .before .before .before .before .pre .1 .room, profile-small _ (c .before .before .before .before .before .before .before .before .before .before .before .before .before .before .before .before .before .args .member) _ (sym (c .before .before .before .before .before .before .before .before .before .before .profile-of .ensures) ∙ c .before .before .before .before .before .before .before .before .found .given .1))
-
-ask-marked-requires-2 : tie.Need-ask-marked-requires-2
-ask-marked-requires-2 c κs = (c .before .before .before .before .before .before .before .before .before .before .before .before .before .before .before .before .before .before .pre .0, c .before .before .before .before .before .before .before .if1 .left, (sym (c .before .before .before .before .before .before .before .before .before .before .before .profile-of .ensures) ∙ c .before .before .before .before .before .before .before .before .before .found .given .1), notes-more (c .before .before .before .before .before .before .before .before .before .before .before .before .before .before .before .before .before .before .pre .1) _ _ _ (c .before .before .before .before .before .before .before .if1 .left) (sym (c .before .before .before .before .before .before .before .before .before .before .before .profile-of .ensures) ∙ c .before .before .before .before .before .before .before .before .before .found .given .1))
+returns : tie.Need-returns
+returns c = asked-known (c .before .before .before .before .before .before .before .before .before .before .before .before .pre .1) (c .before .before .before .place-of .ensures) (c .before .noted .ensures) (c .if1 .taken)
 
 same-length-2 : tie.Need-same-length-2
-same-length-2 c = c .before .before .ask-marked2 .kept .1 .1 .1 .1 .1 .1 .1 .0 ∙ length-set (now (c .before .before .before .before .before .before .before .before .before .before .before .before .before .before .before .before .before .before .before .before .before .args .memo)) (PROFILES * c .before .before .before .before .before .before .before .before .before .before .before .before .before .before .before .before .before .before .before .before .before .args .i + c .before .before .before .before .before .before .before .before .before .before .before .before .found .given .0 .0) NOT-TO-KNOW
+same-length-2 c = search needs
 
-returns-6 : tie.Need-returns-6
-returns-6 c = asked-after (now (c .before .before .before .before .before .before .before .before .before .before .before .before .before .before .before .before .before .before .before .before .before .args .memo)) (PROFILES * c .before .before .before .before .before .before .before .before .before .before .before .before .before .before .before .before .before .before .before .before .before .args .i + c .before .before .before .before .before .before .before .before .before .before .before .before .found .given .0 .0) NOT-TO-KNOW (c .before .before .ask-marked2 .ensures)
+returns-2 : tie.Need-returns-2
+returns-2 c = asked-known (c .before .before .before .before .before .before .before .before .before .before .before .before .before .pre .1) (c .before .before .before .before .place-of .ensures) (c .before .before .noted .ensures) (c .if2 .taken)
+
+eval-args-requires : tie.Need-eval-args-requires
+eval-args-requires c κs = search needs
 
 note-requires : tie.Need-note-requires
-note-requires c κs = omega (arith, c .before .before .before .before .before .before .before .if1 .left, c .before .before .before .before .before .before .before .before .before .before .before .before .before .before .before .before .before .before .pre .1 .room, profile-small _ (c .before .before .before .before .before .before .before .before .before .before .before .before .before .before .before .before .before .before .args .member) _ (sym (c .before .before .before .before .before .before .before .before .before .before .before .profile-of .ensures) ∙ c .before .before .before .before .before .before .before .before .before .found .given .1))
+note-requires c κs = c .before .before .before .before .before .before .before .place-of .ensures .small
 
 same-length-3 : tie.Need-same-length-3
 same-length-3 c = search needs
 
-returns-7 : tie.Need-returns-7
-returns-7 c = asked-plain (c .before .before .before .before .before .before .before .before .before .before .before .before .before .before .before .before .before .before .before .before .before .pre .1) (c .before .before .before .before .before .before .before .before .before .before .if1 .left) (sym (c .before .before .before .before .before .before .before .before .before .before .before .before .before .before .profile-of .ensures) ∙ c .before .before .before .before .before .before .before .before .before .before .before .before .found .given .1) (c .before .before .before .before .before .mentions-below .ensures) (c .before .before .before .before .if5 .left) (c .before .before .note .ensures)
+returns-3 : tie.Need-returns-3
+returns-3 c = asked-noted (c .before .before .before .before .before .before .before .before .before .before .before .before .before .before .before .before .before .before .before .pre .1) (c .before .before .before .before .before .before .before .before .before .before .place-of .ensures) (c .before .before .before .before .before .eval-args .ensures) (c .before .before .note .ensures)
+
+same-length-4 : tie.Need-same-length-4
+same-length-4 c = search needs
+
+returns-4 : tie.Need-returns-4
+returns-4 c = search needs
 
 pub ask-spec : {M : Type 1} → statement M
 ask-spec =
@@ -107,25 +72,15 @@ ask-spec =
     shared-slice-read-args
     cast-args
     profile-of-requires
-    enum-known-found
-    enum-told
-    eval-args-requires
-    returns
-    eval-args-requires-2
-    returns-2
-    mul-at
-    add-at
-    slice-read-known
-    returns-3
-    returns-4
-    ask-marked-requires
+    place-of-requires
+    noted-requires
     same-length
-    returns-5
-    mentions-below-requires
-    slice-write-memo
-    ask-marked-requires-2
+    returns
     same-length-2
-    returns-6
+    returns-2
+    eval-args-requires
     note-requires
     same-length-3
-    returns-7)
+    returns-3
+    same-length-4
+    returns-4)

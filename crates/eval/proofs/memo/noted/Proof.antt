@@ -1,11 +1,11 @@
--- `noted` reads the byte of a call, where there is one. Assumes nothing.
-use Rattle.eval.proofs.MemoLaws.{note-late, note-past, note-read}
+-- `memo::noted` gives `noteIn`. Assumes nothing.
+use Rattle.eval.proofs.MemoLaws.{note-later, note-outside, note-at}
 use borrow.Author.Needs.{needs}
 use Rattle.eval.proofs.memo.noted.Statement.{statement}
 use Rattle.eval.proofs.memo.noted.Tie as tie
 
 returns : tie.Need-returns
-returns c = note-late _ _ (c .if1 .taken)
+returns c = note-later _ _ _ (c .if1 .taken)
 
 mul-at : tie.Need-mul-at
 mul-at c = search needs
@@ -14,13 +14,13 @@ add-at : tie.Need-add-at
 add-at c = search needs
 
 returns-2 : tie.Need-returns-2
-returns-2 c = note-past _ _ _ (c .if2 .taken)
+returns-2 c = note-outside _ _ _ (c .before .if1 .left) (c .if2 .taken)
 
 shared-slice-read-result : tie.Need-shared-slice-read-result
 shared-slice-read-result c = search needs
 
 returns-3 : tie.Need-returns-3
-returns-3 c = note-read _ _ (c .before .before .if1 .left)
+returns-3 c = note-at _ _ _ (c .before .before .if1 .left)
 
 pub noted-spec : {M : Type 1} → statement M
 noted-spec =

@@ -24,11 +24,11 @@ same-length-2 c = search needs
 returns : tie.Need-returns
 returns c = (stands-alike (stateOf (c .before .before .before .before .before .before .before .before .before .before .before .before .before .before .before .args .tally) (now (c .before .before .before .before .before .before .before .before .before .before .before .before .before .before .before .args .collection))) (here-features (now (c .before .before .before .before .before .before .before .before .before .before .before .before .before .before .before .args .rule)) (now (c .before .before .before .before .before .before .before .before .before .before .before .before .before .before .before .args .image)) (now (c .before .before .before .before .before .before .before .before .before .before .before .before .before .before .before .args .tree)) (now (c .before .before .before .before .before .before .before .before .before .before .before .before .before .before .before .args .calls)) 0 (c .before .before .before .before .before .before .before .before .is-features .ensures .there (c .before .before .before .before .before .before .before .if1 .taken)) (Component (c .before .before .before .before .before .before .before .before .before .before .before .before .before .before .before .args .component)) (c .before .before .before .before .before .before .before .before .before .before .before .before .before .before .before .args .component) (c .before .before .before .before .before .before .before .before .is-features .ensures .method (c .before .before .before .before .before .before .before .if1 .taken)) refl) (c .before .before .before .before .feed-features .ensures .0), c .before .before .before .before .feed-features .ensures .1)
 
-profile-of-requires : tie.Need-profile-of-requires
-profile-of-requires c κs = search needs
+component-profile-requires : tie.Need-component-profile-requires
+component-profile-requires c κs = search needs
 
 place-of-requires : tie.Need-place-of-requires
-place-of-requires c κs = sym (c .before .profile-of .ensures)
+place-of-requires c κs = sym (c .before .component-profile .ensures)
 
 step-of-requires : tie.Need-step-of-requires
 step-of-requires c κs = c .before .place-of .ensures .small
@@ -69,7 +69,7 @@ feed-component-spec =
     same-length
     same-length-2
     returns
-    profile-of-requires
+    component-profile-requires
     place-of-requires
     step-of-requires
     is-open-requires

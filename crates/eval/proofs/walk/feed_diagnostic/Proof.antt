@@ -5,11 +5,11 @@ use borrow.Author.Needs.{needs}
 use Rattle.eval.proofs.walk.feed_diagnostic.Statement.{statement}
 use Rattle.eval.proofs.walk.feed_diagnostic.Tie as tie
 
-profile-of-requires : tie.Need-profile-of-requires
-profile-of-requires c κs = search needs
+diagnostic-profile-requires : tie.Need-diagnostic-profile-requires
+diagnostic-profile-requires c κs = search needs
 
 place-of-requires : tie.Need-place-of-requires
-place-of-requires c κs = sym (c .before .profile-of .ensures)
+place-of-requires c κs = sym (c .before .diagnostic-profile .ensures)
 
 step-of-requires : tie.Need-step-of-requires
 step-of-requires c κs = c .before .place-of .ensures .small
@@ -45,7 +45,7 @@ pub feed-diagnostic-spec : {M : Type 1} → statement M
 feed-diagnostic-spec =
     tie.close
     (tie.spec
-    profile-of-requires
+    diagnostic-profile-requires
     place-of-requires
     step-of-requires
     is-open-requires

@@ -7,7 +7,7 @@ use Rattle.predicate.specs.declared.atom.Member.the-variants.{Diagnostic}
 use Rattle.board.specs.Image.{diagnosticCount}
 use Rattle.calls.specs.Table.{methodAt}
 use Rattle.eval.proofs.MemoLaws.{notes-none}
-use Rattle.eval.specs.Memo.{WAY-NOTES, Notes}
+use Rattle.eval.specs.Memo.{PLAIN, Notes}
 use Rattle.eval.specs.Feed.{stateOf, begin, Named}
 use Rattle.eval.specs.Ready.{callsFrom}
 use borrow.Author.Needs.{needs}
@@ -22,7 +22,7 @@ use Rattle.eval.proofs.walk.feed_diagnostics.Tie as tie
 
 abbrev Inv-loop : tie.InvT-loop
 Inv-loop rule image tree name calls last collection₀ count notes₀ tally₀ analysis₀ other₀ diagnostic₀ collection notes tally analysis other diagnostic =
-    Named image name analysis × Named image name other × Feeding (methodAt last) image (callsFrom rule tree calls 0) (kept (isOfAnalysis image name) (map Diagnostic (upFrom 0 (diagnosticCount image)))) (begin collection₀) (kept (isOfAnalysis image name) (map Diagnostic (upTo diagnostic count))) (stateOf tally collection) × Notes rule image tree calls notes × (length notes ≡ WAY-NOTES)
+    Named image name analysis × Named image name other × Feeding (methodAt last) image (callsFrom rule tree calls 0) (kept (isOfAnalysis image name) (map Diagnostic (upFrom 0 (diagnosticCount image)))) (begin collection₀) (kept (isOfAnalysis image name) (map Diagnostic (upTo diagnostic count))) (stateOf tally collection) × Notes rule image tree calls notes × (length notes ≡ PLAIN)
 
 abbrev μ-loop : tie.MeasureT-loop
 μ-loop rule image tree name calls last collection₀ count notes₀ tally₀ analysis₀ other₀ diagnostic₀ collection notes tally analysis other diagnostic = count - diagnostic
@@ -34,7 +34,7 @@ compare-name-requires : tie.Need-compare-name-requires Inv-loop μ-loop
 compare-name-requires c κs = search needs
 
 loop-holds : tie.Need-loop-holds Inv-loop μ-loop
-loop-holds c = (c .compare-name .ensures .1, c .compare-name .ensures .1, all-start (now (c .before .before .before .before .before .before .before .before .args .image)) (callsFrom (now (c .before .before .before .before .before .before .before .before .args .rule)) (now (c .before .before .before .before .before .before .before .before .args .tree)) (now (c .before .before .before .before .before .before .before .before .args .calls)) 0) (λ ns. kept (isOfAnalysis (now (c .before .before .before .before .before .before .before .before .args .image)) (now (c .before .before .before .before .before .before .before .before .args .name))) (map Diagnostic ns)) (begin (now (c .before .before .before .before .before .before .before .before .args .collection))) _ _ (c .before .record-count .ensures) (c .before .before .before .before .before .before .before .before .pre), notes-none _ _ _ _ WAY-NOTES (omega arith) (omega arith), length-replicate {A = ℕ} WAY-NOTES 0)
+loop-holds c = (c .compare-name .ensures .1, c .compare-name .ensures .1, all-start (now (c .before .before .before .before .before .before .before .before .args .image)) (callsFrom (now (c .before .before .before .before .before .before .before .before .args .rule)) (now (c .before .before .before .before .before .before .before .before .args .tree)) (now (c .before .before .before .before .before .before .before .before .args .calls)) 0) (λ ns. kept (isOfAnalysis (now (c .before .before .before .before .before .before .before .before .args .image)) (now (c .before .before .before .before .before .before .before .before .args .name))) (map Diagnostic ns)) (begin (now (c .before .before .before .before .before .before .before .before .args .collection))) _ _ (c .before .record-count .ensures) (c .before .before .before .before .before .before .before .before .pre), notes-none _ _ _ _ PLAIN (omega arith) (omega arith), length-replicate {A = ℕ} PLAIN 0)
 
 analysis-of-requires : tie.Need-analysis-of-requires Inv-loop μ-loop
 analysis-of-requires c κs = (c .before .loop .inv .0, c .before .loop .inv .1)

@@ -1,7 +1,8 @@
 -- `feed_marked` makes marks, and sends every component with the memo's front that holds them. Assumes nothing.
 use mathlib.Core.Path.{sym}
-use Rattle.eval.proofs.MarkedLaws.{made-length}
-use Rattle.eval.proofs.MemoLaws.{notes-front}
+use native.Mathlib.Omega.{arith}
+use lib.ListN.{length-set}
+use Rattle.eval.proofs.MemoLaws.{front-length, front-settled}
 use borrow.Author.Needs.{needs}
 use Rattle.eval.proofs.walk.feed_marked.Statement.{statement}
 use Rattle.eval.proofs.walk.feed_marked.Tie as tie
@@ -12,17 +13,23 @@ slice-aggregate-make-marks c = search needs
 make-marks-requires : tie.Need-make-marks-requires
 make-marks-requires c κs = search needs
 
+settle-requires : tie.Need-settle-requires
+settle-requires c κs = search needs
+
+array-write-notes : tie.Need-array-write-notes
+array-write-notes c = search needs
+
 add-end : tie.Need-add-end
 add-end c = search needs
 
 array-borrow-prefix-notes : tie.Need-array-borrow-prefix-notes
-array-borrow-prefix-notes c = search needs
+array-borrow-prefix-notes c = simp length-set (omega (arith, c .before .before .before .make-marks .ensures .long, c .before .before .before .make-marks .ensures .most))
 
 slice-aggregate-feed-each-component : tie.Need-slice-aggregate-feed-each-component
-slice-aggregate-feed-each-component c = sym (made-length (c .before .before .before .make-marks .ensures))
+slice-aggregate-feed-each-component c = sym (front-length (c .before .before .before .before .make-marks .ensures) _)
 
 feed-each-component-requires : tie.Need-feed-each-component-requires
-feed-each-component-requires c κs = (c .before .before .before .before .before .before .before .before .before .before .pre, notes-front _ (c .before .before .before .make-marks .ensures))
+feed-each-component-requires c κs = (c .before .before .before .before .before .before .before .before .before .before .before .pre, front-settled (c .before .before .before .before .make-marks .ensures) _ _ (c .before .before .settle .ensures))
 
 same-length : tie.Need-same-length
 same-length c = search needs
@@ -36,6 +43,8 @@ feed-marked-spec =
     (tie.spec
     slice-aggregate-make-marks
     make-marks-requires
+    settle-requires
+    array-write-notes
     add-end
     array-borrow-prefix-notes
     slice-aggregate-feed-each-component

@@ -1,0 +1,20 @@
+-- `feature_profile` gives `ofFeature` of the owner's profile, the kind and the direction. Assumes nothing.
+use borrow.Author.Needs.{needs}
+use Rattle.profile.proofs.feature_profile.Statement.{statement}
+use Rattle.profile.proofs.feature_profile.Tie as tie
+
+field-requires : tie.Need-field-requires
+field-requires c κs = search needs
+
+field-requires-2 : tie.Need-field-requires-2
+field-requires-2 c κs = search needs
+
+of-feature-requires : tie.Need-of-feature-requires
+of-feature-requires c κs = search needs
+
+returns : tie.Need-returns
+returns c = rw (← c .before .before .field .ensures, ← c .before .field2 .ensures) (c .of-feature .ensures)
+
+pub feature-profile-spec : {M : Type 1} → statement M
+feature-profile-spec =
+    tie.close (tie.spec field-requires field-requires-2 of-feature-requires returns)
