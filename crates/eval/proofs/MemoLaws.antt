@@ -88,6 +88,15 @@ module _ (image memo : List ℕ) (m : Member) where
     unfolding placeBy
     placed-at h = placed (sym (by-number ∙ rw (lt-ltb bits NO-BITS h))) (omega (arith, profile-small image m k (e ∙ f)))
 
+  -- without marks, by the profile alone
+  module _ (few : length memo ≤ PLACES) where
+    no-bits : 0 ≡ bitsOf image memo m
+    unfolding bitsOf
+    no-bits = sym (rw (le-ltb PLACES (length memo) few))
+
+    pub placed-plain : {p : Profile} {k : ℕ} → profileOf image m ≡ p → p ≡ Number k → Placed image memo m (1 + k)
+    placed-plain e f = subst (Placed image memo m) (omega arith) (placed-at e f no-bits (omega arith))
+
 -- ---- a memo in which nothing is noted
 
 module _ (image memo : List ℕ) (few : length memo ≤ MEMO) (clear : (x : ℕ) → x < MARKS → getD memo x 0 ≡ 0) where

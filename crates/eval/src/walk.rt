@@ -294,7 +294,12 @@ fn feed_component(
     }
     let member = Member::Component(component);
     let profile = profile::component_profile(image, component);
-    let step = step::step_of(calls, 0, memo::place_of(image, member, profile, notes), notes);
+    let step = step::step_of(
+        calls,
+        0,
+        memo::place_of(image, member, profile, notes),
+        notes,
+    );
     if step::is_open(step) {
         return feed(
             rule,
@@ -458,7 +463,12 @@ fn feed_diagnostic(
 {
     let member = Member::Diagnostic(diagnostic);
     let profile = profile::diagnostic_profile(image, diagnostic);
-    let step = step::step_of(calls, 0, memo::place_of(image, member, profile, notes), notes);
+    let step = step::step_of(
+        calls,
+        0,
+        memo::place_of(image, member, profile, notes),
+        notes,
+    );
     if step::is_open(step) {
         return feed(
             rule,
@@ -616,7 +626,12 @@ fn feed_feature(
 {
     let member = Member::Feature(component, feature);
     let profile = profile::feature_profile(image, owner, feature);
-    let step = step::step_of(calls, i, memo::place_of(image, member, profile, notes), notes);
+    let step = step::step_of(
+        calls,
+        i,
+        memo::place_of(image, member, profile, notes),
+        notes,
+    );
     if step::is_open(step) {
         return feed(
             rule,

@@ -26,35 +26,35 @@ cast-args c = omega (arith, c .shared-slice-known5 .given (CALL-ROW * c .before 
 profile-of-requires : tie.Need-profile-of-requires
 profile-of-requires c κs = search needs
 
-place-of-requires : tie.Need-place-of-requires
-place-of-requires c κs = sym (c .before .profile-of .ensures)
+marked-place-requires : tie.Need-marked-place-requires
+marked-place-requires c κs = sym (c .before .profile-of .ensures)
 
 noted-requires : tie.Need-noted-requires
-noted-requires c κs = c .before .place-of .ensures .small
+noted-requires c κs = c .before .marked-place .ensures .small
 
 same-length : tie.Need-same-length
 same-length c = search needs
 
 returns : tie.Need-returns
-returns c = asked-known (c .before .before .before .before .before .before .before .before .before .before .before .before .pre .1) (c .before .before .before .place-of .ensures) (c .before .noted .ensures) (c .if1 .taken)
+returns c = asked-known (c .before .before .before .before .before .before .before .before .before .before .before .before .pre .1) (c .before .before .before .marked-place .ensures) (c .before .noted .ensures) (c .if1 .taken)
 
 same-length-2 : tie.Need-same-length-2
 same-length-2 c = search needs
 
 returns-2 : tie.Need-returns-2
-returns-2 c = asked-known (c .before .before .before .before .before .before .before .before .before .before .before .before .before .pre .1) (c .before .before .before .before .place-of .ensures) (c .before .before .noted .ensures) (c .if2 .taken)
+returns-2 c = asked-known (c .before .before .before .before .before .before .before .before .before .before .before .before .before .pre .1) (c .before .before .before .before .marked-place .ensures) (c .before .before .noted .ensures) (c .if2 .taken)
 
 eval-args-requires : tie.Need-eval-args-requires
 eval-args-requires c κs = search needs
 
 note-requires : tie.Need-note-requires
-note-requires c κs = c .before .before .before .before .before .before .before .place-of .ensures .small
+note-requires c κs = c .before .before .before .before .before .before .before .marked-place .ensures .small
 
 same-length-3 : tie.Need-same-length-3
 same-length-3 c = search needs
 
 returns-3 : tie.Need-returns-3
-returns-3 c = asked-noted (c .before .before .before .before .before .before .before .before .before .before .before .before .before .before .before .before .before .before .before .pre .1) (c .before .before .before .before .before .before .before .before .before .before .place-of .ensures) (c .before .before .before .before .before .eval-args .ensures) (c .before .before .note .ensures)
+returns-3 c = asked-noted (c .before .before .before .before .before .before .before .before .before .before .before .before .before .before .before .before .before .before .before .pre .1) (c .before .before .before .before .before .before .before .before .before .before .marked-place .ensures) (c .before .before .before .before .before .eval-args .ensures) (c .before .before .note .ensures)
 
 same-length-4 : tie.Need-same-length-4
 same-length-4 c = search needs
@@ -72,7 +72,7 @@ ask-spec =
     shared-slice-read-args
     cast-args
     profile-of-requires
-    place-of-requires
+    marked-place-requires
     noted-requires
     same-length
     returns

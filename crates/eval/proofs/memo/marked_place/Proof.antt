@@ -1,11 +1,11 @@
--- `memo::place_of` gives the place of a member, by its profile and its bits. Assumes nothing.
+-- `memo::marked_place` gives the place of a member, by its profile and its bits. Assumes nothing.
 use mathlib.Core.Path.{_∙_}
 use native.Mathlib.Omega.{arith}
 use Rattle.profile.proofs.ProfileLaws.{profile-small}
 use Rattle.eval.proofs.MemoLaws.{placed-unknown, placed-nowhere, placed-at}
 use borrow.Author.Needs.{needs}
-use Rattle.eval.proofs.memo.place_of.Statement.{statement}
-use Rattle.eval.proofs.memo.place_of.Tie as tie
+use Rattle.eval.proofs.memo.marked_place.Statement.{statement}
+use Rattle.eval.proofs.memo.marked_place.Tie as tie
 
 enum-known-profile : tie.Need-enum-known-profile
 enum-known-profile c = search needs
@@ -34,8 +34,8 @@ add-result-2 c = omega (arith, profile-small _ _ _ (c .before .before .before .b
 returns-3 : tie.Need-returns-3
 returns-3 c = placed-at _ _ _ (c .before .before .before .before .before .before .before .pre) (c .before .before .before .profile .given .1) (c .before .bits .ensures) (c .if1 .left)
 
-pub place-of-spec : {M : Type 1} → statement M
-place-of-spec =
+pub marked-place-spec : {M : Type 1} → statement M
+marked-place-spec =
     tie.close
     (tie.spec
     enum-known-profile
