@@ -4,6 +4,7 @@
 use libc::STDOUT_FILENO;
 use message::Message;
 use syntax::refusal;
+use syntax::text;
 use trees::Reading;
 ghost use mathlib.Core.Path.{_≡_};
 ghost use Prim.Native.Nat.{_≤_};
@@ -237,11 +238,7 @@ fn print_error(rule: &[u8], form: u32, expected: u32, first: u32, end: u32) {
 
 // Prints the first n bytes, or as many as there are.
 fn print_front(bytes: &[u8], n: usize) {
-    if n <= bytes.len() {
-        io::write_all(STDOUT_FILENO, &bytes[..n]);
-        return;
-    }
-    io::write_all(STDOUT_FILENO, bytes);
+    io::write_all(STDOUT_FILENO, text::part(bytes, 0, n));
 }
 
 fn print_four(a: u32, b: u32, c: u32, d: u32) {

@@ -168,13 +168,9 @@ fn run_rule(image: &[u8], rule: &[u8]) {
     }
 }
 
-// Prints the first n bytes of a text, or as many as it has.
-fn print_front(text: &[u8], n: usize) {
-    if n <= text.len() {
-        io::write_all(STDOUT_FILENO, &text[..n]);
-        return;
-    }
-    io::write_all(STDOUT_FILENO, text);
+// Prints the first n bytes, or as many as there are.
+fn print_front(bytes: &[u8], n: usize) {
+    io::write_all(STDOUT_FILENO, text::part(bytes, 0, n));
 }
 
 // The verdict's line and the outcome's.

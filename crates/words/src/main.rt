@@ -339,9 +339,5 @@ fn print_error(rule: &[u8], form: u32, expected: u32, first: u32, end: u32) {
 
 // Prints the first n bytes, or as many as there are.
 fn print_front(bytes: &[u8], n: usize) {
-    if n <= bytes.len() {
-        io::write_all(STDOUT_FILENO, &bytes[..n]);
-        return;
-    }
-    io::write_all(STDOUT_FILENO, bytes);
+    io::write_all(STDOUT_FILENO, text::part(bytes, 0, n));
 }
