@@ -15,7 +15,8 @@ use Rattle.syntax.proofs.TextLaws.{from}
 use Rattle.lexer.specs.declared.Shape.{Shape}
 use Rattle.lexer.specs.declared.Shape.the-variants.{Blanks, Quoted, Symbol, Operator, Digits, Word, Character}
 use Rattle.lexer.specs.Bytes.{shapeOf, goesOn, isAsciiWhitespace, isAsciiDigit, isIdentContinue, isTrailing}
-use Rattle.lexer.specs.Lex.{Token, run, quoted, equals, more, kindOf, past, token, lexFrom, lex, TokenAt, tokenRows, joined, hasQuote, isClosed, closed, openersIn}
+use Rattle.lexer.specs.Lex.{Token, run, quoted, equals, more, kindOf, past, token, lexFrom, lex, tokenRows, joined, hasQuote, isClosed, closed, openersIn}
+use Rattle.lexer.specs.LexScan.{TokenAt}
 
 -- a run, byte by byte
 pub run-true : (p : ℕ → Bool) (b : ℕ) (s : List ℕ) → p b ≡ true → run p (b ∷ s) ≡ suc (run p s)

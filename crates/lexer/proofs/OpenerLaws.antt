@@ -14,7 +14,8 @@ use Rattle.syntax.proofs.TextLaws.{from}
 use Rattle.lexer.specs.declared.Shape.{Shape}
 use Rattle.lexer.specs.declared.Shape.the-variants.{Blanks, Quoted, Symbol, Operator, Digits, Word, Character}
 use Rattle.lexer.specs.Bytes.{shapeOf, isBlank, isAsciiDigit, isIdentStart}
-use Rattle.lexer.specs.Lex.{Token, wordKind, kindOf, past, token, lexFrom, lex, isOpener, openersIn, openersAt}
+use Rattle.lexer.specs.Lex.{Token, wordKind, kindOf, past, token, lexFrom, lex, isOpener, openersIn}
+use Rattle.lexer.specs.LexScan.{openersAt}
 use Rattle.lexer.specs.Read.{MAX-OPENERS}
 use Rattle.lexer.proofs.ReadLaws.{lex-length}
 

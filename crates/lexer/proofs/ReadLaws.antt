@@ -14,7 +14,8 @@ use Rattle.syntax.specs.declared.refusal.Refusal.{Refusal}
 use Rattle.syntax.proofs.TableLaws.{sets-append, sets-front}
 use Rattle.syntax.specs.declared.refusal.Check.{Check}
 use Rattle.lexer.specs.declared.Lexed.{Lexed}
-use Rattle.lexer.specs.Lex.{Token, past, lexFrom, lex, TokenAt, tokenRows, isOpener, openersIn}
+use Rattle.lexer.specs.Lex.{Token, past, lexFrom, lex, tokenRows, isOpener, openersIn}
+use Rattle.lexer.specs.LexScan.{TokenAt}
 use Rattle.lexer.specs.Read.{MAX-RULE, MAX-OPENERS, TOKEN-ROW, tokensShort, tablesShort, checkRule, checkRoom, tokensRead, tokenTable, Reads}
 use Rattle.lexer.proofs.LexLaws.{lex-nil}
 

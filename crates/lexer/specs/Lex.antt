@@ -1,10 +1,9 @@
 -- lexer.rs `lex`: the tokens of a text, without positions; positions stand in the rows alone. Assumes nothing: these are definitions.
-use Prim.Native.Nat.{ℕ, zero, suc, _+_, _-_, _≤_, _<_}
-use mathlib.Core.Path.{_≡_}
+use Prim.Native.Nat.{ℕ, zero, suc, _+_}
 use mathlib.Core.Bool.{Bool, true, false, cond, _&&_, _||_, not}
 use mathlib.Core.List.{List, [], _∷_, _++_}
 use lib.Dec.{eqb}
-use lib.ListN.{length, take, drop}
+use lib.ListN.{length, take}
 use Rattle.syntax.specs.Kind.{WHITESPACE, IDENT, STRING-LIT, INT-LIT, L-PAREN, AND-KW, OR-KW, NOT-KW, ERROR}
 use Rattle.syntax.specs.Text.{ascii, is, same}
 use Rattle.syntax.specs.Utf8.{isCharacter}
@@ -79,12 +78,6 @@ unfoldable pub lex : List ℕ → List Token
 unfolding lexFrom
 lex s = lexFrom s 0
 
--- from `at` on, the tokens of a rule are one of this kind that ends at `end`, and then those from `end` on
-pub record TokenAt (rule : List ℕ) (at kind end : ℕ) : Type 0 where
-  pub longer : at < end
-  pub within : end ≤ length rule
-  pub tokens : lex (drop at rule) ≡ record { kind = kind; text = take (end - at) (drop at rule) } ∷ lex (drop end rule)
-
 -- the rows of a token table: kind, first byte, end byte; `at` is where the first token begins
 unfoldable pub tokenRows : ℕ → List Token → List ℕ
 tokenRows at [] = []
@@ -103,10 +96,6 @@ isOpener k = eqb k L-PAREN || eqb k NOT-KW
 unfoldable pub openersIn : List Token → ℕ
 openersIn [] = 0
 openersIn (t ∷ ts) = cond (isOpener (t .kind)) 1 0 + openersIn ts
-
--- 1 where a token `(` or `not` may begin with the byte b before a byte c, else 0: a bound for code that has not read the tokens
-unfoldable pub openersAt : ℕ → ℕ → ℕ
-openersAt b c = cond (is "(" b || is "n" b && is "o" c) 1 0
 
 -- whether a quote stands in s
 unfoldable pub hasQuote : List ℕ → Bool

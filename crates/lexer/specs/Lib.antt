@@ -1,3 +1,4 @@
 pub mod Bytes
 pub mod Lex
+pub mod LexScan
 pub mod Read

@@ -20,7 +20,8 @@ ghost use lib.ListN.{length, take, drop};
 ghost use lib.Seq.{sets};
 ghost use Rattle.syntax.specs.Table.{withRows};
 ghost use Rattle.lexer.specs.Bytes.{isBlank, isAsciiWhitespace, isAsciiDigit, isIdentStart, isIdentContinue, isTrailing, shapeOf, goesOn};
-ghost use Rattle.lexer.specs.Lex.{run, quoted, equals, more, wordKind, kindOf, lex, tokenRows, isOpener, openersIn, openersAt, TokenAt};
+ghost use Rattle.lexer.specs.Lex.{run, quoted, equals, more, wordKind, kindOf, lex, tokenRows, isOpener, openersIn};
+ghost use Rattle.lexer.specs.LexScan.{TokenAt, openersAt};
 ghost use Rattle.lexer.specs.Read.{MAX-RULE, MAX-OPENERS, TOKEN-ROW, tablesShort, checkRule, checkRoom, Reads};
 
 const FORM_FEED: u8 = 0x0C;

@@ -2,7 +2,7 @@
 use mathlib.Core.Bool.{or-false}
 use borrow.Author.Tests.{ne-eqb}
 use borrow.Author.Needs.{needs}
-use Rattle.lexer.specs.Lex.{openersAt}
+use Rattle.lexer.specs.LexScan.{openersAt}
 use Rattle.lexer.proofs.openers_at.Statement.{statement}
 use Rattle.lexer.proofs.openers_at.Tie as tie
 
