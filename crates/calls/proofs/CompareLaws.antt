@@ -1,6 +1,6 @@
 -- A comparison: its integer's digits, read one after the other, and its operator. Assumes nothing.
 use mathlib.Core.Path.{_≡_, refl, sym, ap, _∙_}
-use mathlib.Core.Bool.{not}
+use mathlib.Core.Bool.{false, not}
 use mathlib.Core.List.{List, [], _∷_}
 use Prim.Native.Nat.{ℕ, _+_, _*_, _≤_, _<_}
 use native.Mathlib.Omega.{arith}
@@ -10,9 +10,11 @@ use lib.ListN.{length, drop, getD, drop-of-length-le}
 use Rattle.syntax.proofs.BoolLaws.{whether}
 use Rattle.syntax.proofs.TextLaws.{from}
 use Rattle.syntax.specs.Kind.{GE, GT, LE, LT, EQ-EQ}
+use Rattle.syntax.specs.declared.refusal.Refusal.the-variants.{IntegerTooLarge}
+use Rattle.meaning.specs.Value.{Outcome, boolean, refused}
 use Rattle.meaning.specs.Compare.{MAX-INTEGER, BASE, decimalFrom, decimal, operatorHolds, against}
 use Rattle.calls.specs.declared.value.Integer.{Integer}
-use Rattle.calls.specs.Integer.{digitOf, integerFor, againstFor}
+use Rattle.calls.specs.Integer.{digitOf, integerFor}
 
 -- a digit more makes no number smaller
 grows : (n : ℕ) (digits : List ℕ) → n ≤ decimalFrom n digits
@@ -54,6 +56,11 @@ module _ {digits : List ℕ} {n i : ℕ} (r : ReadTo digits n i) where
       let whole : n ≡ decimal digits = rw (drop-of-length-le digits h) at (r .rest) in
       let fits : decimal digits ≤ MAX-INTEGER = omega (arith, r .small) in
       ap Integer.Fits whole ∙ sym (rw (le-leb (decimal digits) MAX-INTEGER fits))
+
+-- what a comparison of a number with an integer comes to
+abbrev pub againstFor : (operator left : ℕ) → Integer → Outcome
+againstFor operator left (Integer.Fits right) = boolean (operatorHolds operator left right) false
+againstFor operator left Integer.TooLarge = refused IntegerTooLarge
 
 -- a comparison with the number that digits write, by what the code makes of them
 pub against-integer : (operator left : ℕ) (digits : List ℕ) → against operator left (decimal digits) ≡ againstFor operator left (integerFor digits)

@@ -8,9 +8,10 @@ use lib.ListN.{getD, List·getD-map}
 use lib.Dec.{leb}
 use borrow.Author.Tests.{ne-eqb, leb-true, leb-false}
 use Rattle.syntax.proofs.BoolLaws.{whether}
+use Rattle.syntax.specs.Refusal.{refusalNumber}
 use Rattle.syntax.specs.declared.refusal.Refusal.the-variants.{DiagnosticsOnNoDiagnostics}
 use Rattle.meaning.specs.Value.{Kind}
-use Rattle.meaning.specs.Calls.{Method, Where, All, Any, None, Count, Features, Diagnostics, gives, methodNumber, kindNumber, entryNumber}
+use Rattle.meaning.specs.Calls.{Method, Where, All, Any, None, Count, Features, Diagnostics, Entry, next, refuse, gives, methodNumber, kindNumber}
 use Rattle.calls.specs.declared.table.Next.{Next}
 use Rattle.calls.specs.Table.{nextOf, methodAt, kindAt, nextFor, refusalAt, nextAt}
 
@@ -37,6 +38,11 @@ KINDS = 5
 
 abbrev lines : {A : Type 0} → (ℕ → ℕ → A) → List (List A)
 lines f = tabulate (λ m. tabulate (f m) 0 KINDS) 0 METHODS
+
+-- the number of a kind, or of a refusal
+abbrev entryNumber : Entry → ℕ
+entryNumber (next kind) = kindNumber kind
+entryNumber (refuse r) = refusalNumber r
 
 -- the numbers of what each call gives on each kind: the code's table
 abbrev pub numbers : List (List ℕ)

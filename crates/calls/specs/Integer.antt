@@ -1,12 +1,10 @@
 -- "18446744073709551615 is accepted, one more is refusal 16", as the code's enum. Assumes nothing: these are definitions.
 use Prim.Native.Nat.{ℕ, _-_}
 use Prim.Native.Char.{code}
-use mathlib.Core.Bool.{false, cond}
+use mathlib.Core.Bool.{cond}
 use mathlib.Core.List.{List}
 use lib.Dec.{leb}
-use Rattle.syntax.specs.declared.refusal.Refusal.the-variants.{IntegerTooLarge}
-use Rattle.meaning.specs.Value.{Outcome, boolean, refused}
-use Rattle.meaning.specs.Compare.{MAX-INTEGER, decimal, operatorHolds}
+use Rattle.meaning.specs.Compare.{MAX-INTEGER, decimal}
 use Rattle.calls.specs.declared.value.Integer.{Integer}
 
 -- the number that digits write, where it is not above the largest
@@ -17,8 +15,3 @@ integerFor digits = cond (leb (decimal digits) MAX-INTEGER) (Integer.Fits (decim
 -- what a byte counts in it
 abbrev pub digitOf : ℕ → ℕ
 digitOf b = b - code "0"
-
--- what a comparison of a number with an integer comes to
-abbrev pub againstFor : (operator left : ℕ) → Integer → Outcome
-againstFor operator left (Integer.Fits right) = boolean (operatorHolds operator left right) false
-againstFor operator left Integer.TooLarge = refused IntegerTooLarge

@@ -5,8 +5,8 @@ use mathlib.Core.List.{List, [], _∷_, _++_, append-assoc, append-nil}
 use Prim.Native.Nat.{ℕ, zero, suc, _+_, _*_, _≤_}
 use native.Mathlib.Omega.{arith}
 use lib.Dec.{eqb, leb}
-use lib.ListN.{length, take, drop, set, length-append, length-take}
-use lib.Seq.{sets, sets-eq, length-sets, take-append-seam}
+use lib.ListN.{length, take, drop, length-append, length-take}
+use lib.Seq.{sets-eq, length-sets, take-append-seam}
 use borrow.Author.Tests.{eqb-true, eqb-false, leb-true, leb-false, lt-leb}
 use Rattle.syntax.specs.Kind.{IDENT, ROOT, DOT-CALL, CALL-ARGS}
 use Rattle.syntax.proofs.BoolLaws.{whether, both}

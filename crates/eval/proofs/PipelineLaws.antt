@@ -3,10 +3,10 @@ use mathlib.Core.Path.{_≡_, refl, sym, ap, ap₂, _∙_, subst}
 use mathlib.Core.Bool.{Bool, true, false, false≢true}
 use mathlib.Core.List.{List, [], _∷_, _++_}
 use mathlib.Core.Option.{Option, none, some}
-use Prim.Native.Nat.{ℕ, suc, _+_, _*_, _≤_}
+use Prim.Native.Nat.{ℕ, _+_, _*_, _≤_}
 use native.Mathlib.Omega.{arith}
 use lib.Dec.{eqb}
-use lib.ListN.{length, take, drop, set, replicate, length-append, length-take, length-drop, length-replicate}
+use lib.ListN.{length, take, drop, set, replicate, length-append, length-take, length-replicate}
 use lib.Seq.{sets, sets-eq, length-sets, take-append-seam}
 use borrow.Author.Tests.{eq-eqb, ne-eqb, ltb-true}
 use Rattle.syntax.specs.Kind.{INT-LIT, DOT-CALL, COUNT-COMPARE-EXPR}
@@ -32,9 +32,9 @@ use Rattle.calls.specs.declared.value.Outcome.{Outcome as Answer}
 use Rattle.calls.specs.declared.value.Value.{Value}
 use Rattle.calls.specs.declared.value.Integer.{Integer}
 use Rattle.calls.specs.Answer.{answerOf}
-use Rattle.calls.specs.Integer.{integerFor, againstFor}
+use Rattle.calls.specs.Integer.{integerFor}
 use Rattle.calls.specs.Table.{methodAt, kindAt}
-use Rattle.calls.proofs.CompareLaws.{against-integer}
+use Rattle.calls.proofs.CompareLaws.{againstFor, against-integer}
 use Rattle.calls.proofs.TableLaws.{method-at, kind-at}
 use Rattle.eval.specs.declared.walk.Tally.{Tally}
 use Rattle.eval.specs.Ready.{CALL-ROW, callIn, callsIn, sourceSort, sourceMembers, LastMethod, Ready, Refuses}

@@ -11,8 +11,8 @@ use borrow.Author.Tests.{ne-eqb, eqb-true, eqb-false, leb-true, le-leb, lt-leb}
 use Rattle.syntax.specs.declared.refusal.Refusal.{Refusal}
 use Rattle.syntax.proofs.BoolLaws.{whether}
 use Rattle.meaning.specs.Value.{Kind}
-use Rattle.meaning.specs.Calls.{Method, Where, All, Count, Features, Diagnostics, Call, Entry, next, refuse, gives, methodNumber, kindNumber, entriesAfter}
-use Rattle.meaning.specs.Walk.{planOf, isLast, isQuantifier, methodIn, lastMethod, lastCall}
+use Rattle.meaning.specs.Calls.{Method, Where, All, Count, Features, Diagnostics, Call, Entry, next, refuse, gives, methodNumber, kindNumber}
+use Rattle.meaning.specs.Walk.{entriesAfter, planOf, isLast, isQuantifier, methodIn, lastMethod, lastCall}
 use Rattle.meaning.proofs.WalkLaws.{last-none, last-here, last-later}
 use Rattle.calls.specs.declared.table.Next.{Next}
 use Rattle.calls.specs.Table.{nextOf, methodAt, kindAt, nextFor}

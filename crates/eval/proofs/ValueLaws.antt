@@ -1,12 +1,12 @@
 -- What is settled by the numbers of members, and the operator of a comparison. Assumes nothing.
 use mathlib.Core.Path.{_≡_, refl, sym, ap, _∙_}
-use mathlib.Core.Bool.{Bool, true, false, cond, _&&_}
+use mathlib.Core.Bool.{Bool, true, false, cond}
 use mathlib.Core.List.{List}
 use Prim.Native.Nat.{ℕ, zero, suc, _+_, _≤_, _<_}
 use native.Mathlib.Omega.{arith}
 use lib.Dec.{eqb, leb, ltb}
 use lib.ListN.{length}
-use borrow.Author.Tests.{ne-eqb, eqb-true, eqb-false, leb-true, leb-false}
+use borrow.Author.Tests.{ne-eqb, eqb-true, leb-true, leb-false}
 use Rattle.syntax.specs.Kind.{ROOT, EQ-EQ, NEQ, GE, GT, LE, LT, NONE}
 use Rattle.syntax.proofs.BoolLaws.{whether, both}
 use Rattle.trees.specs.Look.{isComparison}

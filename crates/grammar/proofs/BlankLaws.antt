@@ -28,13 +28,6 @@ solid-append (x ∷ xs) ys =
     let ih = solid-append xs ys in
     whether (isBlank x) (λ e. rw (e, solid) ih) (λ e. rw (e, solid, ih))
 
-pub solid-solid : (ts : List Token) → solid (solid ts) ≡ solid ts
-unfolding solid
-solid-solid [] = refl
-solid-solid (t ∷ ts) =
-    let ih = solid-solid ts in
-    whether (isBlank t) (λ e. rw (e, solid) ih) (λ e. rw (e, solid, e, solid, ih))
-
 solid-length : (ts : List Token) → length (solid ts) ≤ length ts
 unfolding solid
 solid-length [] = omega arith

@@ -8,11 +8,12 @@ use lib.Dec.{T}
 use Rattle.syntax.specs.Kind.{WHITESPACE}
 use Rattle.syntax.specs.Text.{ascii, is}
 use Rattle.syntax.proofs.BoolLaws.{whether, true→T}
-use Rattle.lexer.specs.Lex.{Token, lex, hasQuote, isClosed, closed}
+use Rattle.lexer.specs.Lex.{Token, lex}
+use Rattle.lexer.specs.Tokens.{hasQuote, isClosed, closed}
 use Rattle.lexer.proofs.LexLaws.{Joint, joint-kind, lex-joint, lex-nil, lex-joint-first, closed-append}
 use Rattle.trees.specs.Look.{isBlank}
 use Rattle.grammar.specs.Grammar.{solid, word, quoted, dot, opening, closing, andWord, orWord, notWord, category, kind, direction, severity, message, Part, OrGroup, Predicate, lastGroup, orThen, lastAtom, andThen, negated, bracketed, hasText, isConnected, messageHas, fieldIs, tokensOf, ReadWhole, Source, components, analysis, Call, where-call, all-call, any-call, none-call, count-call, features-call, diagnostics-call, sourceTokens, withPredicate, callTokens, callsTokens, ReadPipeline}
-use Rattle.grammar.specs.Texts.{Method, where-method, all-method, any-method, none-method, methodName, methodCall, methodText, callText, bracketText, andText, orText, notText, andPredicate, orPredicate, notPredicate}
+use Rattle.grammar.specs.Texts.{Method, where-method, all-method, any-method, none-method, methodName, methodText, callText, andText, orText, notText}
 use Rattle.grammar.proofs.BlankLaws.{solid-append}
 
 -- ---- every quote of the grammar's tokens is closed
@@ -98,6 +99,10 @@ unfolding solid joint-kind
 shut-text {p} r z =
     solid-joint Joint.closing p z (whole-closed r) ∙ ap (λ (ts : List Token). solid (lex p) ++ solid ts) (lex-joint-first Joint.closing z)
 
+-- `(P)`, and a text after it
+abbrev bracketText : List ℕ → List ℕ → List ℕ
+bracketText p z = ascii "(" ++ (p ++ (ascii ")" ++ z))
+
 pub bracket-text : {p : List ℕ} → ReadWhole p → (z : List ℕ) → solid (lex (bracketText p z)) ≡ opening ∷ (solid (lex p) ++ (closing ∷ solid (lex z)))
 unfolding solid joint-kind
 bracket-text {p} r z =
@@ -134,16 +139,19 @@ pub count-then : {c : List ℕ} → ReadPipeline c → (z : List ℕ)
     → solid (lex (c ++ (ascii ".count()" ++ z))) ≡ solid (lex c) ++ (dot ∷ word "count" ∷ opening ∷ closing ∷ solid (lex z))
 count-then {c} r z = rw (solid-joint Joint.dot c (ascii "count()" ++ z) (pipeline-closed r), count-first z)
 
-pub count-text : {c : List ℕ} → ReadPipeline c → solid (lex (c ++ ascii ".count()")) ≡ solid (lex c) ++ (dot ∷ word "count" ∷ opening ∷ closing ∷ [])
-unfolding lex solid
-count-text r = count-then r []
-
 -- ---- pipelines with one call more
 
 callsTokens-append : (cs ds : List Call) → callsTokens (cs ++ ds) ≡ callsTokens cs ++ callsTokens ds
 unfolding callsTokens
 callsTokens-append [] ds = refl
 callsTokens-append (c ∷ cs) ds = rw (callsTokens-append cs ds) (sym (append-assoc (callTokens c) (callsTokens cs) (callsTokens ds)))
+
+-- the call of a method that takes a predicate
+abbrev pub methodCall : Method → Predicate OrGroup → Call
+methodCall where-method p = where-call p
+methodCall all-method p = all-call p
+methodCall any-method p = any-call p
+methodCall none-method p = none-call p
 
 pub method-tokens : (m : Method) (p : Predicate OrGroup) → callTokens (methodCall m p) ≡ withPredicate (methodName m) p
 method-tokens where-method p = refl
@@ -175,14 +183,17 @@ pub count-tokens : {c : List ℕ} (r : ReadPipeline c) (z : List ℕ)
     → solid (lex (c ++ (ascii ".count()" ++ z))) ≡ sourceTokens (r .source) ++ (callsTokens (r .calls ++ (count-call ∷ [])) ++ solid (lex z))
 count-tokens r z = count-then r z ∙ rw (r .whole) (more-tokens (r .source) (r .calls) count-call (solid (lex z)))
 
-pub count-last : {c : List ℕ} (r : ReadPipeline c)
-    → solid (lex (c ++ ascii ".count()")) ≡ sourceTokens (r .source) ++ callsTokens (r .calls ++ (count-call ∷ []))
-count-last r = count-tokens r [] ∙ rw (lex-nil, solid-nil, append-nil)
-
-abbrev pub count-pipeline : {c : List ℕ} → ReadPipeline c → ReadPipeline (c ++ ascii ".count()")
-count-pipeline r = record { source = r .source; calls = r .calls ++ (count-call ∷ []); whole = count-last r }
-
 -- ---- predicates
+
+-- what `(P) and (Q)`, `(P) or (Q)` and `not (P)` are as predicates
+abbrev andPredicate : Predicate OrGroup → Predicate OrGroup → Predicate OrGroup
+andPredicate p q = lastGroup (andThen (bracketed p) (lastAtom (bracketed q)))
+
+abbrev orPredicate : Predicate OrGroup → Predicate OrGroup → Predicate OrGroup
+orPredicate p q = orThen (lastAtom (bracketed p)) (lastGroup (lastAtom (bracketed q)))
+
+abbrev notPredicate : Predicate OrGroup → Predicate OrGroup
+notPredicate p = lastGroup (lastAtom (negated (bracketed p)))
 
 and-first : (z : List ℕ) → solid (lex (ascii " and (" ++ z)) ≡ andWord ∷ opening ∷ solid (lex z)
 unfolding lex solid

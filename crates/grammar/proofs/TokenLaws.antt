@@ -11,7 +11,8 @@ use Rattle.syntax.specs.Kind.{WHITESPACE, STRING-LIT, INT-LIT, DOT, L-PAREN, R-
 use Rattle.syntax.specs.Text.{ascii, is, same}
 use Rattle.syntax.proofs.BoolLaws.{whether, true→T, T→true, and-left, and-right}
 use Rattle.lexer.specs.Bytes.{isBlank as blankByte, isAsciiDigit, isIdentStart, isIdentContinue, shapeOf}
-use Rattle.lexer.specs.Lex.{Token, run, quoted as quotedLength, equals as equalsLength, more, wordKind, kindOf, past, token, lexFrom, lex, hasQuote, isClosed, closed}
+use Rattle.lexer.specs.Lex.{Token, run, quoted as quotedLength, equals as equalsLength, wordKind, kindOf, past, token, lexFrom, lex}
+use Rattle.lexer.specs.Tokens.{hasQuote, isClosed, closed}
 use Rattle.lexer.proofs.LexLaws.{quoted-true, quoted-false}
 use Rattle.trees.specs.Look.{isBlank}
 use Rattle.grammar.specs.Grammar.{solid, quoted}

@@ -13,7 +13,8 @@ use Rattle.syntax.specs.Kind.{IDENT, STRING-LIT, DOT, L-PAREN, R-PAREN, EQ-EQ, 
 use Rattle.syntax.specs.Form.{EXPECT, EXPECT-IDENT, SOURCE, ATOM}
 use Rattle.syntax.specs.Text.{ascii, same}
 use Rattle.syntax.proofs.BoolLaws.{whether, true→T, T→true, and-left, and-right}
-use Rattle.lexer.specs.Lex.{Token, lex, isClosed, closed}
+use Rattle.lexer.specs.Lex.{Token, lex}
+use Rattle.lexer.specs.Tokens.{isClosed, closed}
 use Rattle.lexer.proofs.LexLaws.{closed-append}
 use Rattle.trees.specs.Green.{nil}
 use Rattle.trees.specs.Look.{isBlank, skipWs, peekKind, atKind, atText, atIdent, atMessageDot, atField, atPredicateMethod, atPlainMethod, hasBinaryOpAtLevel}
@@ -23,10 +24,10 @@ use Rattle.trees.proofs.StepLaws.{always, parse-step, stepsFrom, parse-steps}
 use Rattle.grammar.specs.Grammar.{solid, word, dot, opening, closing, equals, andWord, orWord, notWord, Field, category, kind, direction, severity, message, fieldWord, Part, OrGroup, AndGroup, Atom, Predicate, lastGroup, orThen, lastAtom, andThen, negated, bracketed, hasText, isConnected, messageHas, fieldIs, tokensOf, ReadWhole, Source, components, analysis, Call, count-call, features-call, diagnostics-call, sourceTokens, callTokens, callsTokens, ReadPipeline}
 use Rattle.grammar.specs.Blanks.{strip}
 use Rattle.grammar.specs.Trees.{predicateTree, read, pipelineThen}
-use Rattle.grammar.specs.Texts.{Method, where-method, all-method, any-method, none-method, methodName, methodCall}
+use Rattle.grammar.specs.Texts.{Method, where-method, all-method, any-method, none-method, methodName}
 use Rattle.grammar.proofs.BlankLaws.{parse-solid, pipeline-solid, strip-errors}
 use Rattle.grammar.proofs.ReadLaws.{ended, predicate-read, pipeline-read}
-use Rattle.grammar.proofs.TextLaws.{closed-solid, method-tokens}
+use Rattle.grammar.proofs.TextLaws.{closed-solid, methodCall, method-tokens}
 use Rattle.grammar.proofs.TokenLaws.{same-eq, kindFrom, rightText, Content, Real, Lexed, none, some, lexed-right, lexed-closed, lexed-lex}
 
 -- ---- languages of tokens

@@ -1,4 +1,4 @@
--- What the parser gives, without blanks. Assumes nothing: these are definitions.
+-- What the parser gives, without blanks: what BlankLaws speaks of. No contract cites it. Assumes nothing: these are definitions.
 use mathlib.Core.Bool.{true, false}
 use mathlib.Core.List.{List, [], _∷_}
 use Rattle.trees.specs.Green.{Forest, nil, leaf, node}

@@ -3,7 +3,7 @@
 use Prim.Native.Nat.{ℕ}
 use Prim.Native.String.{String}
 use mathlib.Core.Path.{_≡_}
-use mathlib.Core.Bool.{Bool, true, false}
+use mathlib.Core.Bool.{true, false}
 use mathlib.Core.List.{List, [], _∷_, _++_}
 use Rattle.syntax.specs.Kind.{IDENT, STRING-LIT, DOT, L-PAREN, R-PAREN, EQ-EQ, AND-KW, OR-KW, NOT-KW}
 use Rattle.syntax.specs.Text.{ascii}

@@ -3,7 +3,6 @@ use Prim.Native.Nat.{ℕ}
 use Prim.Native.String.{String}
 use mathlib.Core.List.{List, _++_}
 use Rattle.syntax.specs.Text.{ascii}
-use Rattle.grammar.specs.Grammar.{OrGroup, Predicate, lastGroup, orThen, lastAtom, andThen, negated, bracketed, Call, where-call, all-call, any-call, none-call}
 
 -- the methods that take a predicate
 pub data Method : Type 0 where
@@ -15,12 +14,6 @@ methodName all-method = "all"
 methodName any-method = "any"
 methodName none-method = "none"
 
-abbrev pub methodCall : Method → Predicate OrGroup → Call
-methodCall where-method p = where-call p
-methodCall all-method p = all-call p
-methodCall any-method p = any-call p
-methodCall none-method p = none-call p
-
 -- `.method(`, and a text after it
 abbrev pub methodText : Method → List ℕ → List ℕ
 methodText m z = ascii "." ++ (ascii (methodName m) ++ (ascii "(" ++ z))
@@ -29,11 +22,7 @@ methodText m z = ascii "." ++ (ascii (methodName m) ++ (ascii "(" ++ z))
 abbrev pub callText : Method → List ℕ → List ℕ → List ℕ
 callText m p z = methodText m (p ++ (ascii ")" ++ z))
 
--- `(P)`, and a text after it
-abbrev pub bracketText : List ℕ → List ℕ → List ℕ
-bracketText p z = ascii "(" ++ (p ++ (ascii ")" ++ z))
-
--- `(P) and (Q)`, `(P) or (Q)`, `not (P)`, and what each is as a predicate
+-- `(P) and (Q)`, `(P) or (Q)`, `not (P)`
 abbrev pub andText : List ℕ → List ℕ → List ℕ
 andText p q = ascii "(" ++ (p ++ (ascii ") and (" ++ (q ++ ascii ")")))
 
@@ -42,12 +31,3 @@ orText p q = ascii "(" ++ (p ++ (ascii ") or (" ++ (q ++ ascii ")")))
 
 abbrev pub notText : List ℕ → List ℕ
 notText p = ascii "not (" ++ (p ++ ascii ")")
-
-abbrev pub andPredicate : Predicate OrGroup → Predicate OrGroup → Predicate OrGroup
-andPredicate p q = lastGroup (andThen (bracketed p) (lastAtom (bracketed q)))
-
-abbrev pub orPredicate : Predicate OrGroup → Predicate OrGroup → Predicate OrGroup
-orPredicate p q = orThen (lastAtom (bracketed p)) (lastGroup (lastAtom (bracketed q)))
-
-abbrev pub notPredicate : Predicate OrGroup → Predicate OrGroup
-notPredicate p = lastGroup (lastAtom (negated (bracketed p)))

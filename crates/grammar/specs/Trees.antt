@@ -1,4 +1,5 @@
--- The trees that the parser makes of the grammar's tokens, and so without blanks. Assumes nothing: these are definitions.
+-- The trees that the parser makes of the grammar's tokens, and so without blanks: what ReadLaws speaks of. No contract cites it. Assumes
+-- nothing: these are definitions.
 use Prim.Native.Nat.{ℕ}
 use Prim.Native.String.{String}
 use mathlib.Core.Bool.{Bool, true, false, _||_}

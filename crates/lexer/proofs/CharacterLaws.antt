@@ -16,7 +16,8 @@ use Rattle.syntax.proofs.Utf8Laws.{well-ill, well-needs, well-in, well-out}
 use Rattle.lexer.specs.declared.Shape.{Shape}
 use Rattle.lexer.specs.declared.Shape.the-variants.{Blanks, Quoted, Symbol, Operator, Digits, Word, Character}
 use Rattle.lexer.specs.Bytes.{shapeOf, goesOn, isAsciiWhitespace, isAsciiDigit, isIdentContinue, isTrailing}
-use Rattle.lexer.specs.Lex.{run, quoted, equals, more, wordKind, kindOf, past, lexFrom, lex, errorsAreCharacters}
+use Rattle.lexer.specs.Lex.{run, quoted, equals, more, wordKind, kindOf, past, lexFrom, lex}
+use Rattle.lexer.specs.Tokens.{errorsAreCharacters}
 use Rattle.lexer.proofs.LexLaws.{run-true, run-false, quoted-true, quoted-false, equals-true, equals-false}
 
 -- the first bytes of the rows are below 256

@@ -1,13 +1,13 @@
 -- Laws of the lexer's definitions: token by token, tiling, joints. Assumes nothing.
-use mathlib.Core.Path.{_≡_, refl, sym, ap, _∙_, subst}
-use mathlib.Core.Bool.{Bool, true, false, cond, _&&_, and-assoc}
+use mathlib.Core.Path.{_≡_, refl, sym, ap, _∙_}
+use mathlib.Core.Bool.{Bool, true, false, _&&_, and-assoc}
 use mathlib.Core.List.{List, [], _∷_, _++_, append-assoc}
-use Prim.Native.Nat.{ℕ, zero, suc, _+_, _*_, _-_, _≤_, _<_, zero-le, suc-le-suc}
+use Prim.Native.Nat.{ℕ, zero, suc, _+_, _-_, _≤_, _<_, zero-le, suc-le-suc}
 use native.Mathlib.Nat.{le-of-suc-le-suc, not-suc-le-zero}
 use native.Mathlib.Omega.{arith}
-use lib.Dec.{T, eqb}
-use lib.ListN.{length, take, drop, getD, take-append-drop, length-append, length-drop}
-use lib.Seq.{drop-drop, length-take-le, take-append-le}
+use lib.Dec.{T}
+use lib.ListN.{length, take, drop, getD, take-append-drop, length-drop}
+use lib.Seq.{drop-drop, take-append-le}
 use Rattle.syntax.specs.Kind.{DOT, L-PAREN, R-PAREN}
 use Rattle.syntax.specs.Text.{is}
 use Rattle.syntax.proofs.BoolLaws.{whether, and-left, and-right}
@@ -15,7 +15,8 @@ use Rattle.syntax.proofs.TextLaws.{from}
 use Rattle.lexer.specs.declared.Shape.{Shape}
 use Rattle.lexer.specs.declared.Shape.the-variants.{Blanks, Quoted, Symbol, Operator, Digits, Word, Character}
 use Rattle.lexer.specs.Bytes.{shapeOf, goesOn, isAsciiWhitespace, isAsciiDigit, isIdentContinue, isTrailing}
-use Rattle.lexer.specs.Lex.{Token, run, quoted, equals, more, kindOf, past, token, lexFrom, lex, tokenRows, joined, hasQuote, isClosed, closed, openersIn}
+use Rattle.lexer.specs.Lex.{Token, run, quoted, equals, more, kindOf, past, token, lexFrom, lex}
+use Rattle.lexer.specs.Tokens.{joined, hasQuote, isClosed, closed}
 use Rattle.lexer.specs.LexScan.{TokenAt}
 
 -- a run, byte by byte
@@ -255,15 +256,3 @@ pub closed-append : (x y : List Token) → closed (x ++ y) ≡ closed x && close
 unfolding closed
 closed-append [] y = refl
 closed-append (t ∷ x) y = rw (closed-append x y) (sym (and-assoc (isClosed t) (closed x) (closed y)))
-
-pub openersIn-append : (x y : List Token) → openersIn (x ++ y) ≡ openersIn x + openersIn y
-unfolding openersIn
-openersIn-append [] y = omega arith
-openersIn-append (t ∷ x) y = omega (arith, openersIn-append x y)
-
-pub tokenRows-append : (at : ℕ) (x y : List Token) → tokenRows at (x ++ y) ≡ tokenRows at x ++ tokenRows (at + length (joined x)) y
-unfolding tokenRows joined
-tokenRows-append at [] y = ap (λ (n : ℕ). tokenRows n y) (omega arith)
-tokenRows-append at (t ∷ x) y =
-    let e : at + length (t .text) + length (joined x) ≡ at + length (t .text ++ joined x) = simp length-append (omega arith) in
-    rw (tokenRows-append (at + length (t .text)) x y, e)

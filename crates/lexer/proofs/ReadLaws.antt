@@ -1,8 +1,8 @@
 -- Reading a rule token by token: counting its openers, writing its rows, and what a check that it passed says. Assumes nothing.
 use mathlib.Core.Path.{_≡_, refl, sym, ap, _∙_}
 use mathlib.Core.Bool.{Bool, true, false, cond, not, _||_}
-use mathlib.Core.List.{List, [], _∷_, _++_}
-use Prim.Native.Nat.{ℕ, zero, suc, zero-le, suc-le-suc, _+_, _*_, _-_, _/_, _≤_, _<_}
+use mathlib.Core.List.{List, [], _∷_}
+use Prim.Native.Nat.{ℕ, zero, suc, zero-le, suc-le-suc, _+_, _*_, _-_, _≤_}
 use native.Mathlib.Omega.{arith}
 use borrow.Author.Tests.{ltb-false}
 use lib.Dec.{ltb}
@@ -16,7 +16,7 @@ use Rattle.syntax.specs.declared.refusal.Check.{Check}
 use Rattle.lexer.specs.declared.Lexed.{Lexed}
 use Rattle.lexer.specs.Lex.{Token, past, lexFrom, lex, tokenRows, isOpener, openersIn}
 use Rattle.lexer.specs.LexScan.{TokenAt}
-use Rattle.lexer.specs.Read.{MAX-RULE, MAX-OPENERS, TOKEN-ROW, tokensShort, tablesShort, checkRule, checkRoom, tokensRead, tokenTable, Reads}
+use Rattle.lexer.specs.Read.{MAX-RULE, TOKEN-ROW, tokensShort, tablesShort, checkRule, checkRoom, tokensRead, Reads}
 use Rattle.lexer.proofs.LexLaws.{lex-nil}
 
 -- n openers are found among the tokens up to `at`

@@ -1,12 +1,11 @@
 -- lexer.rs `lex`: the tokens of a text, without positions; positions stand in the rows alone. Assumes nothing: these are definitions.
 use Prim.Native.Nat.{ℕ, zero, suc, _+_}
-use mathlib.Core.Bool.{Bool, true, false, cond, _&&_, _||_, not}
-use mathlib.Core.List.{List, [], _∷_, _++_}
+use mathlib.Core.Bool.{Bool, true, false, cond, _||_, not}
+use mathlib.Core.List.{List, [], _∷_}
 use lib.Dec.{eqb}
 use lib.ListN.{length, take}
 use Rattle.syntax.specs.Kind.{WHITESPACE, IDENT, STRING-LIT, INT-LIT, L-PAREN, AND-KW, OR-KW, NOT-KW, ERROR}
 use Rattle.syntax.specs.Text.{ascii, is, same}
-use Rattle.syntax.specs.Utf8.{isCharacter}
 use Rattle.lexer.specs.declared.Shape.{Shape}
 use Rattle.lexer.specs.declared.Shape.the-variants.{Blanks, Quoted, Symbol, Operator, Digits, Word, Character}
 use Rattle.lexer.specs.Bytes.{shapeOf, goesOn, isAsciiWhitespace, isAsciiDigit, isIdentContinue, isTrailing}
@@ -83,11 +82,6 @@ unfoldable pub tokenRows : ℕ → List Token → List ℕ
 tokenRows at [] = []
 tokenRows at (t ∷ ts) = let end = at + length (t .text) in t .kind ∷ at ∷ end ∷ tokenRows end ts
 
--- the bytes of tokens, one after the other
-unfoldable pub joined : List Token → List ℕ
-joined [] = []
-joined (t ∷ ts) = t .text ++ joined ts
-
 -- whether a token is `(` or `not`
 abbrev pub isOpener : ℕ → Bool
 isOpener k = eqb k L-PAREN || eqb k NOT-KW
@@ -96,29 +90,3 @@ isOpener k = eqb k L-PAREN || eqb k NOT-KW
 unfoldable pub openersIn : List Token → ℕ
 openersIn [] = 0
 openersIn (t ∷ ts) = cond (isOpener (t .kind)) 1 0 + openersIn ts
-
--- whether a quote stands in s
-unfoldable pub hasQuote : List ℕ → Bool
-hasQuote [] = false
-hasQuote (b ∷ s) = is "'" b || hasQuote s
-
-abbrev pub tail : List ℕ → List ℕ
-tail [] = []
-tail (b ∷ s) = s
-
--- a token is closed if it is no string literal, or has a quote past its first byte
-unfoldable pub isClosed : Token → Bool
-unfolding hasQuote
-isClosed t = not (eqb (t .kind) STRING-LIT) || hasQuote (tail (t .text))
-
--- no string literal is unclosed
-unfoldable pub closed : List Token → Bool
-unfolding isClosed
-closed [] = true
-closed (t ∷ ts) = isClosed t && closed ts
-
--- lexer.rs, 01: each ERROR token is one whole UTF-8 character; a lone `=` or `!` and a form feed are one too
-unfoldable pub errorsAreCharacters : List Token → Bool
-unfolding isCharacter
-errorsAreCharacters [] = true
-errorsAreCharacters (t ∷ ts) = (not (eqb (t .kind) ERROR) || isCharacter (t .text)) && errorsAreCharacters ts

@@ -9,7 +9,8 @@ use Rattle.syntax.specs.Kind.{ROOT, NONE}
 use Rattle.syntax.specs.declared.refusal.Refusal.the-variants.{ParseErrors}
 use Rattle.syntax.proofs.BoolLaws.{whether}
 use Rattle.lexer.specs.Lex.{Token, lex}
-use Rattle.trees.specs.Green.{_⊹_, tokensOf}
+use Rattle.trees.specs.Green.{_⊹_}
+use Rattle.trees.proofs.GreenLaws.{tokensOf}
 use Rattle.trees.specs.Look.{isBlank, skipWs, atKind, hasCountCompareAhead}
 use Rattle.trees.specs.Parse.{Error, Parsed, choose, bump, eatWs, leftOver, parsePipeline, parseExpr}
 use Rattle.trees.proofs.TreeLaws.{Keeps, keeping, keeps-parse, Kinds, kinds-lex, eat-rest}

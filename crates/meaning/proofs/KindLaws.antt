@@ -5,7 +5,8 @@ use mathlib.Core.List.{List, [], _∷_}
 use Prim.Native.Nat.{ℕ}
 use Rattle.predicate.specs.declared.atom.Member.{Member}
 use Rattle.meaning.specs.Value.{Sort, components, features, diagnostics, Outcome, collection, boolean, refused, Kind, sortKind}
-use Rattle.meaning.specs.Calls.{Method, Where, All, Any, None, Count, Features, Diagnostics, Entry, next, line, quantifier, gives, Call, trueFor, onMembers, byEntry, callGives, callsGive, entryOf, entryAfter, entriesAfter}
+use Rattle.meaning.specs.Calls.{Method, Where, All, Any, None, Count, Features, Diagnostics, Entry, next, refuse, line, quantifier, gives, Call, trueFor, onMembers, byEntry, callGives, callsGive}
+use Rattle.meaning.specs.Walk.{entryAfter, entriesAfter}
 
 -- `where`, the quantifiers and `count` follow every collection
 line-alike : (e other : Entry) (sort : Sort) → line e e e other (sortKind sort) ≡ e
@@ -35,6 +36,13 @@ quantifier-taken sort o = ap (λ (e : Entry). byEntry e o) (quantifier-line sort
 
 pub count-taken : (sort : Sort) (o : Outcome) → byEntry (gives Count (sortKind sort)) o ≡ o
 count-taken sort o = ap (λ (e : Entry). byEntry e o) (count-line sort)
+
+-- the kind of a value, or its refusal
+abbrev pub entryOf : Outcome → Entry
+entryOf (collection sort members) = next (sortKind sort)
+entryOf (boolean value warned) = next Kind.Boolean
+entryOf (Outcome.count n) = next Kind.Count
+entryOf (refused r) = refuse r
 
 -- the kind of what a call gives on members
 members-kind : (image : List ℕ) (method : Method) (isTrue : Member → Bool) (sort : Sort) (members : List Member)

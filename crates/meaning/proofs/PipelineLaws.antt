@@ -15,10 +15,10 @@ use Rattle.trees.specs.Look.{isBlank, isComparison, endsInComparison, hasCountC
 use Rattle.trees.specs.Parse.{Error, Parsed, Parser, join, _▹_, inNode, choose, bump, eatWs, leftOver, Calls, parse, parsePipeline, parsePipelineOrCountCompare, parseRoot, parseExpr}
 use Rattle.grammar.specs.Grammar.{solid, dot, word, opening, closing, OrGroup, Predicate, Source, components, analysis, Call as Written, where-call, all-call, any-call, none-call, count-call, features-call, diagnostics-call, sourceTokens, callsTokens, ReadWhole, ReadPipeline}
 use Rattle.grammar.specs.Trees.{predicateTree, callTree, callsTree, sourceTree, pipelineThen}
-use Rattle.grammar.specs.Texts.{Method as Taking, methodName, methodCall, callText}
+use Rattle.grammar.specs.Texts.{Method as Taking, methodName, callText}
 use Rattle.grammar.proofs.BlankLaws.{root-solid}
 use Rattle.grammar.proofs.ReadLaws.{pipeline-read}
-use Rattle.grammar.proofs.TextLaws.{call-text, call-tokens, call-pipeline, count-then, count-tokens}
+use Rattle.grammar.proofs.TextLaws.{methodCall, call-text, call-tokens, call-pipeline, count-then, count-tokens}
 use Rattle.predicate.specs.declared.atom.Member.{Member}
 use Rattle.predicate.specs.Truth.{firstText, literalOf}
 use Rattle.meaning.specs.Value.{Sort, Outcome, collection, boolean, refused}

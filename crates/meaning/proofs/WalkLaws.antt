@@ -20,9 +20,9 @@ use Rattle.instance.specs.Instance.{featuresEnd}
 use Rattle.predicate.specs.declared.atom.Member.{Member}
 use Rattle.predicate.specs.declared.atom.Member.the-variants.{Component, Feature, Diagnostic}
 use Rattle.meaning.specs.Value.{Sort, components, features, diagnostics, Outcome, collection, boolean, refused, Kind, sortKind, rowOf, rowsOf, wholeRows}
-use Rattle.meaning.specs.Calls.{Method, Where, All, Any, None, Count, Features, Diagnostics, Entry, next, refuse, quantifier, gives, keep, kept, every, isEmpty, upFrom, featuresOf, fanOut, Call, trueFor, onMembers, byEntry, callGives, callsGive, entriesAfter}
+use Rattle.meaning.specs.Calls.{Method, Where, All, Any, None, Count, Features, Diagnostics, Entry, next, refuse, quantifier, gives, keep, kept, every, isEmpty, upFrom, featuresOf, fanOut, Call, trueFor, onMembers, byEntry, callGives, callsGive}
 use Rattle.meaning.specs.Pipeline.{allComponents, isOfAnalysis, diagnosticsOf}
-use Rattle.meaning.specs.Walk.{planOf, isOf, isQuantifier, isLast, arriveBy, arrivals, lastCall, methodIn, lastMethod, testIn, lastTest, howMany, settled}
+use Rattle.meaning.specs.Walk.{entriesAfter, planOf, isQuantifier, isLast, arriveBy, arrivals, lastCall, lastMethod, lastTest, howMany, settled}
 use Rattle.meaning.proofs.MemberLaws.{some-count, none-count, every-count}
 
 -- ---- what the calls give is settled by the plan and by what arrives
@@ -280,11 +280,6 @@ pub last-later : (call : Call) (calls : List Call) → isLast (call .method) ≡
 unfolding lastCall
 last-later call calls e = rw e
 
--- its method
-pub last-method : (calls : List Call) (call : Call) → lastCall calls ≡ some call → lastMethod calls ≡ call .method
-unfolding lastMethod
-last-method calls call e = ap methodIn e
-
 -- ---- numbers and rows, one member after the other
 
 pub how-many-append : (passes : Member → Bool) (xs ys : List Member) → howMany passes (xs ++ ys) ≡ howMany passes xs + howMany passes ys
@@ -439,11 +434,6 @@ components-features image first (suc n) =
     let parts = length-append (featuresOf image first) (fanOut image (map Component (upFrom (suc first) n))) in
     omega (arith, parts, features-few image first, components-features image (suc first) n)
 
--- of a board a component's features all lie in it
-pub features-end : (image : List ℕ) (c : ℕ) → WellFormed image → c < componentCount image → featuresEnd image c ≡ firstFeature image c + featureNumber image c
-unfolding featuresEnd
-features-end image c w h = omega (arith, w .features .within c h)
-
 -- what arrives of all components has a row for each, and so has what arrives of diagnostics
 pub components-fit : (image : List ℕ) (calls : List Call) → WellFormed image
     → length (arrivals image calls (map Component (upFrom 0 (componentCount image)))) ≤ componentCount image + featureCount image
@@ -501,6 +491,18 @@ every-kept passes chosen (m ∷ ms) e = go (passes m) refl (chosen m) e (every-k
     go true p true h k = rw p (k h)
     go true p false h k = k h
     go false p c h k = absurd (false≢true h)
+
+-- whether a member is of a sort
+abbrev pub isOf : Sort → Member → Bool
+isOf components (Component c) = true
+isOf components (Feature c f) = false
+isOf components (Diagnostic d) = false
+isOf features (Component c) = false
+isOf features (Feature c f) = true
+isOf features (Diagnostic d) = false
+isOf diagnostics (Component c) = false
+isOf diagnostics (Feature c f) = false
+isOf diagnostics (Diagnostic d) = true
 
 -- what is made of numbers, and what `features` gives
 every-made : (sort : Sort) (make : ℕ → Member) → ((n : ℕ) → isOf sort (make n) ≡ true) → (ns : List ℕ) → every (isOf sort) (map make ns) ≡ true

@@ -3,7 +3,6 @@ use Prim.Native.Nat.{ℕ, zero, suc, _-_}
 use mathlib.Core.Bool.{Bool, true, false, not, _&&_, _||_}
 use mathlib.Core.List.{List, [], _∷_, _++_, map}
 use lib.ListN.{length}
-use Rattle.syntax.specs.Refusal.{refusalNumber}
 use Rattle.syntax.specs.declared.refusal.Refusal.{Refusal}
 use Rattle.syntax.specs.declared.refusal.Refusal.the-variants.{WhereOnNoCollection, QuantifierOnNoCollection, CountOnNoCollection, FeaturesOnNoComponents, DiagnosticsOnNoDiagnostics}
 use Rattle.trees.specs.Green.{Forest}
@@ -63,10 +62,6 @@ kindNumber Kind.Features = 1
 kindNumber Kind.Diagnostics = 2
 kindNumber Kind.Boolean = 3
 kindNumber Kind.Count = 4
-
-abbrev pub entryNumber : Entry → ℕ
-entryNumber (next kind) = kindNumber kind
-entryNumber (refuse r) = refusalNumber r
 
 -- `filter`: the members that pass a test, in order
 abbrev pub keep : Bool → Member → List Member → List Member
@@ -149,18 +144,3 @@ unfoldable pub callsGive : List ℕ → List Call → Outcome → Outcome
 unfolding callGives
 callsGive image [] value = value
 callsGive image (call ∷ calls) value = callsGive image calls (callGives image call value)
-
--- the kind of a value, or its refusal, and what the table makes of it: the kinds of a whole list of calls are settled without a member
-abbrev pub entryOf : Outcome → Entry
-entryOf (collection sort members) = next (sortKind sort)
-entryOf (boolean value warned) = next Kind.Boolean
-entryOf (Outcome.count n) = next Kind.Count
-entryOf (refused r) = refuse r
-
-abbrev pub entryAfter : Method → Entry → Entry
-entryAfter method (next kind) = gives method kind
-entryAfter method (refuse r) = refuse r
-
-abbrev pub entriesAfter : List Call → Entry → Entry
-entriesAfter [] entry = entry
-entriesAfter (call ∷ calls) entry = entriesAfter calls (entryAfter (call .method) entry)

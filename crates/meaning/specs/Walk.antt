@@ -7,25 +7,21 @@ use mathlib.Core.Option.{Option, none, some}
 use lib.Dec.{eqb, ltb}
 use lib.ListN.{length}
 use Rattle.predicate.specs.declared.atom.Member.{Member}
-use Rattle.predicate.specs.declared.atom.Member.the-variants.{Component, Feature, Diagnostic}
-use Rattle.meaning.specs.Value.{Sort, components, features, diagnostics, Outcome, collection, boolean, Kind}
-use Rattle.meaning.specs.Calls.{Method, Where, All, Any, None, Count, Features, Diagnostics, Entry, next, kept, fanOut, Call, trueFor, entriesAfter}
+use Rattle.meaning.specs.Value.{components, features, diagnostics, Outcome, collection, boolean, Kind}
+use Rattle.meaning.specs.Calls.{Method, Where, All, Any, None, Count, Features, Diagnostics, Entry, next, refuse, gives, kept, fanOut, Call, trueFor}
+
+-- what the table makes of a kind, or of a refusal: the kinds of a whole list of calls are settled without a member
+abbrev pub entryAfter : Method → Entry → Entry
+entryAfter method (next kind) = gives method kind
+entryAfter method (refuse r) = refuse r
+
+abbrev pub entriesAfter : List Call → Entry → Entry
+entriesAfter [] entry = entry
+entriesAfter (call ∷ calls) entry = entriesAfter calls (entryAfter (call .method) entry)
 
 -- the kinds alone: the kind after all calls, or the refusal of the leftmost call that may not stand where it stands
 abbrev pub planOf : Kind → List Call → Entry
 planOf kind calls = entriesAfter calls (next kind)
-
--- whether a member is of a sort
-abbrev pub isOf : Sort → Member → Bool
-isOf components (Component c) = true
-isOf components (Feature c f) = false
-isOf components (Diagnostic d) = false
-isOf features (Component c) = false
-isOf features (Feature c f) = true
-isOf features (Diagnostic d) = false
-isOf diagnostics (Component c) = false
-isOf diagnostics (Feature c f) = false
-isOf diagnostics (Diagnostic d) = true
 
 -- a call that gives a boolean: it tests members
 abbrev pub isQuantifier : Method → Bool

@@ -5,7 +5,7 @@ use Rattle.texts.specs.Text.{numberText, shown}
 use Rattle.board.specs.Boards.{boardA}
 use Rattle.board.specs.Image.{field, pairOffset, word, littleEndian, text}
 use Rattle.calls.specs.declared.value.Value.{Value}
-use Rattle.members.specs.Words.{categoryText, featureKindText, directionPart, severityText}
+use Rattle.members.specs.Words.{categoryText, featureKindText, directionPart}
 use Rattle.members.specs.Member.{componentText, portText, featureText, memberText}
 
 pub the-device : memberText boardA (Value.Components 2) 1 0 ≡ ascii "  component 1: device\n"

@@ -7,7 +7,7 @@ use native.Mathlib.Omega.{arith}
 use lib.ListN.{length, drop}
 use borrow.Author.Tests.{le-leb, lt-leb, leb-true}
 use Rattle.syntax.specs.Kind.{ROOT, BINARY-EXPR, UNARY-EXPR, PAREN-EXPR}
-use Rattle.trees.specs.Green.{Forest, node}
+use Rattle.trees.specs.Green.{Forest}
 use Rattle.predicate.specs.declared.atom.Member.{Member}
 use Rattle.predicate.specs.declared.Truth.{Truth}
 use Rattle.predicate.specs.declared.Operands.{Operands}

@@ -8,9 +8,11 @@ use lib.Dec.{T, leb, leb→le}
 use lib.ListN.{length, take, drop, length-append}
 use lib.Seq.{take-at, drop-at, drop-drop}
 use Rattle.syntax.specs.Kind.{ROOT}
-use Rattle.lexer.specs.Lex.{Token, lex, joined}
+use Rattle.lexer.specs.Lex.{Token, lex}
+use Rattle.lexer.specs.Tokens.{joined}
 use Rattle.lexer.proofs.LexLaws.{lex-joined, joined-append}
-use Rattle.trees.specs.Green.{Forest, nil, leaf, node, _⊹_, tokensOf, span}
+use Rattle.trees.specs.Green.{Forest, nil, leaf, node, _⊹_, span}
+use Rattle.trees.proofs.GreenLaws.{tokensOf}
 use Rattle.trees.specs.Parse.{Parsed, Parser, done, next, fails, failsAhead, join, _▹_, inNode, choose, eatWs, Mode, OrExpr, OrRest, AndExpr, AndRest, Atom, Calls, step, steps, parse, parsePipelineOrCountCompare, remaining, parseRoot, parseExpr}
 use Rattle.trees.specs.Look.{isBlank}
 use Rattle.trees.specs.Rows.{treeRows}

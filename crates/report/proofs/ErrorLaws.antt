@@ -1,12 +1,12 @@
 -- A message written apart, and then shown. Assumes nothing.
-use mathlib.Core.Path.{_≡_, sym, ap, _∙_}
+use mathlib.Core.Path.{_≡_}
 use mathlib.Core.List.{List}
-use Prim.Native.Nat.{ℕ, _+_, _≤_, _<_}
+use Prim.Native.Nat.{ℕ, _≤_, _<_}
 use native.Mathlib.Omega.{arith}
 use borrow.Author.Tests.{le-ltb, lt-ltb, ltb-true, ltb-false}
 use lib.Dec.{ltb}
 use lib.ListN.{length, take, drop, length-append}
-use lib.Seq.{length-take-le, take-append-seam}
+use lib.Seq.{take-append-seam}
 use Rattle.syntax.specs.Text.{ascii}
 use Rattle.syntax.proofs.BoolLaws.{whether}
 use Rattle.lexer.specs.Read.{MAX-RULE}

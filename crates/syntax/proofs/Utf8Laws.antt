@@ -12,7 +12,7 @@ use Rattle.syntax.specs.Utf8.{Range, to, within, After, ill, needs, afte
 use Rattle.syntax.specs.Utf8Scan.{ILL, trails, pending, leadCount, leadLow, leadHigh, Steps}
 use Rattle.syntax.proofs.BoolLaws.{whether, and-left, and-right, both}
 use Rattle.syntax.proofs.TextLaws.{from}
-use Rattle.syntax.proofs.EveryByte.{at-each, below}
+use Rattle.syntax.proofs.EveryByte.{at-each}
 
 -- well-formedness, byte by byte
 module _ (b : ℕ) (s : List ℕ) where

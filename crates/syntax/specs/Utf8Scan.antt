@@ -2,7 +2,7 @@
 -- No reader of `utf8` needs this file. Assumes nothing: these are definitions.
 use Prim.Native.Nat.{ℕ, zero, suc, _≤_}
 use mathlib.Core.Path.{_≡_}
-use mathlib.Core.Bool.{Bool, true, false, cond}
+use mathlib.Core.Bool.{false, cond}
 use mathlib.Core.List.{List, [], _∷_}
 use lib.Dec.{ltb, eqb}
 use Rattle.syntax.specs.Utf8.{Range, to, trail, wellFrom}

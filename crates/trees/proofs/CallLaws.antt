@@ -11,10 +11,10 @@ use Rattle.syntax.specs.Form.{METHOD}
 use Rattle.syntax.specs.Text.{ascii}
 use Rattle.lexer.specs.Lex.{Token, lex}
 use Rattle.lexer.proofs.ReadLaws.{lex-length}
-use Rattle.trees.specs.Green.{Forest, nil, leaf, node, _⊹_, tokensOf, dotCalls}
+use Rattle.trees.specs.Green.{Forest, nil, leaf, node, _⊹_, dotCalls}
 use Rattle.trees.specs.Look.{isBlank, atKind, atText, atPredicateMethod, atPlainMethod}
 use Rattle.trees.specs.Parse.{Parsed, Parser, done, next, fails, failsAhead, join, _▹_, inNode, choose, eatWs, bump, expect, Mode, OrExpr, OrRest, AndExpr, AndRest, Atom, Calls, predicateArgs, noArgs, noMethod, parseMethod, parseDotCall, step, steps, parse, remaining, parseRoot, parseExpr}
-use Rattle.trees.proofs.GreenLaws.{tokensOf-⊹}
+use Rattle.trees.proofs.GreenLaws.{tokensOf, tokensOf-⊹}
 use Rattle.trees.proofs.TreeLaws.{eat-rest, tree-tokens}
 use Rattle.trees.proofs.StepLaws.{Sees, sees-kind, expect-bump}
 use Rattle.trees.proofs.BoundLaws.{sees-text, sees-or, sees-method}

@@ -5,7 +5,7 @@ use Prim.Native.Nat.{ℕ, zero, suc, _+_, _*_, _-_, _≤_, max}
 use native.Mathlib.Omega.{arith}
 use lib.ListN.{length, take, drop, length-append}
 use Rattle.lexer.specs.Lex.{Token}
-use Rattle.trees.specs.Green.{Forest, nil, leaf, node, _⊹_, tokensOf, size, height, width, span}
+use Rattle.trees.specs.Green.{Forest, nil, leaf, node, _⊹_, size, height, width, span}
 use Rattle.trees.specs.Look.{headText}
 use Rattle.trees.specs.Parse.{Error}
 use Rattle.trees.specs.Rows.{treeRows, errorRows}
@@ -27,6 +27,12 @@ unfolding _⊹_ height
 height-⊹ nil g = omega arith
 height-⊹ (leaf t f) g = height-⊹ f g
 height-⊹ (node k s f) g = let h = height-⊹ f g in omega arith
+
+-- the tokens of a forest, in order
+unfoldable pub tokensOf : Forest → List Token
+tokensOf nil = []
+tokensOf (leaf t f) = t ∷ tokensOf f
+tokensOf (node k s f) = tokensOf s ++ tokensOf f
 
 pub tokensOf-⊹ : (f g : Forest) → tokensOf (f ⊹ g) ≡ tokensOf f ++ tokensOf g
 unfolding _⊹_ tokensOf

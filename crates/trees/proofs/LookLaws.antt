@@ -6,18 +6,18 @@ use Prim.Native.Nat.{ℕ, zero, suc, _+_, _*_, _-_, _≤_, _<_}
 use native.Mathlib.Omega.{arith}
 use borrow.Author.Tests.{eq-eqb, ne-eqb, eqb-true, eqb-false}
 use lib.Dec.{eqb}
-use lib.ListN.{length, take, drop, getD, length-drop}
+use lib.ListN.{length, drop, getD, length-drop}
 use Rattle.syntax.specs.Kind.{WHITESPACE, L-PAREN, R-PAREN, INT-LIT, NONE}
 use Rattle.syntax.proofs.BoolLaws.{whether}
 use Rattle.lexer.specs.Lex.{Token, tokenRows}
 use Rattle.reader.specs.Reader as reader
 use Rattle.reader.proofs.ReaderLaws.{current-later, current-blank, current-solid}
-use Rattle.trees.specs.Look.{isBlank, skipWs, headKind, headText, tailOf, currentKind, atKind, isComparison, endsInComparison, opAhead}
+use Rattle.trees.specs.Look.{skipWs, headKind, tailOf, currentKind, atKind, isComparison, endsInComparison, opAhead}
 use Rattle.trees.specs.Green.{size}
-use Rattle.trees.specs.Parse.{Parser, done, next, fails, failsAhead, _▹_, join, eatWs, nextIs, remaining}
+use Rattle.trees.specs.Parse.{Parser, done, next, fails, failsAhead, _▹_, eatWs, nextIs, remaining}
 use Rattle.trees.specs.Writing.{Ready, Past, Skipped, Fits, Asks, Did}
 use Rattle.trees.specs.declared.Cursor.{Cursor}
-use Rattle.trees.proofs.TokenLaws.{Row, row, at-end, table-length, some-token}
+use Rattle.trees.proofs.TokenLaws.{Row, row, at-end, table-length}
 use Rattle.trees.proofs.WritingLaws.{did-done, did-then, did-as, fits-as, fits-first, fits-then, tree-long}
 
 -- ---- blanks

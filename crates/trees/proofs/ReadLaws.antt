@@ -1,18 +1,18 @@
 -- From the parser's functions to what a caller is told. Assumes nothing.
 use mathlib.Core.Path.{_≡_, refl, sym, ap, _∙_}
-use mathlib.Core.Bool.{Bool, true, false, not, cond, _||_}
-use mathlib.Core.List.{List, [], _∷_, _++_}
-use Prim.Native.Nat.{ℕ, _+_, _*_, _/_, _≤_, _<_}
+use mathlib.Core.Bool.{Bool, true, false, _||_}
+use mathlib.Core.List.{List}
+use Prim.Native.Nat.{ℕ, _+_, _*_, _/_, _≤_}
 use native.Mathlib.Omega.{arith}
 use borrow.Author.Tests.{ltb-false, le-ltb}
 use lib.Dec.{ltb}
 use lib.ListN.{length, take, drop, length-append}
-use lib.Seq.{sets, take-at, length-take-le}
+use lib.Seq.{sets, take-at}
 use Rattle.syntax.specs.Table.{withRows}
 use Rattle.syntax.specs.declared.refusal.Refusal.{Refusal}
 use Rattle.syntax.proofs.TableLaws.{sets-front}
 use Rattle.lexer.specs.Lex.{lex, tokenRows}
-use Rattle.lexer.specs.Read.{MAX-RULE, TOKEN-ROW, TREE-ROW, ERROR-ROW, rowsNeeded, tokensShort, tablesShort, checkRule, checkRoom, tokensRead, tokenTable}
+use Rattle.lexer.specs.Read.{MAX-RULE, TOKEN-ROW, TREE-ROW, ERROR-ROW, rowsNeeded, tokensShort, tablesShort, checkRule, checkRoom}
 use Rattle.syntax.specs.declared.refusal.Check.{Check}
 use Rattle.lexer.specs.declared.Lexed.{Lexed}
 use Rattle.lexer.proofs.ReadLaws.{lex-length, tokenRows-length, passed-lengths}
@@ -20,7 +20,7 @@ use Rattle.trees.specs.Green.{size}
 use Rattle.trees.specs.Parse.{parseRoot, parseExpr}
 use Rattle.trees.specs.Rows.{treeRows, errorRows}
 use Rattle.trees.specs.Writing.{Asks, Did}
-use Rattle.trees.specs.Read.{checkTables, rowsRead, treeTable, errorTable, Reads}
+use Rattle.trees.specs.Read.{checkTables, rowsRead, Reads}
 use Rattle.trees.specs.declared.Cursor.{Cursor}
 use Rattle.trees.specs.declared.Reading.{Reading}
 use Rattle.trees.proofs.GreenLaws.{treeRows-length, errorRows-length}

@@ -9,7 +9,8 @@ use lib.ListN.{length, take, drop, getD, drop-of-length-le, length-append}
 use lib.Seq.{drop-drop, take-append-seam, drop-append-seam}
 use Rattle.syntax.specs.Kind.{NONE}
 use Rattle.syntax.proofs.BoolLaws.{whether}
-use Rattle.lexer.specs.Lex.{Token, lex, joined, tokenRows}
+use Rattle.lexer.specs.Lex.{Token, lex, tokenRows}
+use Rattle.lexer.specs.Tokens.{joined}
 use Rattle.lexer.proofs.LexLaws.{lex-joined}
 use Rattle.lexer.proofs.ReadLaws.{tokenRows-length}
 use Rattle.trees.specs.Green.{width}

@@ -11,10 +11,9 @@ use Rattle.syntax.specs.Kind.{ROOT, NONE}
 use Rattle.syntax.proofs.BoolLaws.{whether}
 use Rattle.lexer.specs.Lex.{Token, wordKind, kindOf, past, token, lexFrom, lex}
 use Rattle.lexer.specs.Bytes.{shapeOf}
-use Rattle.trees.specs.Green.{tokensOf}
 use Rattle.trees.specs.Look.{isBlank, skipWs, headKind, currentKind, atKind}
 use Rattle.trees.specs.Parse.{Parsed, Parser, done, next, fails, failsAhead, join, _▹_, inNode, choose, eatWs, bump, expect, simpleAtom, Mode, OrExpr, OrRest, AndExpr, AndRest, Atom, Calls, step, steps, parse, parsePipelineOrCountCompare, remaining, leftOver, parseRoot, parseExpr}
-use Rattle.trees.proofs.GreenLaws.{tokensOf-⊹}
+use Rattle.trees.proofs.GreenLaws.{tokensOf, tokensOf-⊹}
 
 -- x is what was read from ts: the tokens of its tree and those left are ts
 pub record Kept (ts : List Token) (x : Parsed) : Type 0 where

@@ -1,6 +1,6 @@
 -- Document 01's example of the program `tree`, and the empty text, by computation. Assumes nothing.
 use mathlib.Core.Path.{_≡_, refl}
-use mathlib.Core.List.{List, [], _∷_, _++_}
+use mathlib.Core.List.{List, [], _∷_}
 use Prim.Native.Nat.{ℕ}
 use Rattle.syntax.specs.Text.{ascii}
 use Rattle.trees.specs.Parse.{parseExpr}

@@ -1,23 +1,23 @@
 -- What was written, put together as the definitions are: nothing, the next token, an error, one after another, a node, a choice.
 -- Assumes nothing.
 use mathlib.Core.Path.{_≡_, refl, sym, ap, _∙_, subst}
-use mathlib.Core.List.{List, [], _∷_, _++_, append-nil}
+use mathlib.Core.List.{List, [], _∷_, append-nil}
 use mathlib.Core.Bool.{Bool, true, false}
-use Prim.Native.Nat.{ℕ, zero, suc, _+_, _*_, _-_, _<_, _≤_, _^_, max}
+use Prim.Native.Nat.{ℕ, suc, _+_, _*_, _-_, _<_, _≤_, _^_, max}
 use native.Mathlib.Numerals.{towards-suc}
 use native.Mathlib.Omega.{arith}
-use lib.ListN.{length, take, drop, set, getD, length-append, length-set}
+use lib.ListN.{length, drop, set, getD, length-append, length-set}
 use lib.Seq.{sets, set-set, set-comm, length-sets}
 use Rattle.syntax.proofs.TableLaws.{sets-append}
 use Rattle.lexer.specs.Lex.{Token}
-use Rattle.trees.specs.Green.{Forest, nil, leaf, node, _⊹_, width, span, size, height}
-use Rattle.trees.specs.Look.{skipWs, headText}
-use Rattle.trees.specs.Parse.{Error, Parsed, Parser, done, next, fails, failsAhead, join, _▹_, inNode, choose}
+use Rattle.trees.specs.Green.{nil, node, width, span, size, height}
+use Rattle.trees.specs.Look.{headText}
+use Rattle.trees.specs.Parse.{Parsed, Parser, done, next, fails, failsAhead, join, _▹_, inNode, choose}
 use Rattle.trees.specs.Rows.{treeRows, errorRows}
 use Rattle.trees.specs.Writing.{Ready, Skipped, Fits, Asks, Wrote, Did, Started, Finished}
 use Rattle.trees.specs.declared.Cursor.{Cursor}
 use Rattle.trees.proofs.GreenLaws.{span-⊹, size-⊹, height-⊹, treeRows-length, treeRows-⊹, errorRows-length, errorRows-append, width-split}
-use Rattle.trees.proofs.TokenLaws.{Row, row, at-end, table-length}
+use Rattle.trees.proofs.TokenLaws.{row, at-end, table-length}
 
 -- ---- nothing, the next token, an error
 

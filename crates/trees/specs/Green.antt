@@ -1,6 +1,6 @@
 -- The green tree: nodes and tokens without positions. Assumes nothing: these are definitions.
 use Prim.Native.Nat.{ℕ, _+_, max}
-use mathlib.Core.List.{List, [], _∷_, _++_}
+use mathlib.Core.List.{List, [], _∷_}
 use mathlib.Core.Bool.{cond}
 use lib.Dec.{eqb}
 use lib.ListN.{length}
@@ -19,12 +19,6 @@ unfoldable pub _⊹_ : Forest → Forest → Forest
 nil ⊹ g = g
 leaf t f ⊹ g = leaf t (f ⊹ g)
 node k s f ⊹ g = node k s (f ⊹ g)
-
--- the tokens of a forest, in order
-unfoldable pub tokensOf : Forest → List Token
-tokensOf nil = []
-tokensOf (leaf t f) = t ∷ tokensOf f
-tokensOf (node k s f) = tokensOf s ++ tokensOf f
 
 -- how many rows a forest has: its nodes and tokens
 unfoldable pub size : Forest → ℕ

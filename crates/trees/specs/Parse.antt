@@ -183,16 +183,7 @@ unfoldable pub parse : Mode → Parser
 unfolding steps
 parse m ts = steps (suc (3 * length ts + 2)) m ts
 
--- `parse_or_expr`, `parse_and_expr`, `parse_atom`, and the method chain
-abbrev pub parseOrExpr : Parser
-parseOrExpr = parse OrExpr
-
-abbrev pub parseAndExpr : Parser
-parseAndExpr = parse AndExpr
-
-abbrev pub parseAtom : Parser
-parseAtom = parse Atom
-
+-- the method chain
 abbrev pub parseCalls : Parser
 parseCalls = parse Calls
 

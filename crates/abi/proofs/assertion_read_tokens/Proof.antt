@@ -1,9 +1,8 @@
 -- `assertion_read_tokens` gives in numbers what `read_tokens` gives. Assumes nothing.
 use denote.Ref.{now}
-use mathlib.Core.Path.{refl, sym, ap, _∙_}
+use mathlib.Core.Path.{sym, _∙_}
 use lib.ListN.{length}
 use Rattle.lexer.proofs.ReadLaws.{tokens-few}
-use Rattle.abi.specs.Abi.{answerNumber, countAfter}
 use native.Mathlib.Omega.{arith}
 use borrow.Author.Needs.{needs}
 use Rattle.abi.proofs.assertion_read_tokens.Statement.{statement}

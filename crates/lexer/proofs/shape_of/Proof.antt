@@ -3,7 +3,6 @@ use mathlib.Core.Path.{_≡_, sym, _∙_}
 use mathlib.Core.Bool.{false, cond}
 use Prim.Native.Nat.{ℕ}
 use borrow.Author.Tests.{ne-eqb}
-use Rattle.lexer.specs.declared.Shape.{Shape}
 use Rattle.lexer.specs.declared.Shape.the-variants.{Digits, Word, Character}
 use Rattle.lexer.specs.Bytes.{isBlank, isAsciiDigit, isIdentStart, shapeOf}
 use borrow.Author.Needs.{needs}

@@ -1,7 +1,6 @@
 -- `tables_short` gives `tablesShort`, table by table: rows are fewer than 8n + 8 where their eighths are at most n. Assumes nothing.
 use mathlib.Core.Path.{_≡_}
-use mathlib.Core.Bool.{Bool, true, false}
-use Prim.Native.Nat.{ℕ, _+_, _*_, _/_, _≤_, _<_}
+use Prim.Native.Nat.{ℕ, _+_, _*_, _/_}
 use borrow.Author.Tests.{lt-ltb, le-ltb, leb-true, leb-false}
 use native.Mathlib.Omega.{arith}
 use lib.Dec.{ltb, leb}

@@ -1,6 +1,5 @@
 -- `token_at` finds the end and then the kind of the first token from a place on. Assumes nothing.
 use denote.Ref.{now}
-use mathlib.Core.Path.{_∙_}
 use Prim.Native.Nat.{_+_}
 use lib.ListN.{length-drop, drop}
 use Rattle.lexer.proofs.LexLaws.{more-le, token-at}

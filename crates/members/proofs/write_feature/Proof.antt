@@ -1,6 +1,4 @@
 -- `write_feature` appends a feature's component, name, kind and direction. Assumes nothing.
-use mathlib.Core.Path.{ap, _∙_}
-use Rattle.board.specs.Image.{text}
 use Rattle.texts.proofs.AppendLaws.{appends-then}
 use Rattle.members.specs.Member.{featureText}
 use borrow.Author.Needs.{needs}

@@ -6,7 +6,7 @@ use native.Mathlib.Omega.{arith}
 use lib.ListN.{length}
 use Rattle.trees.specs.Parse.{Calls}
 use Rattle.trees.proofs.TokenLaws.{table-length}
-use Rattle.trees.proofs.WritingLaws.{did-done, did-then, asks-first, asks-then, tree-long, errors-long, ready-then, asks-true, asks-false, did-true, did-false, asks-is, did-is}
+use Rattle.trees.proofs.WritingLaws.{did-done, did-then, asks-first, asks-then, tree-long, errors-long, ready-then, asks-true, did-true, did-false, asks-is, did-is}
 use Rattle.trees.proofs.ParseLaws.{step-calls-is}
 use Rattle.trees.proofs.LookLaws.{at-yes, at-no}
 use Rattle.trees.proofs.StepLaws.{asks-step, did-step}

@@ -1,7 +1,5 @@
 -- `at_message_dot` asks for the word and then for the dot. Assumes nothing.
-use mathlib.Core.Path.{sym, ap, _∙_}
-use lib.Dec.{eqb}
-use Rattle.syntax.specs.Kind.{DOT}
+use mathlib.Core.Path.{sym, _∙_}
 use Rattle.trees.specs.Look.{atMessageDot}
 use borrow.Author.Needs.{needs}
 use Rattle.parser.proofs.at_message_dot.Statement.{statement}

@@ -1,9 +1,8 @@
 -- `eat_ws` writes blanks, and going on from each place ends as the whole does. Assumes nothing.
-use denote.Ref.{now}
 use mathlib.Core.Path.{sym, _∙_}
 use mathlib.Core.List.{[]}
 use Prim.Native.Nat.{_-_}
-use lib.ListN.{length, drop}
+use lib.ListN.{length}
 use Rattle.lexer.specs.Lex.{lex}
 use Rattle.trees.specs.Parse.{eatWs}
 use Rattle.trees.proofs.TokenLaws.{some-token}

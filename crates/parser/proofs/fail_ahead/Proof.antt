@@ -1,5 +1,4 @@
 -- `fail_ahead` writes an error row at the first token that is no blank, and stays where it is. Assumes nothing.
-use mathlib.Core.Path.{_∙_, ap}
 use Rattle.trees.proofs.WritingLaws.{did-fail-ahead}
 use native.Mathlib.Omega.{arith}
 use borrow.Author.Needs.{needs}

@@ -1,11 +1,11 @@
 -- `has_binary_op_at_level` scans the tokens left, and going on from each token ends as the whole does. Assumes nothing.
 use denote.Ref.{now}
-use mathlib.Core.Path.{_≡_, refl, sym, _∙_}
+use mathlib.Core.Path.{_≡_, refl, _∙_}
 use Prim.Native.Nat.{_-_, _≤_}
 use lib.ListN.{length, drop}
 use Rattle.lexer.specs.Lex.{lex, tokenRows}
 use Rattle.trees.specs.Look.{opAhead, hasBinaryOpAtLevel}
-use Rattle.trees.proofs.TokenLaws.{Row, rows-length, row-in, none-in}
+use Rattle.trees.proofs.TokenLaws.{rows-length, row-in, none-in}
 use Rattle.trees.proofs.LookLaws.{op-blank, op-open, op-shut, op-close, op-past, op-deep, op-first, op-here, op-end}
 use native.Mathlib.Omega.{arith}
 use Rattle.parser.proofs.has_binary_op_at_level.Statement.{statement}

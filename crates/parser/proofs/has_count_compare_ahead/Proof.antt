@@ -1,6 +1,6 @@
 -- `has_count_compare_ahead` keeps the last two kinds, and going on from each token ends as the whole does. Assumes nothing.
 use denote.Ref.{now}
-use mathlib.Core.Path.{_≡_, refl, sym, _∙_}
+use mathlib.Core.Path.{_≡_, refl, _∙_}
 use Prim.Native.Nat.{_-_, _≤_}
 use lib.ListN.{length, drop}
 use Rattle.lexer.specs.Lex.{lex, tokenRows}

@@ -1,15 +1,10 @@
 -- `next_is_text` compares the part of the rule that is the next token. Assumes nothing.
 use denote.Ref.{now}
-use mathlib.Core.Path.{_≡_, sym, ap, _∙_}
+use mathlib.Core.Path.{sym, ap, _∙_}
 use mathlib.Core.List.{List}
-use Prim.Native.Nat.{ℕ, _+_, _-_, _*_, _<_, _≤_}
-use lib.ListN.{length, take, drop, getD}
+use Prim.Native.Nat.{ℕ}
 use Rattle.syntax.specs.Text.{same}
-use Rattle.lexer.specs.Lex.{lex}
-use Rattle.trees.specs.Look.{headText}
-use Rattle.trees.specs.Writing.{Ready}
-use Rattle.trees.specs.declared.Cursor.{Cursor}
-use Rattle.trees.proofs.TokenLaws.{table-length, at-end, Part, part}
+use Rattle.trees.proofs.TokenLaws.{table-length, at-end, part}
 use native.Mathlib.Omega.{arith}
 use borrow.Author.Needs.{needs}
 use Rattle.parser.proofs.next_is_text.Statement.{statement}

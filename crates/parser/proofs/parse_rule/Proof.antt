@@ -1,13 +1,10 @@
 -- `parse_rule` meets its contract: test by test, and what the root's rows are in the tables. Assumes nothing.
 use denote.Ref.{now}
-use mathlib.Core.Path.{_≡_, refl, sym, ap, _∙_}
-use Prim.Native.Nat.{ℕ}
+use mathlib.Core.Path.{refl, sym, _∙_}
 use borrow.Author.Tests.{lt-ltb, le-ltb}
-use lib.ListN.{length}
 use Rattle.trees.specs.Read.{checkTables}
-use Rattle.trees.specs.declared.Reading.{Reading}
 use Rattle.trees.proofs.BoundLaws.{asks-root}
-use Rattle.trees.proofs.ReadLaws.{Room, room, lexes, lex-refuses-not, rooted, rows-read}
+use Rattle.trees.proofs.ReadLaws.{room, lexes, lex-refuses-not, rooted, rows-read}
 use native.Mathlib.Omega.{arith}
 use borrow.Author.Needs.{needs}
 use Rattle.parser.proofs.parse_rule.Statement.{statement}

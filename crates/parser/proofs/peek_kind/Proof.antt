@@ -1,7 +1,6 @@
 -- `peek_kind` looks at the token past the first that is no blank. Assumes nothing.
-use mathlib.Core.Path.{_≡_, sym, ap, _∙_}
+use mathlib.Core.Path.{sym, ap, _∙_}
 use mathlib.Core.List.{List}
-use Prim.Native.Nat.{ℕ}
 use Rattle.lexer.specs.Lex.{Token}
 use Rattle.trees.specs.Look.{peekKind, currentKind, tailOf}
 use Rattle.trees.proofs.TokenLaws.{at-end, table-length}

@@ -1,10 +1,9 @@
 -- `skip_ws` passes blanks, and looking from each place on finds what it found from the first. Assumes nothing.
-use denote.Ref.{now}
 use mathlib.Core.Path.{sym, _∙_}
 use Prim.Native.Nat.{_-_}
 use lib.ListN.{length}
 use Rattle.lexer.specs.Lex.{lex}
-use Rattle.trees.proofs.TokenLaws.{table-length, some-token}
+use Rattle.trees.proofs.TokenLaws.{some-token}
 use Rattle.trees.proofs.LookLaws.{Skipping, skipping-start, skipping-past, skipping-end}
 use native.Mathlib.Omega.{arith}
 use Rattle.parser.proofs.skip_ws.Statement.{statement}

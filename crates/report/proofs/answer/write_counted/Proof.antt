@@ -1,5 +1,5 @@
 -- `write_counted` appends a number and a thing, and an `s` where the number is not 1. Assumes nothing.
-use borrow.Author.Tests.{eq-eqb, ne-eqb}
+use borrow.Author.Tests.{ne-eqb}
 use Rattle.texts.proofs.AppendLaws.{appends-then, appends-none}
 use borrow.Author.Needs.{needs}
 use Rattle.report.proofs.answer.write_counted.Statement.{statement}

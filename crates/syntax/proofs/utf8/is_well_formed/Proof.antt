@@ -1,8 +1,8 @@
 use denote.Ref.{now}
-use mathlib.Core.Path.{_≡_, refl, sym, ap, _∙_}
+use mathlib.Core.Path.{_≡_, refl, sym, _∙_}
 use Prim.Native.Nat.{_+_, _-_, _≤_, _<_}
 use native.Mathlib.Omega.{arith}
-use lib.ListN.{length, drop, getD, drop-of-length-le}
+use lib.ListN.{length, drop, drop-of-length-le}
 use Rattle.syntax.specs.Utf8.{utf8, wellFrom}
 use Rattle.syntax.specs.Utf8Scan.{ILL, pending}
 use Rattle.syntax.proofs.TextLaws.{from}

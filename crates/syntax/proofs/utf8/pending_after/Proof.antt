@@ -1,5 +1,4 @@
 -- `utf8::pending_after` steps by one byte, in one of the four ways. Assumes nothing.
-use native.Mathlib.Omega.{arith}
 use Rattle.syntax.proofs.Utf8Laws.{first-steps, low-steps, high-steps, in-steps}
 use borrow.Author.Needs.{needs}
 use Rattle.syntax.proofs.utf8.pending_after.Statement.{statement}

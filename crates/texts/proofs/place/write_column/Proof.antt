@@ -1,6 +1,4 @@
 -- `write_column` appends a tab, nothing, or the mark. Assumes nothing.
-use mathlib.Core.Path.{refl}
-use native.Mathlib.Omega.{arith}
 use borrow.Author.Tests.{eq-eqb, ne-eqb, lt-ltb, le-ltb, le-leb, lt-leb}
 use Rattle.texts.specs.Place.{column}
 use Rattle.texts.proofs.AppendLaws.{appends-none}
