@@ -10,6 +10,7 @@ use lib.ListN.{length, getD, take, drop, set, replicate, length-append, length-t
 use lib.Seq.{length-take-le, getD-drop, getD-take, getD-set-same, getD-set-other, getD-append-add}
 use borrow.Author.Tests.{lt-ltb, le-ltb, le-leb, lt-leb, eq-eqb, ne-eqb, eqb-true, ltb-true, ltb-false, not-true, not-false}
 use Rattle.syntax.specs.Kind.{CALL-EXPR, ROOT}
+use Rattle.syntax.specs.Text.{bytesBetween}
 use Rattle.syntax.proofs.BoolLaws.{whether, both}
 use Rattle.trees.specs.Green.{Forest, nil, leaf, node}
 use Rattle.board.specs.Image.{componentCount}
@@ -20,13 +21,19 @@ use Rattle.marks.proofs.MarkLaws.{marks-length, features-length, marks-both}
 use Rattle.predicate.specs.declared.atom.Member.{Member}
 use Rattle.predicate.specs.declared.atom.Member.the-variants.{Component, Feature, Diagnostic}
 use Rattle.predicate.specs.Truth.{literalOf, hasPropertyOf, has, firstOf, sortOf, settle, truths, truth}
-use Rattle.predicate.specs.Rows.{ROW, Place, below, past, token, child, placeOf, grown, bytesBetween, forest, kindAt, levelAt, forestFrom, childrenAt, isRow, isBelow}
+use Rattle.predicate.specs.Rows.{ROW, Place, below, past, token, child, placeOf, grown, forest, kindAt, levelAt, forestFrom, childrenAt, isRow, isBelow}
 use Rattle.predicate.proofs.RowLaws.{row-there, row-missing, drop-row, few, below-row}
 use Rattle.predicate.proofs.ForestLaws.{place-past}
 use Rattle.profile.specs.declared.Profile.the-variants.{Number}
 use Rattle.profile.specs.Profile.{profileOf, asksMore}
 use Rattle.profile.proofs.ProfileLaws.{Alike, components, features, diagnostics, same-profile, settle-alike}
-use Rattle.eval.specs.Marked.{HASES, BLOCK, NO-BITS, MARKS, PLACES, MEMO, OF-COMPONENT, OF-FEATURE, SETTLED, valueOf, valueIn, markIn, markFor, hasMarks, Marks, bitAt, bitsAt, bitsBy, bitsOf, settledIn, Told, plain, marked, NodesTold, RowsTold, RowTold, TellsBelow, FoundRow, Made, MakesRow}
+use Rattle.eval.specs.Marked.{HASES, BLOCK, NO-BITS, MARKS, PLACES, MEMO, OF-COMPONENT, OF-FEATURE, SETTLED, valueOf, valueIn, markIn, markFor, hasMarks, Marks, bitAt, bitsAt, bitsBy, bitsOf, settledIn, Told, plain, marked, RowsTold, RowTold, TellsBelow, FoundRow, Made, MakesRow}
+
+-- all nodes of a forest ask for no more of a member than its profile and its bits
+unfoldable pub NodesTold : (rule tree memo : List ℕ) → Member → Forest → Type 0
+NodesTold rule tree memo m nil = Unit {0}
+NodesTold rule tree memo m (leaf t f) = NodesTold rule tree memo m f
+NodesTold rule tree memo m (node k s f) = Told rule tree memo m k s × (NodesTold rule tree memo m s × NodesTold rule tree memo m f)
 
 -- ---- the bits of a member
 
@@ -151,6 +158,16 @@ module _ {rule image tree memo : List ℕ} (w : Marks rule image tree memo) wher
         by false true = refl
         by false false = refl
 
+    -- what the bits of two components tell of this row is the same where their bits are
+    same-here : (most c d : ℕ) (s t : Bool) → (hasMarks image c ≡ true → bitAt memo most c j ≡ one-if s) → (hasMarks image d ≡ true → bitAt memo most d j ≡ one-if t)
+        → bitsAt image memo most c ≡ bitsAt image memo most d → bitsAt image memo most c < NO-BITS → s ≡ t
+    same-here most c d s t p q e l =
+        let k : bitsAt image memo most d < NO-BITS = omega arith in
+        one-same s t
+        (sym (p (in-block image memo most c l))
+        ∙ bit-same memo most c d (sym (all-bits image memo most c l) ∙ e ∙ all-bits image memo most d k) j (omega (arith, w .few))
+        ∙ q (in-block image memo most d k))
+
   -- members of one sort with the same bits have the same marked `has`
   module _ {m n : Member} (a : Alike image m n) (e : bitsOf image memo m ≡ bitsOf image memo n) (l : bitsOf image memo m < NO-BITS) where
     has-same : (j : ℕ) → PLACES + j < length memo → has image m (valueIn rule tree memo j) ≡ has image n (valueIn rule tree memo j)
@@ -163,15 +180,11 @@ module _ {rule image tree memo : List ℕ} (w : Marks rule image tree memo) wher
         go : {m n : Member} → Alike image m n → bitsBy image memo m ≡ bitsBy image memo n → bitsBy image memo m < NO-BITS
             → has image m (valueIn rule tree memo j) ≡ has image n (valueIn rule tree memo j)
         go (components {c} {d} p o) e l =
-            one-same (has image (Component c) (valueIn rule tree memo j)) (has image (Component d) (valueIn rule tree memo j))
-            (sym (bit-component j h c (in-block image memo OF-COMPONENT c l))
-            ∙ bit-same memo OF-COMPONENT c d (sym (all-bits image memo OF-COMPONENT c l) ∙ e ∙ all-bits image memo OF-COMPONENT d (omega (arith, e, l))) j (omega (arith, h, w .few))
-            ∙ bit-component j h d (in-block image memo OF-COMPONENT d (omega (arith, e, l))))
+            same-here j h OF-COMPONENT c d (has image (Component c) (valueIn rule tree memo j)) (has image (Component d) (valueIn rule tree memo j))
+            (bit-component j h c) (bit-component j h d) e l
         go (features {c} {f} {d} {g} p o q r) e l =
-            one-same (has image (Feature c f) (valueIn rule tree memo j)) (has image (Feature d g) (valueIn rule tree memo j))
-            (sym (bit-feature j h c f (in-block image memo OF-FEATURE c l))
-            ∙ bit-same memo OF-FEATURE c d (sym (all-bits image memo OF-FEATURE c l) ∙ e ∙ all-bits image memo OF-FEATURE d (omega (arith, e, l))) j (omega (arith, h, w .few))
-            ∙ bit-feature j h d g (in-block image memo OF-FEATURE d (omega (arith, e, l))))
+            same-here j h OF-FEATURE c d (has image (Feature c f) (valueIn rule tree memo j)) (has image (Feature d g) (valueIn rule tree memo j))
+            (bit-feature j h c f) (bit-feature j h d g) e l
         go (diagnostics p) e l = refl
 
     module _ (s : getD memo 0 0 ≡ SETTLED → ownersWired image ≡ true) where

@@ -19,7 +19,7 @@ use Rattle.profile.specs.Profile.{PROFILES, profileOf}
 use Rattle.profile.proofs.ProfileLaws.{profile-small}
 use Rattle.eval.specs.Marked.{NO-BITS, MARKS, PLACES, MEMO, SETTLED, bitsOf, TellsBelow, Made}
 use Rattle.eval.specs.Memo.{NOTED-CALLS, WAY-NOTES, PLAIN, NO-PLACE, NOT-KNOWN, known, argsOf, byteOf, placeBy, placeOf, noteIn, Notes, Placed, Asked, Noted, kept, made}
-use Rattle.eval.proofs.MarkedLaws.{alike-has, told-rows, Kept, kept-set, marks-kept, bits-kept, marks-none, made-length, made-marks}
+use Rattle.eval.proofs.MarkedLaws.{alike-has, told-rows, bits-nowhere, Kept, kept-set, marks-kept, bits-kept, marks-none, made-length, made-marks}
 
 -- a byte that says nothing makes no truth known
 not-known : (value : Bool) → NOT-KNOWN ≡ known value → ⊥
@@ -89,13 +89,8 @@ module _ (image memo : List ℕ) (m : Member) where
     placed-at h = placed (sym (by-number ∙ rw (lt-ltb bits NO-BITS h))) (omega (arith, profile-small image m k (e ∙ f)))
 
   -- without marks, by the profile alone
-  module _ (few : length memo ≤ PLACES) where
-    no-bits : 0 ≡ bitsOf image memo m
-    unfolding bitsOf
-    no-bits = sym (rw (le-ltb PLACES (length memo) few))
-
-    pub placed-plain : {p : Profile} {k : ℕ} → profileOf image m ≡ p → p ≡ Number k → Placed image memo m (1 + k)
-    placed-plain e f = subst (Placed image memo m) (omega arith) (placed-at e f no-bits (omega arith))
+  pub placed-plain : {p : Profile} {k : ℕ} → length memo ≤ PLACES → profileOf image m ≡ p → p ≡ Number k → Placed image memo m (1 + k)
+  placed-plain few e f = subst (Placed image memo m) (omega arith) (placed-at e f (bits-nowhere image memo m few) (omega arith))
 
 -- ---- a memo in which nothing is noted
 

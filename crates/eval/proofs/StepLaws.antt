@@ -15,10 +15,9 @@ use Rattle.predicate.specs.declared.atom.Member.{Member}
 use Rattle.predicate.specs.Truth.{truth}
 use Rattle.predicate.specs.Rows.{childrenAt}
 use Rattle.meaning.specs.Value.{rowOf}
-use Rattle.meaning.specs.Calls.{Method, Where, Count, Features, Call, methodNumber}
+use Rattle.meaning.specs.Calls.{Method, Where, Count, Call, methodNumber}
 use Rattle.meaning.specs.Walk.{isQuantifier, isLast}
 use Rattle.calls.specs.Table.{methodAt}
-use Rattle.eval.specs.declared.walk.Tally.{Tally}
 use Rattle.eval.specs.declared.step.Step.{Step}
 use Rattle.eval.specs.declared.step.Step.the-variants.{Dropped, Listed, Counted, Open}
 use Rattle.eval.specs.Ready.{CALL-ROW, callsFrom}
@@ -26,7 +25,7 @@ use Rattle.eval.specs.Memo.{KNOWN-TRUE, KNOWN-FALSE, noteIn, argsOf, Not
 use Rattle.eval.specs.Feed.{State, fed, Fits, Stands}
 use Rattle.eval.specs.Step.{isOpen, arrives, after, atFalse, StepIs, Steps}
 use Rattle.eval.proofs.ReadyLaws.{quantifier-of, count-no-quantifier, last-between}
-use Rattle.eval.proofs.FeedLaws.{state, state-is, Alike, Lost, fed-alike, fed-lost, fits-one, stands-fed, here-kept, here-dropped, here-arrives, here-one, end-one, end-put}
+use Rattle.eval.proofs.FeedLaws.{state, state-is, Alike, fed-alike, fed-lost, fits-one, stands-fed, here-kept, here-dropped, here-arrives, here-one, end-one, end-put}
 
 -- a step at later calls, of a member that passes those before
 step-alike : {image : List ℕ} {calls later : List Call} {m : Member} {r : Step} → Alike image calls (m ∷ []) later (m ∷ []) → StepIs image later m r → StepIs image calls m r

@@ -7,7 +7,7 @@ use mathlib.Core.Path.{_≡_}
 use lib.Dec.{eqb, ltb, leb}
 use lib.ListN.{length, getD, drop}
 use Rattle.syntax.specs.Kind.{CALL-EXPR}
-use Rattle.trees.specs.Green.{Forest, nil, leaf, node}
+use Rattle.trees.specs.Green.{Forest}
 use Rattle.board.specs.Image.{componentCount}
 use Rattle.instance.specs.Instance.{hasFeature}
 use Rattle.marks.specs.Marks.{markBy}
@@ -109,12 +109,6 @@ settledIn memo = eqb (getD memo 0 0) SETTLED
 pub data Told (rule tree memo : List ℕ) (m : Member) (k : ℕ) (s : Forest) : Type 0 where
   plain : asksMore m (settledIn memo) k ≡ false → Told rule tree memo m k s
   marked : (j : ℕ) → PLACES + j < length memo → k ≡ CALL-EXPR → literalOf s ≡ valueIn rule tree memo j → Told rule tree memo m k s
-
--- all nodes of a forest do
-unfoldable pub NodesTold : (rule tree memo : List ℕ) → Member → Forest → Type 0
-NodesTold rule tree memo m nil = Unit {0}
-NodesTold rule tree memo m (leaf t f) = NodesTold rule tree memo m f
-NodesTold rule tree memo m (node k s f) = Told rule tree memo m k s × (NodesTold rule tree memo m s × NodesTold rule tree memo m f)
 
 -- all rows do, before the first that is not below a level
 unfoldable pub RowsTold : (rule tree memo : List ℕ) → Member → ℕ → List ℕ → Type 0

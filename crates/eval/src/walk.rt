@@ -28,7 +28,7 @@ ghost use Rattle.instance.specs.Instance.{ownersWired};
 ghost use Rattle.predicate.specs.Rows.{ROW, kindAt, childrenAt};
 ghost use Rattle.profile.specs.Profile.{profileOf};
 ghost use Rattle.meaning.specs.Value.{rowOf, wholeRows};
-ghost use Rattle.meaning.specs.Calls.{Where, keep, kept, upFrom, featuresOf};
+ghost use Rattle.meaning.specs.Calls.{keep, kept, upFrom, featuresOf};
 ghost use Rattle.meaning.specs.Pipeline.{isOfAnalysis};
 ghost use Rattle.meaning.specs.Walk.{isLast};
 ghost use Rattle.calls.specs.Table.{methodAt};

@@ -5,7 +5,7 @@ use mathlib.Core.List.{List, [], _∷_}
 use lib.Dec.{eqb, ltb, leb}
 use lib.ListN.{length, getD, drop}
 use Rattle.syntax.specs.Kind.{ROOT}
-pub use Rattle.syntax.specs.Text.{bytesBetween}
+use Rattle.syntax.specs.Text.{bytesBetween}
 use Rattle.matching.specs.declared.search.Found.{Found}
 use Rattle.trees.specs.Green.{Forest, nil, leaf, node}
 

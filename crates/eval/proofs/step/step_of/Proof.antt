@@ -1,10 +1,9 @@
 -- `step_of` goes on over each `where` that is noted as true, and tells what the first other call makes of a member. Assumes nothing.
 use Rattle.eval.proofs.StepLaws.{Passing, passing-start, passing-on, step-open, step-count, step-false, step-true, step-listed}
-use Rattle.eval.specs.Ready.{CALL-ROW}
 use borrow.Author.Needs.{needs}
 use native.Mathlib.Omega.{arith}
 use lib.ListN.{length}
-use mathlib.Core.Path.{_≡_, sym, _∙_}
+use mathlib.Core.Path.{sym, _∙_}
 use Prim.Native.Nat.{_-_, _*_}
 use Rattle.eval.proofs.step.step_of.Statement.{statement}
 use Rattle.eval.proofs.step.step_of.Tie as tie
