@@ -25,9 +25,9 @@ use Rattle.predicate.specs.Rows.{ROW, Place, below, past, token, child, placeOf
 use Rattle.predicate.proofs.RowLaws.{row-there, row-missing, drop-row, few, below-row}
 use Rattle.predicate.proofs.ForestLaws.{place-past}
 use Rattle.profile.specs.declared.Profile.the-variants.{Number}
-use Rattle.profile.specs.Profile.{profileOf, asksMore}
+use Rattle.profile.specs.Profile.{OF-FEATURES, profileOf, asksMore}
 use Rattle.profile.proofs.ProfileLaws.{Alike, components, features, diagnostics, same-profile, settle-alike}
-use Rattle.eval.specs.Marked.{HASES, BLOCK, NO-BITS, MARKS, PLACES, MEMO, OF-COMPONENT, OF-FEATURE, SETTLED, valueOf, valueIn, markIn, markFor, hasMarks, Marks, bitAt, bitsAt, bitsBy, bitsOf, settledIn, Told, plain, marked, RowsTold, RowTold, TellsBelow, FoundRow, Made, MakesRow}
+use Rattle.eval.specs.Marked.{HASES, BLOCK, NO-BITS, MARKS, PLACES, MEMO, OF-COMPONENT, OF-FEATURE, valueOf, valueIn, markIn, markFor, hasMarks, Marks, bitAt, bitsAt, bitsBy, bitsOf, wiringIn, Told, plain, marked, RowsTold, RowTold, TellsBelow, FoundRow, Made, MakesRow}
 
 -- all nodes of a forest ask for no more of a member than its profile and its bits
 unfoldable pub NodesTold : (rule tree memo : List ℕ) → Member → Forest → Type 0
@@ -169,7 +169,7 @@ module _ {rule image tree memo : List ℕ} (w : Marks rule image tree memo) wher
         ∙ q (in-block image memo most d k))
 
   -- members of one sort with the same bits have the same marked `has`
-  module _ {m n : Member} (a : Alike image m n) (e : bitsOf image memo m ≡ bitsOf image memo n) (l : bitsOf image memo m < NO-BITS) where
+  module _ {m n : Member} (a : Alike image (wiringIn memo) m n) (e : bitsOf image memo m ≡ bitsOf image memo n) (l : bitsOf image memo m < NO-BITS) where
     has-same : (j : ℕ) → PLACES + j < length memo → has image m (valueIn rule tree memo j) ≡ has image n (valueIn rule tree memo j)
     unfolding bitsBy has
     has-same j h = go a (bits-there image memo m there ∙ e ∙ sym (bits-there image memo n there)) (omega (arith, l, bits-there image memo m there))
@@ -177,7 +177,7 @@ module _ {rule image tree memo : List ℕ} (w : Marks rule image tree memo) wher
         there : PLACES < length memo
         there = omega arith
 
-        go : {m n : Member} → Alike image m n → bitsBy image memo m ≡ bitsBy image memo n → bitsBy image memo m < NO-BITS
+        go : {m n : Member} → Alike image (wiringIn memo) m n → bitsBy image memo m ≡ bitsBy image memo n → bitsBy image memo m < NO-BITS
             → has image m (valueIn rule tree memo j) ≡ has image n (valueIn rule tree memo j)
         go (components {c} {d} p o) e l =
             same-here j h OF-COMPONENT c d (has image (Component c) (valueIn rule tree memo j)) (has image (Component d) (valueIn rule tree memo j))
@@ -187,10 +187,10 @@ module _ {rule image tree memo : List ℕ} (w : Marks rule image tree memo) wher
             (bit-feature j h c f) (bit-feature j h d g) e l
         go (diagnostics p) e l = refl
 
-    module _ (s : getD memo 0 0 ≡ SETTLED → ownersWired image ≡ true) where
+    module _ (s : OF-FEATURES ≤ wiringIn memo → ownersWired image ≡ true) where
       settle-told : (k : ℕ) (f : Forest) (ts : List Bool) → Told rule tree memo m k f → settle image m (sortOf k) f ts ≡ settle image n (sortOf k) f ts
       unfolding settle sortOf
-      settle-told k f ts (plain h) = settle-alike (settledIn memo) (λ t. s (eqb-true (getD memo 0 0) SETTLED t)) a k f ts h
+      settle-told k f ts (plain h) = settle-alike s a k f ts h
       settle-told k f ts (marked j h c v) =
           ap (λ (k : ℕ). settle image m (sortOf k) f ts) c ∙ ap (has image m) v ∙ has-same j h ∙ sym (ap (λ (k : ℕ). settle image n (sortOf k) f ts) c ∙ ap (has image n) v)
 
@@ -205,11 +205,11 @@ module _ {rule image tree memo : List ℕ} (w : Marks rule image tree memo) wher
           λ j. first j ∷ later j
 
 -- two members with the same profile and the same bits have the same truth of a predicate that asks for no more
-pub alike-has : {rule image tree memo : List ℕ} → Marks rule image tree memo → (getD memo 0 0 ≡ SETTLED → ownersWired image ≡ true) → (m n : Member) (k : ℕ) (f : Forest)
-    → profileOf image m ≡ Number k → profileOf image n ≡ Number k → bitsOf image memo m ≡ bitsOf image memo n → bitsOf image memo m < NO-BITS → NodesTold rule tree memo m f
+pub alike-has : {rule image tree memo : List ℕ} → Marks rule image tree memo → (OF-FEATURES ≤ wiringIn memo → ownersWired image ≡ true) → (m n : Member) (k : ℕ) (f : Forest)
+    → profileOf image (wiringIn memo) m ≡ Number k → profileOf image (wiringIn memo) n ≡ Number k → bitsOf image memo m ≡ bitsOf image memo n → bitsOf image memo m < NO-BITS → NodesTold rule tree memo m f
     → truth image m f ≡ truth image n f
 unfolding truth
-alike-has {image = image} w s m n k f p q e l t = ap firstOf (truths-told w (same-profile image m n k p q) e l s f t)
+alike-has {image = image} {memo = memo} w s m n k f p q e l t = ap firstOf (truths-told w (same-profile image (wiringIn memo) m n k p q) e l s f t)
 
 -- ---- rows that ask for no more
 
@@ -266,7 +266,7 @@ module _ (rule tree memo : List ℕ) (m : Member) where
 -- ---- a row that asks for no more
 
 module _ {tree : List ℕ} {row : ℕ} {m : Member} {memo : List ℕ} where
-  pub row-plain : {a : Bool} → a ≡ asksMore m (settledIn memo) (kindAt tree row) → not a ≡ true → RowTold tree row m memo true
+  pub row-plain : {a : Bool} → a ≡ asksMore m (wiringIn memo) (kindAt tree row) → not a ≡ true → RowTold tree row m memo true
   row-plain {a} e h = record { told = λ rule _. plain (sym e ∙ not-true a h) }
 
   pub row-untold : RowTold tree row m memo false

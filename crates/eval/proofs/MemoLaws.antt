@@ -15,9 +15,9 @@ use Rattle.predicate.specs.Truth.{truth}
 use Rattle.predicate.specs.Rows.{childrenAt}
 use Rattle.profile.specs.declared.Profile.{Profile}
 use Rattle.profile.specs.declared.Profile.the-variants.{Number, Unknown}
-use Rattle.profile.specs.Profile.{PROFILES, profileOf}
+use Rattle.profile.specs.Profile.{PROFILES, OF-FEATURES, profileOf}
 use Rattle.profile.proofs.ProfileLaws.{profile-small}
-use Rattle.eval.specs.Marked.{NO-BITS, MARKS, PLACES, MEMO, SETTLED, bitsOf, TellsBelow, Made}
+use Rattle.eval.specs.Marked.{NO-BITS, MARKS, PLACES, MEMO, bitsOf, wiringIn, Marks, TellsBelow, Made}
 use Rattle.eval.specs.Memo.{NOTED-CALLS, WAY-NOTES, PLAIN, NO-PLACE, NOT-KNOWN, known, argsOf, byteOf, placeBy, placeOf, noteIn, Notes, Placed, Asked, Noted, kept, made}
 use Rattle.eval.proofs.MarkedLaws.{alike-has, told-rows, bits-nowhere, Kept, kept-set, marks-kept, bits-kept, marks-none, made-length, made-marks}
 
@@ -72,11 +72,11 @@ module _ (image memo : List ℕ) (m : Member) where
   placed : {place : ℕ} → place ≡ placeOf image memo m → place ≤ NO-PLACE → Placed image memo m place
   placed e h = record { is = e; small = h; told = λ rule tree calls n i value t. n .noted i m value (ap (noteIn memo i) (sym e) ∙ t) }
 
-  pub placed-unknown : {p : Profile} → profileOf image m ≡ p → p ≡ Unknown → Placed image memo m NO-PLACE
+  pub placed-unknown : {p : Profile} → profileOf image (wiringIn memo) m ≡ p → p ≡ Unknown → Placed image memo m NO-PLACE
   unfolding placeBy
   placed-unknown e f = placed (sym (ap (λ (p : Profile). placeBy p (bitsOf image memo m)) (e ∙ f))) (omega arith)
 
-  module _ {p : Profile} {k bits : ℕ} (e : profileOf image m ≡ p) (f : p ≡ Number k) (b : bits ≡ bitsOf image memo m) where
+  module _ {p : Profile} {k bits : ℕ} (e : profileOf image (wiringIn memo) m ≡ p) (f : p ≡ Number k) (b : bits ≡ bitsOf image memo m) where
     by-number : placeOf image memo m ≡ placeBy (Number k) bits
     by-number = sym (λ j. placeBy (sym (e ∙ f) j) (b j))
 
@@ -86,15 +86,15 @@ module _ (image memo : List ℕ) (m : Member) where
 
     pub placed-at : bits < NO-BITS → Placed image memo m (1 + WAY-NOTES * bits + k)
     unfolding placeBy
-    placed-at h = placed (sym (by-number ∙ rw (lt-ltb bits NO-BITS h))) (omega (arith, profile-small image m k (e ∙ f)))
+    placed-at h = placed (sym (by-number ∙ rw (lt-ltb bits NO-BITS h))) (omega (arith, profile-small image (wiringIn memo) m k (e ∙ f)))
 
   -- without marks, by the profile alone
-  pub placed-plain : {p : Profile} {k : ℕ} → length memo ≤ PLACES → profileOf image m ≡ p → p ≡ Number k → Placed image memo m (1 + k)
+  pub placed-plain : {p : Profile} {k : ℕ} → length memo ≤ PLACES → profileOf image (wiringIn memo) m ≡ p → p ≡ Number k → Placed image memo m (1 + k)
   placed-plain few e f = subst (Placed image memo m) (omega arith) (placed-at e f (bits-nowhere image memo m few) (omega arith))
 
 -- ---- a memo in which nothing is noted
 
-module _ (image memo : List ℕ) (few : length memo ≤ MEMO) (clear : (x : ℕ) → x < MARKS → getD memo x 0 ≡ 0) where
+module _ (image memo : List ℕ) (few : length memo ≤ MEMO) (clear : (x : ℕ) → 0 < x → x < MARKS → getD memo x 0 ≡ 0) where
   nothing-noted : (i : ℕ) (m : Member) (value : Bool) → noteIn memo i (placeOf image memo m) ≡ known value → ⊥
   nothing-noted i m value e =
       whether (ltb i NOTED-CALLS)
@@ -103,8 +103,8 @@ module _ (image memo : List ℕ) (few : length memo ≤ MEMO) (clear : (x : ℕ)
     where
       inside : i < NOTED-CALLS → placeOf image memo m + PROFILES * i < MEMO → getD memo (placeOf image memo m + PROFILES * i) 0 ≡ 0
       inside s h =
-          let p = place-is (profileOf image m) (bitsOf image memo m) (placeOf image memo m) refl (omega arith) in
-          clear (placeOf image memo m + PROFILES * i) (omega (arith, p .is, p .few, profile-small image m (p .number) (p .profile-is)))
+          let p = place-is (profileOf image (wiringIn memo) m) (bitsOf image memo m) (placeOf image memo m) refl (omega arith) in
+          clear (placeOf image memo m + PROFILES * i) (omega (arith, p .is)) (omega (arith, p .is, p .few, profile-small image (wiringIn memo) m (p .number) (p .profile-is)))
 
       blank : i < NOTED-CALLS → getD memo (placeOf image memo m + PROFILES * i) 0 ≡ 0
       blank s =
@@ -116,30 +116,52 @@ zeros zero i = refl
 zeros (suc n) zero = refl
 zeros (suc n) (suc i) = zeros n i
 
+-- its first byte says what profiles tell of the wiring
+module _ {rule image tree memo : List ℕ} (calls : List ℕ) (v : ℕ) (marks : Marks rule image tree memo) (room : PLAIN ≤ length memo) (few : length memo ≤ MEMO)
+    (clear : (x : ℕ) → x < MARKS → getD memo x 0 ≡ 0) (h : OF-FEATURES ≤ v → ownersWired image ≡ true) where
+  notes-begun : Notes rule image tree calls (set memo 0 v)
+  notes-begun =
+      let long = length-set memo 0 v in
+      record {
+        room = omega arith;
+        marks = marks-kept (kept-set memo 0 v (omega arith)) marks;
+        wired = λ l. h (omega (arith, l, getD-set-same memo 0 v 0 (omega arith)));
+        noted = λ i m value e.
+            absurd (nothing-noted image (set memo 0 v) (omega arith)
+            (λ x p l. getD-set-other memo 0 x v 0 (λ z. omega (arith, z, p)) ∙ clear x l) i m value e);
+      }
+
 -- one without marks
-pub notes-none : (rule image tree calls : List ℕ) (n : ℕ) → PLAIN ≤ n → n ≤ PLACES → Notes rule image tree calls (replicate n 0)
-notes-none rule image tree calls n h l =
-    let long = length-replicate {A = ℕ} n 0 in
-    record {
-      room = omega arith;
-      marks = marks-none rule image tree (replicate n 0) (omega arith);
-      settled = λ e. absurd (omega (arith, zeros n 0, e));
-      noted = λ i m value e. absurd (nothing-noted image (replicate n 0) (omega arith) (λ x _. zeros n x) i m value e);
-    }
+module _ (rule image tree calls : List ℕ) where
+  blank-marks : Marks rule image tree (replicate PLAIN 0)
+  blank-marks = marks-none rule image tree (replicate PLAIN 0) (omega (arith, length-replicate {A = ℕ} PLAIN 0))
+
+  pub notes-plain : (v : ℕ) → (OF-FEATURES ≤ v → ownersWired image ≡ true) → Notes rule image tree calls (set (replicate PLAIN 0) 0 v)
+  notes-plain v h =
+      let long = length-replicate {A = ℕ} PLAIN 0 in
+      notes-begun calls v blank-marks (omega arith) (omega arith) (λ x l. zeros PLAIN x) h
+
+  -- with no wiring told
+  pub notes-none : Notes rule image tree calls (replicate PLAIN 0)
+  notes-none =
+      let long = length-replicate {A = ℕ} PLAIN 0 in
+      record {
+        room = omega arith;
+        marks = blank-marks;
+        wired = λ l. absurd (omega (arith, l, zeros PLAIN 0));
+        noted = λ i m value e. absurd (nothing-noted image (replicate PLAIN 0) (omega arith) (λ x p l. zeros PLAIN x) i m value e);
+      }
 
 -- one in which marks were made
-pub notes-front : {rule image tree memo : List ℕ} {n : ℕ} (calls : List ℕ) → Made rule image tree memo n → Notes rule image tree calls (take (PLACES + n) memo)
-notes-front {rule} {image} {tree} {memo} {n} calls w =
-    let long = made-length w in
-    record {
-      room = omega arith;
-      marks = made-marks w;
-      settled = λ e. absurd (omega (arith, clear 0 (omega arith), e));
-      noted = λ i m value e. absurd (nothing-noted image (take (PLACES + n) memo) (omega (arith, w .most)) clear i m value e);
-    }
-  where
-    clear : (x : ℕ) → x < MARKS → getD (take (PLACES + n) memo) x 0 ≡ 0
-    clear x h = getD-take (PLACES + n) memo x 0 (omega arith) ∙ w .clear x h
+module _ {rule image tree memo : List ℕ} {n : ℕ} (w : Made rule image tree memo n) (v : ℕ) where
+  pub front-length : length (take (PLACES + n) (set memo 0 v)) ≡ PLACES + n
+  front-length = ap length (take-set-lt (PLACES + n) memo 0 v (omega arith)) ∙ length-set (take (PLACES + n) memo) 0 v ∙ made-length w
+
+  pub notes-front : (calls : List ℕ) → (OF-FEATURES ≤ v → ownersWired image ≡ true) → Notes rule image tree calls (take (PLACES + n) (set memo 0 v))
+  notes-front calls h =
+      let long = made-length w in
+      subst (Notes rule image tree calls) (sym (take-set-lt (PLACES + n) memo 0 v (omega arith)))
+      (notes-begun calls v (made-marks w) (omega arith) (omega (arith, w .most)) (λ x l. getD-take (PLACES + n) memo x 0 (omega arith) ∙ w .clear x l) h)
 
 -- ---- a byte written
 
@@ -165,24 +187,6 @@ byte-says false false true e = absurd (omega arith)
 byte-says false false false e = (refl, refl)
 
 module _ {rule image tree calls memo : List ℕ} (n : Notes rule image tree calls memo) where
-  -- the first byte is written
-  pub notes-settled : (v : ℕ) → (v ≡ SETTLED → ownersWired image ≡ true) → Notes rule image tree calls (set memo 0 v)
-  notes-settled v h =
-      record {
-        room = omega (arith, n .room, length-set memo 0 v);
-        marks = marks-kept same (n .marks);
-        settled = λ e. h (sym (getD-set-same memo 0 v 0 (omega (arith, n .room))) ∙ e);
-        noted = λ i m value e. n .noted i m value (sym (stays i m) ∙ e);
-      }
-    where
-      same : Kept memo (set memo 0 v)
-      same = kept-set memo 0 v (omega arith)
-
-      stays : (i : ℕ) (m : Member) → noteIn (set memo 0 v) i (placeOf image (set memo 0 v) m) ≡ noteIn memo i (placeOf image memo m)
-      stays i m =
-          ap (λ (b : ℕ). noteIn (set memo 0 v) i (placeBy (profileOf image m) b)) (bits-kept same image m)
-          ∙ note-kept memo 0 v i (placeOf image memo m) (λ z. omega (arith, z, place-positive (profileOf image m) (bitsOf image memo m)))
-
   -- an answer that was noted
   pub asked-known : {i place x : ℕ} {m : Member} {r : Bool} → Placed image memo m place → x ≡ noteIn memo i place → x ≡ known r → Asked rule image tree calls i m memo memo r
   asked-known {i} {r = r} p e f = record { value = sym (p .told rule tree calls n i r (sym e ∙ f)); notes = n; long = refl }
@@ -190,24 +194,24 @@ module _ {rule image tree calls memo : List ℕ} (n : Notes rule image tree call
   -- one that is noted now, as that of all members of this place
   module _ (i place : ℕ) (m : Member) (r more : Bool) (p : Placed image memo m place) (s : i < NOTED-CALLS) (h : place + PROFILES * i < length memo)
       (value : r ≡ truth image m (childrenAt rule tree (argsOf calls i))) (below : TellsBelow tree (argsOf calls i) m memo more) where
-    here-is : PlaceIs (profileOf image m) (bitsOf image memo m) place
-    here-is = place-is (profileOf image m) (bitsOf image memo m) place (p .is) (omega (arith, n .marks .few))
+    here-is : PlaceIs (profileOf image (wiringIn memo) m) (bitsOf image memo m) place
+    here-is = place-is (profileOf image (wiringIn memo) m) (bitsOf image memo m) place (p .is) (omega (arith, n .marks .few))
 
     same : Kept memo (set memo (place + PROFILES * i) (byteOf more r))
     same =
         kept-set memo (place + PROFILES * i) (byteOf more r)
-        (omega (arith, here-is .is, here-is .few, profile-small image m (here-is .number) (here-is .profile-is)))
+        (omega (arith, here-is .is, here-is .few, profile-small image (wiringIn memo) m (here-is .number) (here-is .profile-is)))
 
     -- another member with the same place has the same answer
-    other-noted : (o : Member) (v : Bool) → PlaceIs (profileOf image o) (bitsOf image memo o) place → byteOf more r ≡ known v
+    other-noted : (o : Member) (v : Bool) → PlaceIs (profileOf image (wiringIn memo) o) (bitsOf image memo o) place → byteOf more r ≡ known v
         → truth image o (childrenAt rule tree (argsOf calls i)) ≡ v
     other-noted o v q e =
-        let x = profile-small image m (here-is .number) (here-is .profile-is) in
-        let y = profile-small image o (q .number) (q .profile-is) in
+        let x = profile-small image (wiringIn memo) m (here-is .number) (here-is .profile-is) in
+        let y = profile-small image (wiringIn memo) o (q .number) (q .profile-is) in
         let number : q .number ≡ here-is .number = omega (arith, here-is .is) in
         let bits : bitsOf image memo m ≡ bitsOf image memo o = omega (arith, here-is .is) in
         let t = byte-says more r v e in
-        sym (alike-has (n .marks) (n .settled) m o (here-is .number) (childrenAt rule tree (argsOf calls i)) (here-is .profile-is) (q .profile-is ∙ ap Number number) bits (here-is .few)
+        sym (alike-has (n .marks) (n .wired) m o (here-is .number) (childrenAt rule tree (argsOf calls i)) (here-is .profile-is) (q .profile-is ∙ ap Number number) bits (here-is .few)
         (told-rows rule tree memo m (argsOf calls i) (below .told rule (t .0))))
         ∙ sym value
         ∙ t .1
@@ -223,9 +227,9 @@ module _ {rule image tree calls memo : List ℕ} (n : Notes rule image tree call
 
         found : j < NOTED-CALLS → placeOf image memo o + PROFILES * j ≡ place + PROFILES * i → truth image o (childrenAt rule tree (argsOf calls j)) ≡ v
         found u t =
-            let q = place-is (profileOf image o) (bitsOf image memo o) (placeOf image memo o) refl (omega (arith, n .marks .few)) in
-            let x = profile-small image m (here-is .number) (here-is .profile-is) in
-            let y = profile-small image o (q .number) (q .profile-is) in
+            let q = place-is (profileOf image (wiringIn memo) o) (bitsOf image memo o) (placeOf image memo o) refl (omega (arith, n .marks .few)) in
+            let x = profile-small image (wiringIn memo) m (here-is .number) (here-is .profile-is) in
+            let y = profile-small image (wiringIn memo) o (q .number) (q .profile-is) in
             let call : j ≡ i = same-call (bitsOf image memo o) (bitsOf image memo m) (q .number) (here-is .number) j i y x u s (omega (arith, here-is .is)) in
             let at : placeOf image memo o ≡ place = omega arith in
             ap (λ (x : ℕ). truth image o (childrenAt rule tree (argsOf calls x))) call
@@ -241,15 +245,19 @@ module _ {rule image tree calls memo : List ℕ} (n : Notes rule image tree call
             (λ u. found (ltb-true j NOTED-CALLS u) (eqb-true (placeOf image memo o + PROFILES * j) (place + PROFILES * i) t))
             (λ u. absurd (not-known v (note-later (set memo (place + PROFILES * i) (byteOf more r)) j (placeOf image memo o) (ltb-false j NOTED-CALLS u) ∙ e)))
 
+    -- the first byte is another
+    wiring-kept : wiringIn (set memo (place + PROFILES * i) (byteOf more r)) ≡ wiringIn memo
+    wiring-kept = getD-set-other memo (place + PROFILES * i) 0 (byteOf more r) 0 (λ z. omega (arith, here-is .is, z))
+
     notes-noted : Notes rule image tree calls (set memo (place + PROFILES * i) (byteOf more r))
     notes-noted =
         record {
           room = omega (arith, n .room, same .long);
           marks = marks-kept same (n .marks);
-          settled = λ e. n .settled (sym (getD-set-other memo (place + PROFILES * i) 0 (byteOf more r) 0 (λ z. omega (arith, here-is .is, z))) ∙ e);
+          wired = λ l. n .wired (omega (arith, l, wiring-kept));
           noted = λ j o v e.
               noted-all j o v
-              (ap (λ (b : ℕ). noteIn (set memo (place + PROFILES * i) (byteOf more r)) j (placeBy (profileOf image o) b)) (sym (bits-kept same image o)) ∙ e);
+              ((λ t. noteIn (set memo (place + PROFILES * i) (byteOf more r)) j (placeBy (profileOf image (sym wiring-kept t) o) (sym (bits-kept same image o) t))) ∙ e);
         }
 
   pub asked-noted : {i place : ℕ} {m : Member} {r : Bool} {after : List ℕ} → Placed image memo m place → r ≡ truth image m (childrenAt rule tree (argsOf calls i))
@@ -261,11 +269,3 @@ module _ {rule image tree calls memo : List ℕ} (n : Notes rule image tree call
         notes = subst (Notes rule image tree calls) (sym e) (notes-noted i place m r more p s h value below);
         long = ap length e ∙ length-set memo (place + PROFILES * i) (byteOf more r);
       }
-
--- marks were made, and then the first byte written
-module _ {rule image tree memo : List ℕ} {n : ℕ} (w : Made rule image tree memo n) (v : ℕ) where
-  pub front-length : length (take (PLACES + n) (set memo 0 v)) ≡ PLACES + n
-  front-length = ap length (take-set-lt (PLACES + n) memo 0 v (omega arith)) ∙ length-set (take (PLACES + n) memo) 0 v ∙ made-length w
-
-  pub front-settled : (calls : List ℕ) → (v ≡ SETTLED → ownersWired image ≡ true) → Notes rule image tree calls (take (PLACES + n) (set memo 0 v))
-  front-settled calls h = subst (Notes rule image tree calls) (sym (take-set-lt (PLACES + n) memo 0 v (omega arith))) (notes-settled (notes-front calls w) v h)

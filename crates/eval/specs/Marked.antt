@@ -97,17 +97,14 @@ unfoldable pub bitsOf : List ℕ → List ℕ → Member → ℕ
 unfolding bitsBy
 bitsOf image memo m = cond (ltb PLACES (length memo)) (bitsBy image memo m) 0
 
--- whether a memo says that the owner of every connection is wired
-abbrev pub SETTLED : ℕ
-SETTLED = 1
-
-abbrev pub settledIn : List ℕ → Bool
-settledIn memo = eqb (getD memo 0 0) SETTLED
+-- what a memo says that profiles tell of the wiring
+abbrev pub wiringIn : List ℕ → ℕ
+wiringIn memo = getD memo 0 0
 
 -- a node of a kind with these children asks for no more of a member than its profile and its bits: it asks for no more than the profile,
 -- or it is the `has` in one of the rows
 pub data Told (rule tree memo : List ℕ) (m : Member) (k : ℕ) (s : Forest) : Type 0 where
-  plain : asksMore m (settledIn memo) k ≡ false → Told rule tree memo m k s
+  plain : asksMore m (wiringIn memo) k ≡ false → Told rule tree memo m k s
   marked : (j : ℕ) → PLACES + j < length memo → k ≡ CALL-EXPR → literalOf s ≡ valueIn rule tree memo j → Told rule tree memo m k s
 
 -- all rows do, before the first that is not below a level

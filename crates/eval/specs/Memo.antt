@@ -12,9 +12,9 @@ use Rattle.predicate.specs.Truth.{truth}
 use Rattle.predicate.specs.Rows.{childrenAt}
 use Rattle.profile.specs.declared.Profile.{Profile}
 use Rattle.profile.specs.declared.Profile.the-variants.{Number, Unknown}
-use Rattle.profile.specs.Profile.{PROFILES, profileOf}
+use Rattle.profile.specs.Profile.{PROFILES, OF-FEATURES, profileOf}
 use Rattle.eval.specs.Ready.{CALL-ROW}
-use Rattle.eval.specs.Marked.{NO-BITS, SETTLED, bitsOf, Marks, TellsBelow}
+use Rattle.eval.specs.Marked.{NO-BITS, bitsOf, wiringIn, Marks, TellsBelow}
 
 -- the calls whose predicates are noted
 abbrev pub NOTED-CALLS : ℕ
@@ -62,17 +62,17 @@ placeBy (Number k) bits = cond (ltb bits NO-BITS) (1 + WAY-NOTES * bits + k) NO-
 placeBy Unknown bits = NO-PLACE
 
 abbrev pub placeOf : List ℕ → List ℕ → Member → ℕ
-placeOf image memo m = placeBy (profileOf image m) (bitsOf image memo m)
+placeOf image memo m = placeBy (profileOf image (wiringIn memo) m) (bitsOf image memo m)
 
 -- what is noted of the predicate of call i at a place
 unfoldable pub noteIn : List ℕ → ℕ → ℕ → ℕ
 noteIn memo i place = cond (ltb i NOTED-CALLS) (getD memo (place + PROFILES * i) NOT-KNOWN) NOT-KNOWN
 
--- what a memo says is so: its marks, that the owner of every connection is wired, and each truth that is noted at a member's place
+-- what a memo says is so: its marks, that the owner of every connection is wired where profiles tell the wiring of features, and each truth that is noted at a member's place
 pub record Notes (rule image tree calls memo : List ℕ) : Type 0 where
   pub room : PLAIN ≤ length memo
   pub marks : Marks rule image tree memo
-  pub settled : getD memo 0 0 ≡ SETTLED → ownersWired image ≡ true
+  pub wired : OF-FEATURES ≤ wiringIn memo → ownersWired image ≡ true
   pub noted : (i : ℕ) (m : Member) (value : Bool) → noteIn memo i (placeOf image memo m) ≡ known value → truth image m (childrenAt rule tree (argsOf calls i)) ≡ value
 
 -- the place of a member, which is all that is needed to read what is noted of it

@@ -118,8 +118,7 @@ fn is_told(tree: &[u32], row: usize, member: Member, memo: &[u8]) -> bool
     requires { ⌜ (row + ROW ≤ length (now tree)) × (0 < length (now memo)) ⌝ }
     ensures { λ r. ⌜ RowTold (now (tree .entry)) row member (now (memo .entry)) r ⌝ }
 {
-    let settled = memo[0] == memo::SETTLED;
-    if !profile::asks_more(member, settled, tree[row]) {
+    if !profile::asks_more(member, memo[0], tree[row]) {
         return true;
     }
     if tree[row] != kind::CALL_EXPR {
@@ -155,7 +154,7 @@ pub(crate) fn make_marks(rule: &[u8], image: &[u8], tree: &[u32], memo: &mut [u8
     requires { ⌜ now memo ≡ replicate MEMO 0 ⌝ }
     ensures { λ r. ⌜ Made (now (rule .entry)) (now (image .entry)) (now (tree .entry)) (now (memo .exit)) r ⌝ }
 {
-    let mut row = next_call(tree, 0);
+    let mut row = next_row(tree, kind::CALL_EXPR, 0);
     let mut n = 0;
     while n < HASES {
         if ROWS <= row {
@@ -163,7 +162,7 @@ pub(crate) fn make_marks(rule: &[u8], image: &[u8], tree: &[u32], memo: &mut [u8
         }
         make_block(rule, image, tree, row, n, memo);
         n += 1;
-        row = next_call(tree, row + 1);
+        row = next_row(tree, kind::CALL_EXPR, row + 1);
     }
     n
 }
@@ -188,14 +187,14 @@ fn mark_block(image: &[u8], value: &[u8], block: &mut [u8])
     marks::mark_features(image, value, block);
 }
 
-// The number of the first CALL_EXPR row from a row on, or ROWS where no row below has marks.
-pub(crate) fn next_call(tree: &[u32], from: usize) -> usize {
+// The number of the first row of a kind from a row on, or ROWS where there is none below that.
+pub(crate) fn next_row(tree: &[u32], kind: u32, from: usize) -> usize {
     let mut row = from;
     while row < ROWS {
         if tree.len() <= rows::ROW * row {
             return ROWS;
         }
-        if tree[rows::ROW * row] == kind::CALL_EXPR {
+        if tree[rows::ROW * row] == kind {
             return row;
         }
         row += 1;

@@ -11,6 +11,7 @@ ghost use Prim.Native.Nat.{_+_, _*_, _≤_};
 ghost use lib.ListN.{length};
 ghost use Rattle.profile.specs.Profile.{profileOf};
 ghost use Rattle.eval.specs.Ready.{CALL-ROW};
+ghost use Rattle.eval.specs.Marked.{wiringIn};
 ghost use Rattle.eval.specs.Memo.{NO-PLACE, byteOf, noteIn, Notes, Placed, Asked, Noted};
 
 // The calls whose predicates are noted. That of a later call is asked of each member.
@@ -19,11 +20,8 @@ pub(crate) const NOTED_CALLS: usize = 4;
 // The bytes of the notes for each of the bits.
 pub(crate) const WAY_NOTES: usize = profile::PROFILES * NOTED_CALLS;
 
-// Those of a memo without marks.
+// Those of a memo without marks, whose first byte says what profiles tell of the wiring.
 pub(crate) const PLAIN: usize = 1 + WAY_NOTES;
-
-// What the first byte says where the owner of every connection is wired.
-pub(crate) const SETTLED: u8 = 1;
 
 // What a note says: nothing is known yet, the predicate is false, it is true, or its answer is not to be noted.
 pub(crate) const NOT_KNOWN: u8 = 0;
@@ -39,7 +37,7 @@ const NO_PLACE: usize = 0x100000;
 
 // Where the notes of a member with this profile begin.
 pub(crate) fn place_of(image: &[u8], member: Member, profile: Profile, memo: &[u8]) -> usize
-    requires { ⌜ profileOf (now image) member ≡ profile ⌝ }
+    requires { ⌜ profileOf (now image) (wiringIn (now memo)) member ≡ profile ⌝ }
     ensures { λ r. ⌜ Placed (now (image .entry)) (now (memo .entry)) member r ⌝ }
 {
     if marked::PLACES < memo.len() {
@@ -53,7 +51,7 @@ pub(crate) fn place_of(image: &[u8], member: Member, profile: Profile, memo: &[u
 
 // The same, by the marks too.
 fn marked_place(image: &[u8], member: Member, profile: Profile, memo: &[u8]) -> usize
-    requires { ⌜ profileOf (now image) member ≡ profile ⌝ }
+    requires { ⌜ profileOf (now image) (wiringIn (now memo)) member ≡ profile ⌝ }
     ensures { λ r. ⌜ Placed (now (image .entry)) (now (memo .entry)) member r ⌝ }
 {
     let Profile::Number(k) = profile else {
@@ -95,7 +93,8 @@ pub(crate) fn ask(
     ensures { λ r. ⌜ Asked (now (rule .entry)) (now (image .entry)) (now (tree .entry)) (now (calls .entry)) i member (now (memo .entry)) (now (memo .exit)) r ⌝ }
 {
     let args = calls[ready::CALL_ROW * i + 1] as usize;
-    let place = marked_place(image, member, profile::profile_of(image, member), memo);
+    let profile = profile::profile_of(image, memo[0], member);
+    let place = marked_place(image, member, profile, memo);
     let known = noted(memo, i, place);
     if known == KNOWN_TRUE {
         return true;

@@ -12,7 +12,6 @@ use instance;
 use predicate::atom::Member;
 use predicate::node;
 use profile;
-use profile::Profile;
 use syntax::kind;
 use syntax::text;
 ghost use mathlib.Core.Path.{_≡_};
@@ -26,14 +25,13 @@ ghost use Rattle.board.specs.Check.{COLLECTION-ROW};
 ghost use Rattle.board.specs.WellFormed.{WellFormed, Room};
 ghost use Rattle.instance.specs.Instance.{ownersWired};
 ghost use Rattle.predicate.specs.Rows.{ROW, kindAt, childrenAt};
-ghost use Rattle.profile.specs.Profile.{profileOf};
+ghost use Rattle.profile.specs.Profile.{OF-FEATURES};
 ghost use Rattle.meaning.specs.Value.{rowOf, wholeRows};
 ghost use Rattle.meaning.specs.Calls.{keep, kept, upFrom, featuresOf};
 ghost use Rattle.meaning.specs.Pipeline.{isOfAnalysis};
 ghost use Rattle.meaning.specs.Walk.{isLast};
 ghost use Rattle.calls.specs.Table.{methodAt};
 ghost use Rattle.eval.specs.Ready.{CALL-ROW, callsIn, callsFrom, sourceMembers};
-ghost use Rattle.eval.specs.Marked.{SETTLED};
 ghost use Rattle.eval.specs.Memo.{argsOf, Notes};
 ghost use Rattle.eval.specs.Feed.{stateOf, begin, fed, decided, Decides, Fits, Stands, Arrives, Named, AnalysisOf, otherThan, IsFeatures, walked};
 
@@ -159,7 +157,7 @@ fn feed_noted(
         return feed_marked(rule, image, tree, calls, last, collection);
     }
     let mut notes = [0u8; memo::PLAIN];
-    notes[0] = settle(image, calls);
+    notes[0] = wiring_told(image, tree, calls);
     feed_each_component(rule, image, tree, calls, last, collection, &mut notes)
 }
 
@@ -168,7 +166,7 @@ fn is_marked(image: &[u8], tree: &[u32]) -> bool {
     if image::record_count(image, Section::Components) < MARKED_BOARD {
         return false;
     }
-    marked::next_call(tree, 0) < marked::ROWS
+    marked::next_row(tree, kind::CALL_EXPR, 0) < marked::ROWS
 }
 
 // The same with the marks made.
@@ -185,7 +183,7 @@ fn feed_marked(
 {
     let mut notes = [0u8; marked::MEMO];
     let rows = marked::make_marks(rule, image, tree, &mut notes);
-    notes[0] = settle(image, calls);
+    notes[0] = wiring_told(image, tree, calls);
     let end = marked::PLACES + rows;
     feed_each_component(
         rule,
@@ -198,17 +196,29 @@ fn feed_marked(
     )
 }
 
-// The first byte of the notes: where features are asked for, whether the owner of every connection is wired.
-fn settle(image: &[u8], calls: &[u32]) -> u8
-    ensures { λ r. ⌜ (r ≡ SETTLED → ownersWired (now (image .entry)) ≡ true) ⌝ }
+// The first byte of the notes: what profiles are to tell of the wiring. That of features only where the owner of every connection is wired.
+fn wiring_told(image: &[u8], tree: &[u32], calls: &[u32]) -> u8
+    ensures { λ r. ⌜ (OF-FEATURES ≤ r → ownersWired (now (image .entry)) ≡ true) ⌝ }
 {
+    if !asks_connected(tree) {
+        return profile::NO_WIRING;
+    }
     if !asks_features(calls) {
-        return 0;
+        return profile::OF_COMPONENTS;
     }
     if instance::owners_wired(image) {
-        return memo::SETTLED;
+        return profile::OF_FEATURES;
     }
-    0
+    profile::OF_COMPONENTS
+}
+
+// Whether the rule may ask `connected`: there is an IDENT_EXPR besides that of the source.
+fn asks_connected(tree: &[u32]) -> bool {
+    let source = marked::next_row(tree, kind::IDENT_EXPR, 0);
+    if marked::ROWS <= source {
+        return false;
+    }
+    marked::next_row(tree, kind::IDENT_EXPR, source + 1) < marked::ROWS
 }
 
 // Whether one of the calls is `features`.
@@ -293,7 +303,7 @@ fn feed_component(
         );
     }
     let member = Member::Component(component);
-    let profile = profile::component_profile(image, component);
+    let profile = profile::component_profile(image, notes[0], component);
     let step = step::step_of(
         calls,
         0,
@@ -579,7 +589,6 @@ fn feed_features(
     requires { ⌜ Fits (methodAt last) (now image) (callsFrom (now rule) (now tree) (now calls) (CALL-ROW * i)) (featuresOf (now image) component) (stateOf tally (now collection)) × Notes (now rule) (now image) (now tree) (now calls) (now notes) ⌝ }
     ensures { λ r. ⌜ Stands (methodAt last) (stateOf r (now (collection .exit))) (fed (now (image .entry)) (callsFrom (now (rule .entry)) (now (tree .entry)) (now (calls .entry)) (CALL-ROW * i)) (featuresOf (now (image .entry)) component) (stateOf tally (now (collection .entry)))) × Notes (now (rule .entry)) (now (image .entry)) (now (tree .entry)) (now (calls .entry)) (now (notes .exit)) ⌝ }
 {
-    let owner = profile::component_profile(image, component);
     let end = instance::features_end(image, component);
     let mut feature = image::field(image, Section::Components, component, image::FIRST_FEATURE);
     let mut tally = tally;
@@ -592,7 +601,6 @@ fn feed_features(
             last,
             i,
             component,
-            owner,
             feature,
             collection,
             notes,
@@ -606,7 +614,7 @@ fn feed_features(
     tally
 }
 
-// Sends one feature of a component with this profile: as the notes tell, or by asking.
+// Sends one feature: as the notes tell, or by asking.
 fn feed_feature(
     rule: &[u8],
     image: &[u8],
@@ -615,17 +623,16 @@ fn feed_feature(
     last: usize,
     i: usize,
     component: u32,
-    owner: Profile,
     feature: u32,
     collection: &mut [u32],
     notes: &mut [u8],
     tally: Tally,
 ) -> Tally
-    requires { ⌜ Fits (methodAt last) (now image) (callsFrom (now rule) (now tree) (now calls) (CALL-ROW * i)) (Member.Feature component feature ∷ []) (stateOf tally (now collection)) × Notes (now rule) (now image) (now tree) (now calls) (now notes) × (owner ≡ profileOf (now image) (Member.Component component)) ⌝ }
+    requires { ⌜ Fits (methodAt last) (now image) (callsFrom (now rule) (now tree) (now calls) (CALL-ROW * i)) (Member.Feature component feature ∷ []) (stateOf tally (now collection)) × Notes (now rule) (now image) (now tree) (now calls) (now notes) ⌝ }
     ensures { λ r. ⌜ Stands (methodAt last) (stateOf r (now (collection .exit))) (fed (now (image .entry)) (callsFrom (now (rule .entry)) (now (tree .entry)) (now (calls .entry)) (CALL-ROW * i)) (Member.Feature component feature ∷ []) (stateOf tally (now (collection .entry)))) × Notes (now (rule .entry)) (now (image .entry)) (now (tree .entry)) (now (calls .entry)) (now (notes .exit)) ⌝ }
 {
     let member = Member::Feature(component, feature);
-    let profile = profile::feature_profile(image, owner, feature);
+    let profile = profile::feature_profile(image, notes[0], component, feature);
     let step = step::step_of(
         calls,
         i,

@@ -5,7 +5,7 @@ use mathlib.Core.List.{List}
 use Prim.Native.Nat.{ℕ, _+_, _*_, _≤_, _<_}
 use native.Mathlib.Omega.{arith}
 use lib.Dec.{eqb, ltb}
-use borrow.Author.Tests.{eqb-true, ltb-true}
+use borrow.Author.Tests.{lt-ltb, eqb-true, ltb-true, ltb-false}
 use Rattle.syntax.specs.Kind.{BINARY-EXPR, UNARY-EXPR, COMPARE-EXPR, CALL-EXPR, PAREN-EXPR, IDENT-EXPR, CONTAINS-EXPR}
 use Rattle.syntax.specs.Text.{ascii, same}
 use Rattle.syntax.proofs.BoolLaws.{both}
@@ -19,13 +19,12 @@ use Rattle.predicate.specs.declared.atom.Member.the-variants.{Component, Featur
 use Rattle.predicate.specs.Truth.{connected, has, compares, messageContains, Sort, binary, unary, paren, ident, call, containing, compare, other, sortOf, settle}
 use Rattle.profile.specs.declared.Profile.{Profile}
 use Rattle.profile.specs.declared.Profile.the-variants.{Number, Unknown}
-use Rattle.profile.specs.Profile.{CATEGORIES, FEATURE-KINDS, DIRECTIONS, SEVERITIES, FIRST-OF-FEATURES, FIRST-OF-DIAGNOSTICS, PROFILES, numbered, ofComponent, ofFeature, ofDiagnostic, componentProfile, profileOf, asksMore}
+use Rattle.profile.specs.Profile.{CATEGORIES, FEATURE-KINDS, DIRECTIONS, SEVERITIES, FIRST-OF-FEATURES, FIRST-OF-DIAGNOSTICS, PROFILES, NO-WIRING, OF-COMPONENTS, OF-FEATURES, numbered, ofComponent, ofFeature, ofDiagnostic, wiredIn, componentProfile, profileOf, asksWiring, asksMore}
 
--- the profile of a feature, made of its owner's
-pub feature-profile : (image : List ℕ) (c f : ℕ) {owner r : Profile} → owner ≡ profileOf image (Component c) → r ≡ ofFeature owner (featureKind image f) (direction image f)
-    → r ≡ profileOf image (Feature c f)
+-- the profile of a diagnostic has no wiring
+pub diagnostic-profile : (image : List ℕ) (wiring d : ℕ) {r : Profile} → r ≡ ofDiagnostic (severity image d) → r ≡ profileOf image wiring (Diagnostic d)
 unfolding profileOf
-feature-profile image c f e h = h ∙ ap (λ (owner : Profile). ofFeature owner (featureKind image f) (direction image f)) e
+diagnostic-profile image wiring d h = h
 
 -- ---- what a number says of the fields
 
@@ -102,95 +101,112 @@ InRange (Component c) k = k < FIRST-OF-FEATURES
 InRange (Feature c f) k = (FIRST-OF-FEATURES ≤ k) × (k < FIRST-OF-DIAGNOSTICS)
 InRange (Diagnostic d) k = (FIRST-OF-DIAGNOSTICS ≤ k) × (k < PROFILES)
 
-in-range : (image : List ℕ) (m : Member) (k : ℕ) → profileOf image m ≡ Number k → InRange m k
+in-range : (image : List ℕ) (wiring : ℕ) (m : Member) (k : ℕ) → profileOf image wiring m ≡ Number k → InRange m k
 unfolding profileOf componentProfile
-in-range image (Component c) k h =
-    let i = component-is (category image c) (componentConnected image c) k h in
-    omega (arith, i .small, i .is, bit-one (componentConnected image c))
-in-range image (Feature c f) k h =
-    let i = feature-is (componentProfile image c) (featureKind image f) (direction image f) k h in
+in-range image wiring (Component c) k h =
+    let i = component-is (category image c) (wiredIn image wiring c) k h in
+    omega (arith, i .small, i .is, bit-one (wiredIn image wiring c))
+in-range image wiring (Feature c f) k h =
+    let i = feature-is (componentProfile image wiring c) (featureKind image f) (direction image f) k h in
     (omega (arith, i .is), omega (arith, i .small, i .few-kinds, i .few-directions, i .is))
-in-range image (Diagnostic d) k h =
+in-range image wiring (Diagnostic d) k h =
     let i = diagnostic-is (severity image d) k h in
     (omega (arith, i .is), omega (arith, i .small, i .is))
 
 -- all are below how many there are
-pub profile-small : (image : List ℕ) (m : Member) (k : ℕ) → profileOf image m ≡ Number k → k < PROFILES
-profile-small image (Component c) k h = omega (arith, in-range image (Component c) k h)
-profile-small image (Feature c f) k h = omega (arith, in-range image (Feature c f) k h .1)
-profile-small image (Diagnostic d) k h = in-range image (Diagnostic d) k h .1
+pub profile-small : (image : List ℕ) (wiring : ℕ) (m : Member) (k : ℕ) → profileOf image wiring m ≡ Number k → k < PROFILES
+profile-small image wiring (Component c) k h = omega (arith, in-range image wiring (Component c) k h)
+profile-small image wiring (Feature c f) k h = omega (arith, in-range image wiring (Feature c f) k h .1)
+profile-small image wiring (Diagnostic d) k h = in-range image wiring (Diagnostic d) k h .1
 
 -- ---- members with the same number: of the same sort, with the same fields
 
-pub data Alike (image : List ℕ) : Member → Member → Type 0 where
-  components : {c d : ℕ} → category image c ≡ category image d → componentConnected image c ≡ componentConnected image d → Alike image (Component c) (Component d)
-  features : {c f d g : ℕ} → category image c ≡ category image d → componentConnected image c ≡ componentConnected image d → featureKind image f ≡ featureKind image g → direction image f ≡ direction image g
-      → Alike image (Feature c f) (Feature d g)
-  diagnostics : {c d : ℕ} → severity image c ≡ severity image d → Alike image (Diagnostic c) (Diagnostic d)
+pub data Alike (image : List ℕ) (wiring : ℕ) : Member → Member → Type 0 where
+  components : {c d : ℕ} → category image c ≡ category image d → wiredIn image wiring c ≡ wiredIn image wiring d → Alike image wiring (Component c) (Component d)
+  features : {c f d g : ℕ} → category image c ≡ category image d → wiredIn image wiring c ≡ wiredIn image wiring d → featureKind image f ≡ featureKind image g → direction image f ≡ direction image g
+      → Alike image wiring (Feature c f) (Feature d g)
+  diagnostics : {c d : ℕ} → severity image c ≡ severity image d → Alike image wiring (Diagnostic c) (Diagnostic d)
 
 -- the same owner's number says the same of the owners
-record SameOwner (image : List ℕ) (c d : ℕ) : Type 0 where
+record SameOwner (image : List ℕ) (wiring c d : ℕ) : Type 0 where
   sort : category image c ≡ category image d
-  wiring : componentConnected image c ≡ componentConnected image d
+  wired : wiredIn image wiring c ≡ wiredIn image wiring d
 
-same-owner : (image : List ℕ) (c d k : ℕ) → componentProfile image c ≡ Number k → componentProfile image d ≡ Number k → SameOwner image c d
+same-owner : (image : List ℕ) (wiring c d k : ℕ) → componentProfile image wiring c ≡ Number k → componentProfile image wiring d ≡ Number k → SameOwner image wiring c d
 unfolding componentProfile
-same-owner image c d k h g =
-    let i = component-is (category image c) (componentConnected image c) k h in
-    let j = component-is (category image d) (componentConnected image d) k g in
-    let p = bit-one (componentConnected image c) in
-    let q = bit-one (componentConnected image d) in
+same-owner image wiring c d k h g =
+    let i = component-is (category image c) (wiredIn image wiring c) k h in
+    let j = component-is (category image d) (wiredIn image wiring d) k g in
+    let p = bit-one (wiredIn image wiring c) in
+    let q = bit-one (wiredIn image wiring d) in
     record {
       sort = omega (arith, i .is, j .is);
-      wiring = bit-same (componentConnected image c) (componentConnected image d) (omega (arith, i .is, j .is));
+      wired = bit-same (wiredIn image wiring c) (wiredIn image wiring d) (omega (arith, i .is, j .is));
     }
 
-pub same-profile : (image : List ℕ) (m n : Member) (k : ℕ) → profileOf image m ≡ Number k → profileOf image n ≡ Number k → Alike image m n
-unfolding profileOf
-same-profile image (Component c) (Component d) k h g =
-    let o = same-owner image c d k h g in
-    components {c = c} {d = d} (o .sort) (o .wiring)
-same-profile image (Feature c f) (Feature d e) k h g =
-    let i = feature-is (componentProfile image c) (featureKind image f) (direction image f) k h in
-    let j = feature-is (componentProfile image d) (featureKind image e) (direction image e) k g in
-    let n : j .number ≡ i .number = omega (arith, i .is, j .is) in
-    let o = same-owner image c d (i .number) (i .owner-is) (j .owner-is ∙ ap Number n) in
-    features {c = c} {f = f} {d = d} {g = e} (o .sort) (o .wiring) (omega (arith, i .is, j .is)) (omega (arith, i .is, j .is))
-same-profile image (Diagnostic c) (Diagnostic d) k h g =
-    diagnostics {c = c} {d = d} (omega (arith, diagnostic-is (severity image c) k h .is, diagnostic-is (severity image d) k g .is))
-same-profile image (Component c) (Feature d e) k h g = absurd (omega (arith, in-range image (Component c) k h, in-range image (Feature d e) k g .0))
-same-profile image (Component c) (Diagnostic d) k h g = absurd (omega (arith, in-range image (Component c) k h, in-range image (Diagnostic d) k g .0))
-same-profile image (Feature c f) (Component d) k h g = absurd (omega (arith, in-range image (Feature c f) k h .0, in-range image (Component d) k g))
-same-profile image (Feature c f) (Diagnostic d) k h g = absurd (omega (arith, in-range image (Feature c f) k h .1, in-range image (Diagnostic d) k g .0))
-same-profile image (Diagnostic c) (Component d) k h g = absurd (omega (arith, in-range image (Diagnostic c) k h .0, in-range image (Component d) k g))
-same-profile image (Diagnostic c) (Feature d e) k h g = absurd (omega (arith, in-range image (Diagnostic c) k h .0, in-range image (Feature d e) k g .1))
+module _ (image : List ℕ) (wiring : ℕ) where
+  pub same-profile : (m n : Member) (k : ℕ) → profileOf image wiring m ≡ Number k → profileOf image wiring n ≡ Number k → Alike image wiring m n
+  unfolding profileOf
+  same-profile (Component c) (Component d) k h g =
+      let o = same-owner image wiring c d k h g in
+      components {c = c} {d = d} (o .sort) (o .wired)
+  same-profile (Feature c f) (Feature d e) k h g =
+      let i = feature-is (componentProfile image wiring c) (featureKind image f) (direction image f) k h in
+      let j = feature-is (componentProfile image wiring d) (featureKind image e) (direction image e) k g in
+      let n : j .number ≡ i .number = omega (arith, i .is, j .is) in
+      let o = same-owner image wiring c d (i .number) (i .owner-is) (j .owner-is ∙ ap Number n) in
+      features {c = c} {f = f} {d = d} {g = e} (o .sort) (o .wired) (omega (arith, i .is, j .is)) (omega (arith, i .is, j .is))
+  same-profile (Diagnostic c) (Diagnostic d) k h g =
+      diagnostics {c = c} {d = d} (omega (arith, diagnostic-is (severity image c) k h .is, diagnostic-is (severity image d) k g .is))
+  same-profile (Component c) (Feature d e) k h g = absurd (omega (arith, in-range image wiring (Component c) k h, in-range image wiring (Feature d e) k g .0))
+  same-profile (Component c) (Diagnostic d) k h g = absurd (omega (arith, in-range image wiring (Component c) k h, in-range image wiring (Diagnostic d) k g .0))
+  same-profile (Feature c f) (Component d) k h g = absurd (omega (arith, in-range image wiring (Feature c f) k h .0, in-range image wiring (Component d) k g))
+  same-profile (Feature c f) (Diagnostic d) k h g = absurd (omega (arith, in-range image wiring (Feature c f) k h .1, in-range image wiring (Diagnostic d) k g .0))
+  same-profile (Diagnostic c) (Component d) k h g = absurd (omega (arith, in-range image wiring (Diagnostic c) k h .0, in-range image wiring (Component d) k g))
+  same-profile (Diagnostic c) (Feature d e) k h g = absurd (omega (arith, in-range image wiring (Diagnostic c) k h .0, in-range image wiring (Feature d e) k g .1))
 
 -- ---- their atoms, each by its kind
 
-module _ {image : List ℕ} where
-  connected-alike : {m n : Member} (settled : Bool) → (settled ≡ true → ownersWired image ≡ true) → Alike image m n → asksMore m settled IDENT-EXPR ≡ false
+-- an IDENT_EXPR that asks for no more says that enough is told; a CALL_EXPR always asks for more
+enough-told : (wiring needed : ℕ) → asksWiring wiring needed IDENT-EXPR ≡ false → needed ≤ wiring
+unfolding asksWiring
+enough-told wiring needed h = ltb-false wiring needed h
+
+has-asks : (wiring needed : ℕ) → asksWiring wiring needed CALL-EXPR ≡ false → ⊥
+unfolding asksWiring
+has-asks wiring needed h = true≢false h
+
+-- whether a component is connected, where that is told
+wired-is : (image : List ℕ) (wiring c : ℕ) → OF-COMPONENTS ≤ wiring → wiredIn image wiring c ≡ componentConnected image c
+unfolding wiredIn
+wired-is image wiring c h = rw (lt-ltb NO-WIRING wiring (omega arith))
+
+module _ {image : List ℕ} {wiring : ℕ} where
+  connected-alike : {m n : Member} → (OF-FEATURES ≤ wiring → ownersWired image ≡ true) → Alike image wiring m n → asksMore m wiring IDENT-EXPR ≡ false
       → connected image m ≡ connected image n
   unfolding connected asksMore
-  connected-alike settled w (components e o) h = o
-  connected-alike true w (features {c} {f} {d} {g} e o k l) h = connected-with-owner image (w refl) c f ∙ o ∙ sym (connected-with-owner image (w refl) d g)
-  connected-alike false w (features e o k l) h = absurd (true≢false h)
-  connected-alike settled w (diagnostics e) h = refl
+  connected-alike w (components {c} {d} e o) h =
+      let t = enough-told wiring OF-COMPONENTS h in
+      sym (wired-is image wiring c t) ∙ o ∙ wired-is image wiring d t
+  connected-alike w (features {c} {f} {d} {g} e o k l) h =
+      let t = enough-told wiring OF-FEATURES h in
+      connected-with-owner image (w t) c f ∙ sym (wired-is image wiring c (omega arith)) ∙ o ∙ wired-is image wiring d (omega arith) ∙ sym (connected-with-owner image (w t) d g)
+  connected-alike w (diagnostics e) h = refl
 
-  has-alike : {m n : Member} (settled : Bool) (value : List ℕ) → Alike image m n → asksMore m settled CALL-EXPR ≡ false → has image m value ≡ has image n value
+  has-alike : {m n : Member} (value : List ℕ) → Alike image wiring m n → asksMore m wiring CALL-EXPR ≡ false → has image m value ≡ has image n value
   unfolding has asksMore
-  has-alike settled value (components e o) h = absurd (true≢false h)
-  has-alike true value (features e o k l) h = absurd (true≢false h)
-  has-alike false value (features e o k l) h = absurd (true≢false h)
-  has-alike settled value (diagnostics e) h = refl
+  has-alike value (components e o) h = absurd (has-asks wiring OF-COMPONENTS h)
+  has-alike value (features e o k l) h = absurd (has-asks wiring OF-FEATURES h)
+  has-alike value (diagnostics e) h = refl
 
-  contains-alike : {m n : Member} (settled : Bool) (value : List ℕ) → Alike image m n → asksMore m settled CONTAINS-EXPR ≡ false
+  contains-alike : {m n : Member} (value : List ℕ) → Alike image wiring m n → asksMore m wiring CONTAINS-EXPR ≡ false
       → messageContains image m value ≡ messageContains image n value
   unfolding messageContains asksMore
-  contains-alike settled value (components e o) h = refl
-  contains-alike settled value (features e o k l) h = refl
-  contains-alike settled value (diagnostics e) h = absurd (true≢false h)
+  contains-alike value (components e o) h = refl
+  contains-alike value (features e o k l) h = refl
+  contains-alike value (diagnostics e) h = absurd (true≢false h)
 
-  compares-alike : {m n : Member} (field value : List ℕ) → Alike image m n → compares image m field value ≡ compares image n field value
+  compares-alike : {m n : Member} (field value : List ℕ) → Alike image wiring m n → compares image m field value ≡ compares image n field value
   unfolding compares
   compares-alike field value (components e o) = ap (λ (x : ℕ). same field (ascii "category") && categoryMatches x value) e
   compares-alike field value (features e o k l) =
@@ -229,17 +245,17 @@ of-sort k =
     go false false false false false false false x y z = tt
 
 -- members that are alike have the same truth of a node that asks for no more
-pub settle-alike : {image : List ℕ} {m n : Member} (settled : Bool) → (settled ≡ true → ownersWired image ≡ true) → Alike image m n
-    → (k : ℕ) (f : Forest) (truths : List Bool) → asksMore m settled k ≡ false → settle image m (sortOf k) f truths ≡ settle image n (sortOf k) f truths
+pub settle-alike : {image : List ℕ} {wiring : ℕ} {m n : Member} → (OF-FEATURES ≤ wiring → ownersWired image ≡ true) → Alike image wiring m n
+    → (k : ℕ) (f : Forest) (truths : List Bool) → asksMore m wiring k ≡ false → settle image m (sortOf k) f truths ≡ settle image n (sortOf k) f truths
 unfolding settle
-settle-alike {image} {m} {n} settled w a k f truths h = go (sortOf k) (of-sort k)
+settle-alike {image} {wiring} {m} {n} w a k f truths h = go (sortOf k) (of-sort k)
   where
     go : (s : Sort) → OfSort s k → settle image m s f truths ≡ settle image n s f truths
     go binary o = refl
     go unary o = refl
     go paren o = refl
-    go ident o = connected-alike settled w a (sym (ap (asksMore m settled) o) ∙ h)
-    go call o = has-alike settled _ a (sym (ap (asksMore m settled) o) ∙ h)
-    go containing o = contains-alike settled _ a (sym (ap (asksMore m settled) o) ∙ h)
+    go ident o = connected-alike w a (sym (ap (asksMore m wiring) o) ∙ h)
+    go call o = has-alike _ a (sym (ap (asksMore m wiring) o) ∙ h)
+    go containing o = contains-alike _ a (sym (ap (asksMore m wiring) o) ∙ h)
     go compare o = compares-alike _ _ a
     go other o = refl

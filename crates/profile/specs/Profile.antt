@@ -44,22 +44,37 @@ ofFeature Unknown kind direction = Unknown
 unfoldable pub ofDiagnostic : ℕ → Profile
 ofDiagnostic severity = numbered (ltb severity SEVERITIES) (FIRST-OF-DIAGNOSTICS + severity)
 
--- of a component of a board, and of any member
-unfoldable pub componentProfile : List ℕ → ℕ → Profile
-unfolding ofComponent
-componentProfile image c = ofComponent (category image c) (componentConnected image c)
+-- what profiles tell of the wiring: nothing, whether a component is connected, or by that whether its features are
+abbrev pub NO-WIRING : ℕ
+NO-WIRING = 0
 
-unfoldable pub profileOf : List ℕ → Member → Profile
+abbrev pub OF-COMPONENTS : ℕ
+OF-COMPONENTS = 1
+
+abbrev pub OF-FEATURES : ℕ
+OF-FEATURES = 2
+
+-- of a component of a board, and of any member, with as much of the wiring as is asked for
+unfoldable pub wiredIn : List ℕ → ℕ → ℕ → Bool
+wiredIn image wiring c = ltb NO-WIRING wiring && componentConnected image c
+
+unfoldable pub componentProfile : List ℕ → ℕ → ℕ → Profile
+unfolding ofComponent wiredIn
+componentProfile image wiring c = ofComponent (category image c) (wiredIn image wiring c)
+
+unfoldable pub profileOf : List ℕ → ℕ → Member → Profile
 unfolding componentProfile ofFeature ofDiagnostic
-profileOf image (Component c) = componentProfile image c
-profileOf image (Feature c f) = ofFeature (componentProfile image c) (featureKind image f) (direction image f)
-profileOf image (Diagnostic d) = ofDiagnostic (severity image d)
+profileOf image wiring (Component c) = componentProfile image wiring c
+profileOf image wiring (Feature c f) = ofFeature (componentProfile image wiring c) (featureKind image f) (direction image f)
+profileOf image wiring (Diagnostic d) = ofDiagnostic (severity image d)
 
--- whether a node of a kind asks for more than the profile of a member: a CALL_EXPR is `has`, and a CONTAINS_EXPR looks at a diagnostic's
--- message; an IDENT_EXPR is `connected`, which the profile of a component tells, and that of a feature where it is settled that the owner of
--- every connection is wired
-unfoldable pub asksMore : Member → Bool → ℕ → Bool
-asksMore (Component c) settled kind = eqb kind CALL-EXPR
-asksMore (Feature c f) true kind = eqb kind CALL-EXPR
-asksMore (Feature c f) false kind = eqb kind CALL-EXPR || eqb kind IDENT-EXPR
-asksMore (Diagnostic d) settled kind = eqb kind CONTAINS-EXPR
+-- whether a node of a kind asks for more than the profile of a member: a CALL_EXPR is `has`, an IDENT_EXPR `connected`, which the profile
+-- tells where enough of the wiring is in it, and a CONTAINS_EXPR looks at a diagnostic's message
+unfoldable pub asksWiring : (wiring needed kind : ℕ) → Bool
+asksWiring wiring needed kind = eqb kind CALL-EXPR || (eqb kind IDENT-EXPR && ltb wiring needed)
+
+unfoldable pub asksMore : Member → ℕ → ℕ → Bool
+unfolding asksWiring
+asksMore (Component c) wiring kind = asksWiring wiring OF-COMPONENTS kind
+asksMore (Feature c f) wiring kind = asksWiring wiring OF-FEATURES kind
+asksMore (Diagnostic d) wiring kind = eqb kind CONTAINS-EXPR

@@ -6,8 +6,8 @@ use instance;
 use predicate::atom::Member;
 use syntax::kind;
 ghost use mathlib.Core.Path.{_≡_};
-ghost use Rattle.board.specs.Image.{featureKind, direction};
-ghost use Rattle.profile.specs.Profile.{ofComponent, ofFeature, ofDiagnostic, profileOf, asksMore};
+ghost use Rattle.board.specs.Image.{severity};
+ghost use Rattle.profile.specs.Profile.{ofComponent, ofFeature, ofDiagnostic, profileOf, asksWiring, asksMore};
 
 // The first profiles of features and of diagnostics, after those of components, and how many there are in all.
 pub const FIRST_OF_FEATURES: usize = 28;
@@ -22,40 +22,48 @@ pub enum Profile {
     Unknown,
 }
 
-// The profile of a member of a board.
-pub fn profile_of(image: &[u8], member: Member) -> Profile
-    ensures { λ r. ⌜ r ≡ profileOf (now (image .entry)) member ⌝ }
+// What profiles tell of the wiring: nothing, whether a component is connected, or by that whether its features are.
+pub const NO_WIRING: u8 = 0;
+
+pub const OF_COMPONENTS: u8 = 1;
+
+pub const OF_FEATURES: u8 = 2;
+
+// The profile of a member of a board, with as much of the wiring as is asked for.
+pub fn profile_of(image: &[u8], wiring: u8, member: Member) -> Profile
+    ensures { λ r. ⌜ r ≡ profileOf (now (image .entry)) wiring member ⌝ }
 {
     match member {
-        Member::Component(component) => component_profile(image, component),
-        Member::Feature(component, feature) => {
-            let owner = component_profile(image, component);
-            feature_profile(image, owner, feature)
-        }
+        Member::Component(component) => component_profile(image, wiring, component),
+        Member::Feature(component, feature) => feature_profile(image, wiring, component, feature),
         Member::Diagnostic(diagnostic) => diagnostic_profile(image, diagnostic),
     }
 }
 
 // That of a component.
-pub fn component_profile(image: &[u8], component: u32) -> Profile
-    ensures { λ r. ⌜ r ≡ profileOf (now (image .entry)) (Member.Component component) ⌝ }
+pub fn component_profile(image: &[u8], wiring: u8, component: u32) -> Profile
+    ensures { λ r. ⌜ r ≡ profileOf (now (image .entry)) wiring (Member.Component component) ⌝ }
 {
     let category = image::field(image, Section::Components, component, image::CATEGORY);
+    if wiring == NO_WIRING {
+        return of_component(category, false);
+    }
     of_component(category, instance::component_connected(image, component))
 }
 
 // That of a feature, by its owner's.
-pub fn feature_profile(image: &[u8], owner: Profile, feature: u32) -> Profile
-    ensures { λ r. ⌜ r ≡ ofFeature owner (featureKind (now (image .entry)) feature) (direction (now (image .entry)) feature) ⌝ }
+pub fn feature_profile(image: &[u8], wiring: u8, component: u32, feature: u32) -> Profile
+    ensures { λ r. ⌜ r ≡ profileOf (now (image .entry)) wiring (Member.Feature component feature) ⌝ }
 {
+    let owner = component_profile(image, wiring, component);
     let kind = image::field(image, Section::Features, feature, image::FEATURE_KIND);
     let direction = image::field(image, Section::Features, feature, image::DIRECTION);
     of_feature(owner, kind, direction)
 }
 
-// That of a diagnostic.
+// That of a diagnostic, which has no wiring.
 pub fn diagnostic_profile(image: &[u8], diagnostic: u32) -> Profile
-    ensures { λ r. ⌜ r ≡ profileOf (now (image .entry)) (Member.Diagnostic diagnostic) ⌝ }
+    ensures { λ r. ⌜ r ≡ ofDiagnostic (severity (now (image .entry)) diagnostic) ⌝ }
 {
     of_diagnostic(image::field(image, Section::Diagnostics, diagnostic, image::SEVERITY))
 }
@@ -103,22 +111,27 @@ fn of_diagnostic(severity: u32) -> Profile
     Profile::Number(FIRST_OF_DIAGNOSTICS + severity as usize)
 }
 
-// Whether a node of a kind asks for more than the profile of a member: `has` of a component and of a feature, `message.contains` of a
-// diagnostic; and `connected` of a feature, unless it is settled that features are connected only with their components.
-pub fn asks_more(member: Member, settled: bool, kind: u32) -> bool
-    ensures { λ r. ⌜ r ≡ asksMore member settled kind ⌝ }
+// Whether a node of a kind asks for more than the profile of a member: `has` of a component and of a feature, `connected` where the profile
+// does not tell it, `message.contains` of a diagnostic.
+pub fn asks_more(member: Member, wiring: u8, kind: u32) -> bool
+    ensures { λ r. ⌜ r ≡ asksMore member wiring kind ⌝ }
 {
     match member {
-        Member::Component(_) => kind == kind::CALL_EXPR,
-        Member::Feature(_, _) => {
-            if settled {
-                return kind == kind::CALL_EXPR;
-            }
-            if kind == kind::CALL_EXPR {
-                return true;
-            }
-            kind == kind::IDENT_EXPR
-        }
+        Member::Component(_) => asks_wiring(wiring, OF_COMPONENTS, kind),
+        Member::Feature(_, _) => asks_wiring(wiring, OF_FEATURES, kind),
         Member::Diagnostic(_) => kind == kind::CONTAINS_EXPR,
     }
+}
+
+// Whether it is `has`, or `connected` where less of the wiring is told than is needed.
+fn asks_wiring(wiring: u8, needed: u8, kind: u32) -> bool
+    ensures { λ r. ⌜ r ≡ asksWiring wiring needed kind ⌝ }
+{
+    if kind == kind::CALL_EXPR {
+        return true;
+    }
+    if kind == kind::IDENT_EXPR {
+        return wiring < needed;
+    }
+    false
 }

@@ -1,5 +1,4 @@
--- `diagnostic_profile` gives the profile of a diagnostic, by its severity. Assumes nothing.
-use Rattle.profile.specs.Profile.{profileOf}
+-- `diagnostic_profile` gives `ofDiagnostic` of the severity. Assumes nothing.
 use borrow.Author.Needs.{needs}
 use Rattle.profile.proofs.diagnostic_profile.Statement.{statement}
 use Rattle.profile.proofs.diagnostic_profile.Tie as tie
@@ -11,7 +10,6 @@ of-diagnostic-requires : tie.Need-of-diagnostic-requires
 of-diagnostic-requires c κs = search needs
 
 returns : tie.Need-returns
-unfolding profileOf
 returns c = rw (← c .before .field .ensures) (c .of-diagnostic .ensures)
 
 pub diagnostic-profile-spec : {M : Type 1} → statement M

@@ -1,7 +1,11 @@
--- `feature_profile` gives `ofFeature` of the owner's profile, the kind and the direction. Assumes nothing.
+-- `feature_profile` gives the profile of a feature, by its owner's, its kind and its direction. Assumes nothing.
+use Rattle.profile.specs.Profile.{profileOf}
 use borrow.Author.Needs.{needs}
 use Rattle.profile.proofs.feature_profile.Statement.{statement}
 use Rattle.profile.proofs.feature_profile.Tie as tie
+
+component-profile-requires : tie.Need-component-profile-requires
+component-profile-requires c κs = search needs
 
 field-requires : tie.Need-field-requires
 field-requires c κs = search needs
@@ -13,8 +17,15 @@ of-feature-requires : tie.Need-of-feature-requires
 of-feature-requires c κs = search needs
 
 returns : tie.Need-returns
-returns c = rw (← c .before .before .field .ensures, ← c .before .field2 .ensures) (c .of-feature .ensures)
+unfolding profileOf
+returns c = rw (← c .before .before .before .component-profile .ensures, ← c .before .before .field .ensures, ← c .before .field2 .ensures) (c .of-feature .ensures)
 
 pub feature-profile-spec : {M : Type 1} → statement M
 feature-profile-spec =
-    tie.close (tie.spec field-requires field-requires-2 of-feature-requires returns)
+    tie.close
+    (tie.spec
+    component-profile-requires
+    field-requires
+    field-requires-2
+    of-feature-requires
+    returns)

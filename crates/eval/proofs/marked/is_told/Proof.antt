@@ -4,14 +4,14 @@ use borrow.Author.Needs.{needs}
 use Rattle.eval.proofs.marked.is_told.Statement.{statement}
 use Rattle.eval.proofs.marked.is_told.Tie as tie
 
-shared-slice-read-settled : tie.Need-shared-slice-read-settled
-shared-slice-read-settled c = search needs
-
 mul-asks-more : tie.Need-mul-asks-more
 mul-asks-more c = search needs
 
 shared-slice-read-asks-more : tie.Need-shared-slice-read-asks-more
 shared-slice-read-asks-more c = search needs
+
+shared-slice-read-asks-more-2 : tie.Need-shared-slice-read-asks-more-2
+shared-slice-read-asks-more-2 c = search needs
 
 asks-more-requires : tie.Need-asks-more-requires
 asks-more-requires c κs = search needs
@@ -38,9 +38,9 @@ pub is-told-spec : {M : Type 1} → statement M
 is-told-spec =
     tie.close
     (tie.spec
-    shared-slice-read-settled
-    mul-asks-more
     shared-slice-read-asks-more
+    mul-asks-more
+    shared-slice-read-asks-more-2
     asks-more-requires
     returns
     mul-if2

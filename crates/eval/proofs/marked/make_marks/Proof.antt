@@ -13,8 +13,8 @@ Inv-loop rule image tree memo₀ row₀ n₀ memo row n = Made rule image tree m
 abbrev μ-loop : tie.MeasureT-loop
 μ-loop rule image tree memo₀ row₀ n₀ memo row n = HASES - n
 
-next-call-requires : tie.Need-next-call-requires Inv-loop μ-loop
-next-call-requires c κs = tt
+next-row-requires : tie.Need-next-row-requires Inv-loop μ-loop
+next-row-requires c κs = tt
 
 loop-holds : tie.Need-loop-holds Inv-loop μ-loop
 loop-holds c = making-start _ _ _ (c .before .before .before .before .before .pre)
@@ -31,11 +31,11 @@ make-block-requires c κs = (c .before .if1 .left, c .before .before .loop-test 
 add-n : tie.Need-add-n Inv-loop μ-loop
 add-n c = search needs
 
-add-next-call : tie.Need-add-next-call Inv-loop μ-loop
-add-next-call c = omega (arith, c .before .before .before .before .if1 .left)
+add-next-row : tie.Need-add-next-row Inv-loop μ-loop
+add-next-row c = omega (arith, c .before .before .before .before .if1 .left)
 
-next-call-requires-2 : tie.Need-next-call-requires-2 Inv-loop μ-loop
-next-call-requires-2 c κs = tt
+next-row-requires-2 : tie.Need-next-row-requires-2 Inv-loop μ-loop
+next-row-requires-2 c κs = tt
 
 loop-less : tie.Need-loop-less Inv-loop μ-loop
 loop-less c = omega (arith, c .before .before .before .before .before .before .loop-test .taken)
@@ -55,14 +55,14 @@ make-marks-spec =
     (tie.spec
     Inv-loop
     μ-loop
-    next-call-requires
+    next-row-requires
     loop-holds
     same-length
     returns
     make-block-requires
     add-n
-    add-next-call
-    next-call-requires-2
+    add-next-row
+    next-row-requires-2
     loop-less
     loop-again
     same-length-2

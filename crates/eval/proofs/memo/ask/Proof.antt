@@ -23,6 +23,9 @@ shared-slice-read-args c = search needs
 cast-args : tie.Need-cast-args
 cast-args c = omega (arith, c .shared-slice-known5 .given (CALL-ROW * c .before .before .before .before .before .before .args .i + 1))
 
+slice-read-profile-of : tie.Need-slice-read-profile-of
+slice-read-profile-of c = omega (arith, c .before .before .before .before .before .before .before .pre .1 .room)
+
 profile-of-requires : tie.Need-profile-of-requires
 profile-of-requires c κs = search needs
 
@@ -36,13 +39,13 @@ same-length : tie.Need-same-length
 same-length c = search needs
 
 returns : tie.Need-returns
-returns c = asked-known (c .before .before .before .before .before .before .before .before .before .before .before .before .pre .1) (c .before .before .before .marked-place .ensures) (c .before .noted .ensures) (c .if1 .taken)
+returns c = asked-known (c .before .before .before .before .before .before .before .before .before .before .before .before .before .pre .1) (c .before .before .before .marked-place .ensures) (c .before .noted .ensures) (c .if1 .taken)
 
 same-length-2 : tie.Need-same-length-2
 same-length-2 c = search needs
 
 returns-2 : tie.Need-returns-2
-returns-2 c = asked-known (c .before .before .before .before .before .before .before .before .before .before .before .before .before .pre .1) (c .before .before .before .before .marked-place .ensures) (c .before .before .noted .ensures) (c .if2 .taken)
+returns-2 c = asked-known (c .before .before .before .before .before .before .before .before .before .before .before .before .before .before .pre .1) (c .before .before .before .before .marked-place .ensures) (c .before .before .noted .ensures) (c .if2 .taken)
 
 eval-args-requires : tie.Need-eval-args-requires
 eval-args-requires c κs = search needs
@@ -54,7 +57,7 @@ same-length-3 : tie.Need-same-length-3
 same-length-3 c = search needs
 
 returns-3 : tie.Need-returns-3
-returns-3 c = asked-noted (c .before .before .before .before .before .before .before .before .before .before .before .before .before .before .before .before .before .before .before .pre .1) (c .before .before .before .before .before .before .before .before .before .before .marked-place .ensures) (c .before .before .before .before .before .eval-args .ensures) (c .before .before .note .ensures)
+returns-3 c = asked-noted (c .before .before .before .before .before .before .before .before .before .before .before .before .before .before .before .before .before .before .before .before .pre .1) (c .before .before .before .before .before .before .before .before .before .before .marked-place .ensures) (c .before .before .before .before .before .eval-args .ensures) (c .before .before .note .ensures)
 
 same-length-4 : tie.Need-same-length-4
 same-length-4 c = search needs
@@ -71,6 +74,7 @@ ask-spec =
     mul-args-2
     shared-slice-read-args
     cast-args
+    slice-read-profile-of
     profile-of-requires
     marked-place-requires
     noted-requires

@@ -29,7 +29,7 @@ add-result : tie.Need-add-result
 add-result c = search needs
 
 add-result-2 : tie.Need-add-result-2
-add-result-2 c = omega (arith, profile-small _ _ _ (c .before .before .before .before .before .before .before .pre ∙ c .before .before .before .profile .given .1))
+add-result-2 c = omega (arith, profile-small _ _ _ _ (c .before .before .before .before .before .before .before .pre ∙ c .before .before .before .profile .given .1))
 
 returns-3 : tie.Need-returns-3
 returns-3 c = placed-at _ _ _ (c .before .before .before .before .before .before .before .pre) (c .before .before .before .profile .given .1) (c .before .bits .ensures) (c .if1 .left)

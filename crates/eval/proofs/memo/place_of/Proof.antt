@@ -17,7 +17,7 @@ enum-known-profile : tie.Need-enum-known-profile
 enum-known-profile c = search needs
 
 add-result : tie.Need-add-result
-add-result c = omega (arith, profile-small _ _ _ (c .before .before .before .before .before .before .pre ∙ c .before .profile .given .1))
+add-result c = omega (arith, profile-small _ _ _ _ (c .before .before .before .before .before .before .pre ∙ c .before .profile .given .1))
 
 enum-told : tie.Need-enum-told
 enum-told c = search needs

@@ -1,7 +1,6 @@
 -- A member through the calls from a place on, by itself or by its features: the calls left fall around the cycle. Assumes nothing.
 use Rattle.eval.proofs.FeedLaws.{same-length, fed-lost, fits-first, fits-alike, stands-fed, stands-alike, Feeding, feeding-on, feeding-stop, feeding-end, feeding-length, turn, over, features-start, here-kept, here-dropped, here-passed, here-features, here-feature, here-diagnostic, here-last, here-arrives, here-room, end-room, end-put}
 use Rattle.eval.proofs.StepLaws.{step-room, step-taken}
-use Rattle.profile.proofs.ProfileLaws.{feature-profile}
 use Rattle.eval.specs.Feed.{stateOf}
 use Rattle.eval.specs.Memo.{Notes}
 use Rattle.eval.specs.Ready.{CALL-ROW, callsFrom}
@@ -37,7 +36,6 @@ use Rattle.eval.proofs.walk.arrive.Reads as arrive-reads
 use Rattle.eval.proofs.walk.is_decided.Reads as is-decided-reads
 use Rattle.eval.proofs.walk.put_member.Reads as put-member-reads
 use Rattle.instance.proofs.features_end.Reads as features-end-reads
-use Rattle.profile.proofs.component_profile.Reads as component-profile-reads
 use Rattle.profile.proofs.feature_profile.Reads as feature-profile-reads
 use Rattle.eval.proofs.walk.+feed+feed_feature+feed_features.{statement}
 use Rattle.eval.proofs.walk.+feed+feed_feature+feed_features.Tie.{close}
@@ -88,7 +86,7 @@ abbrev feed-feature-calls : ℕ → feed-feature-lts.Claims
 feed-feature-calls t = (feature-profile-reads.Asked, feature-profile-reads.Learnt, place-of-reads.Asked, place-of-reads.Learnt, step-of-reads.Asked, step-of-reads.Learnt, is-open-reads.Asked, is-open-reads.Learnt, feed-below t, feed.Post, take-reads.Asked, take-reads.Learnt)
 
 abbrev feed-features-calls : ℕ → feed-features-lts.Claims
-feed-features-calls t = (component-profile-reads.Asked, component-profile-reads.Learnt, features-end-reads.Asked, features-end-reads.Learnt, field-reads.Asked, field-reads.Learnt, feed-feature-below t, feed-feature.Post, is-decided-reads.Asked, is-decided-reads.Learnt)
+feed-features-calls t = (features-end-reads.Asked, features-end-reads.Learnt, field-reads.Asked, field-reads.Learnt, feed-feature-below t, feed-feature.Post, is-decided-reads.Asked, is-decided-reads.Learnt)
 
 feed-put-member-requires : (t : ℕ) → feed-lts.Need-put-member-requires (feed-calls t) (feed-at t) feed.Post
 feed-put-member-requires t c κs = end-room (now (c .before .before .before .before .before .before .before .before .args .rule)) (now (c .before .before .before .before .before .before .before .before .args .image)) (now (c .before .before .before .before .before .before .before .before .args .tree)) (now (c .before .before .before .before .before .before .before .before .args .calls)) (c .before .before .before .before .before .before .before .before .args .i) (omega (arith, c .before .if1 .taken)) (c .before .before .before .before .before .before .before .before .args .member) (stateOf (c .before .before .before .before .before .before .before .before .args .tally) (now (c .before .before .before .before .before .before .before .before .args .collection))) (c .before .before .before .before .before .before .before .before .pre .1 .0)
@@ -186,11 +184,14 @@ feed-same-length-9 t c = search needs
 feed-returns-8 : (t : ℕ) → feed-lts.Need-returns-8 (feed-calls t) (feed-at t) feed.Post
 feed-returns-8 t c = (stands-fed (c .before .before .before .before .before .before .before .before .before .before .before .before .before .before .before .pre .1 .0) (here-arrives (now (c .before .before .before .before .before .before .before .before .before .before .before .before .before .before .before .args .rule)) (now (c .before .before .before .before .before .before .before .before .before .before .before .before .before .before .before .args .image)) (now (c .before .before .before .before .before .before .before .before .before .before .before .before .before .before .before .args .tree)) (now (c .before .before .before .before .before .before .before .before .before .before .before .before .before .before .before .args .calls)) (c .before .before .before .before .before .before .before .before .before .before .before .before .before .before .before .args .i) (omega (arith, c .before .before .before .before .before .before .before .before .if1 .left)) (c .before .before .before .before .before .before .before .before .before .before .before .before .before .before .before .args .member) (c .before .before .before .before .before .before .before .before .before .before .before .before .before .before .before .args .tally) _ (now (c .before .before .before .before .before .before .before .before .before .before .before .before .before .before .before .args .collection)) (here-last (now (c .before .before .before .before .before .before .before .before .before .before .before .before .before .before .before .args .rule)) (now (c .before .before .before .before .before .before .before .before .before .before .before .before .before .before .before .args .image)) (now (c .before .before .before .before .before .before .before .before .before .before .before .before .before .before .before .args .tree)) (now (c .before .before .before .before .before .before .before .before .before .before .before .before .before .before .before .args .calls)) (c .before .before .before .before .before .before .before .before .before .before .before .before .before .before .before .args .i) (omega (arith, c .before .before .before .before .before .before .before .before .if1 .left)) (c .before .before .before .before .before .before .if2 .left) (c .before .before .before .before .before .if4 .left) (c .before .before .before .before .if5 .left)) (c .before .before .arrive .ensures .0)), c .before .before .arrive .ensures .1)
 
+feed-feature-slice-read-feature-profile : (t : ℕ) → feed-feature-lts.Need-slice-read-feature-profile (feed-feature-calls t) (feed-feature-at t) feed-feature.Post
+feed-feature-slice-read-feature-profile t c = omega (arith, c .before .before .before .before .before .before .before .pre .1 .1 .room)
+
 feed-feature-feature-profile-requires : (t : ℕ) → feed-feature-lts.Need-feature-profile-requires (feed-feature-calls t) (feed-feature-at t) feed-feature.Post
 feed-feature-feature-profile-requires t c κs = search needs
 
 feed-feature-place-of-requires : (t : ℕ) → feed-feature-lts.Need-place-of-requires (feed-feature-calls t) (feed-feature-at t) feed-feature.Post
-feed-feature-place-of-requires t c κs = sym (feature-profile _ _ _ (c .before .before .before .before .before .before .before .before .pre .1 .2) (c .before .feature-profile .ensures))
+feed-feature-place-of-requires t c κs = sym (c .before .feature-profile .ensures)
 
 feed-feature-step-of-requires : (t : ℕ) → feed-feature-lts.Need-step-of-requires (feed-feature-calls t) (feed-feature-at t) feed-feature.Post
 feed-feature-step-of-requires t c κs = c .before .place-of .ensures .small
@@ -199,7 +200,7 @@ feed-feature-is-open-requires : (t : ℕ) → feed-feature-lts.Need-is-open-requ
 feed-feature-is-open-requires t c κs = search needs
 
 feed-feature-feed-requires : (t : ℕ) → feed-feature-lts.Need-feed-requires (feed-feature-calls t) (feed-feature-at t) feed-feature.Post
-feed-feature-feed-requires t c κs = (omega (arith, c .before .before .before .before .before .before .before .before .before .before .before .before .before .before .before .pre .0), (c .before .before .before .before .before .before .before .before .before .before .before .before .before .before .before .pre .1 .0, c .before .before .before .before .before .before .before .before .before .before .before .before .before .before .before .pre .1 .1))
+feed-feature-feed-requires t c κs = (omega (arith, c .before .before .before .before .before .before .before .before .before .before .before .before .before .before .before .before .pre .0), c .before .before .before .before .before .before .before .before .before .before .before .before .before .before .before .before .pre .1)
 
 feed-feature-same-length : (t : ℕ) → feed-feature-lts.Need-same-length (feed-feature-calls t) (feed-feature-at t) feed-feature.Post
 feed-feature-same-length t c = search needs
@@ -211,7 +212,7 @@ feed-feature-returns : (t : ℕ) → feed-feature-lts.Need-returns (feed-feature
 feed-feature-returns t c = c .before .before .before .before .feed .ensures
 
 feed-feature-take-requires : (t : ℕ) → feed-feature-lts.Need-take-requires (feed-feature-calls t) (feed-feature-at t) feed-feature.Post
-feed-feature-take-requires t c κs = (step-room (c .before .before .before .step-of .ensures .so _ _ _ _ (c .before .before .before .before .before .before .before .before .before .before .before .before .before .before .pre .1 .1) (c .before .before .before .before .before .place-of .ensures)) (c .before .before .before .before .before .before .before .before .before .before .before .before .before .before .pre .1 .0), c .before .before .before .before .before .before .before .before .before .before .before .before .before .before .pre .1 .0 .fewer)
+feed-feature-take-requires t c κs = (step-room (c .before .before .before .step-of .ensures .so _ _ _ _ (c .before .before .before .before .before .before .before .before .before .before .before .before .before .before .before .pre .1 .1) (c .before .before .before .before .before .place-of .ensures)) (c .before .before .before .before .before .before .before .before .before .before .before .before .before .before .before .pre .1 .0), c .before .before .before .before .before .before .before .before .before .before .before .before .before .before .before .pre .1 .0 .fewer)
 
 feed-feature-same-length-3 : (t : ℕ) → feed-feature-lts.Need-same-length-3 (feed-feature-calls t) (feed-feature-at t) feed-feature.Post
 feed-feature-same-length-3 t c = search needs
@@ -220,18 +221,15 @@ feed-feature-same-length-4 : (t : ℕ) → feed-feature-lts.Need-same-length-4 (
 feed-feature-same-length-4 t c = search needs
 
 feed-feature-returns-2 : (t : ℕ) → feed-feature-lts.Need-returns-2 (feed-feature-calls t) (feed-feature-at t) feed-feature.Post
-feed-feature-returns-2 t c = (step-taken (c .before .before .before .before .before .before .step-of .ensures .so _ _ _ _ (c .before .before .before .before .before .before .before .before .before .before .before .before .before .before .before .before .before .pre .1 .1) (c .before .before .before .before .before .before .before .before .place-of .ensures)) (c .before .before .before .before .before .before .before .before .before .before .before .before .before .before .before .before .before .pre .1 .0) (sym (c .before .before .before .before .before .is-open .ensures) ∙ c .before .before .before .before .if1 .left) (c .before .before .take .ensures), c .before .before .before .before .before .before .before .before .before .before .before .before .before .before .before .before .before .pre .1 .1)
+feed-feature-returns-2 t c = (step-taken (c .before .before .before .before .before .before .step-of .ensures .so _ _ _ _ (c .before .before .before .before .before .before .before .before .before .before .before .before .before .before .before .before .before .before .pre .1 .1) (c .before .before .before .before .before .before .before .before .place-of .ensures)) (c .before .before .before .before .before .before .before .before .before .before .before .before .before .before .before .before .before .before .pre .1 .0) (sym (c .before .before .before .before .before .is-open .ensures) ∙ c .before .before .before .before .if1 .left) (c .before .before .take .ensures), c .before .before .before .before .before .before .before .before .before .before .before .before .before .before .before .before .before .before .pre .1 .1)
 
 abbrev feed-features-Inv-loop : feed-features-lts.InvT-loop
-feed-features-Inv-loop rule image tree calls last i component collection₀ notes₀ owner end feature₀ tally₀ collection notes feature tally =
+feed-features-Inv-loop rule image tree calls last i component collection₀ notes₀ end feature₀ tally₀ collection notes feature tally =
     Feeding (methodAt last) image (callsFrom rule tree calls (CALL-ROW * i)) (featuresOf image component) (stateOf tally₀ collection₀) (map (Feature component) (upTo feature end)) (stateOf tally collection) × Notes rule image tree calls notes × (length notes ≡ length notes₀)
 
 abbrev feed-features-μ-loop : feed-features-lts.MeasureT-loop
-feed-features-μ-loop rule image tree calls last i component collection₀ notes₀ owner end feature₀ tally₀ collection notes feature tally =
+feed-features-μ-loop rule image tree calls last i component collection₀ notes₀ end feature₀ tally₀ collection notes feature tally =
     end - feature
-
-feed-features-component-profile-requires : (t : ℕ) → feed-features-lts.Need-component-profile-requires (feed-features-calls t) (feed-features-at t) feed-features.Post feed-features-Inv-loop feed-features-μ-loop
-feed-features-component-profile-requires t c κs = search needs
 
 feed-features-features-end-requires : (t : ℕ) → feed-features-lts.Need-features-end-requires (feed-features-calls t) (feed-features-at t) feed-features.Post feed-features-Inv-loop feed-features-μ-loop
 feed-features-features-end-requires t c κs = search needs
@@ -240,22 +238,22 @@ feed-features-field-requires : (t : ℕ) → feed-features-lts.Need-field-requir
 feed-features-field-requires t c κs = search needs
 
 feed-features-loop-holds : (t : ℕ) → feed-features-lts.Need-loop-holds (feed-features-calls t) (feed-features-at t) feed-features.Post feed-features-Inv-loop feed-features-μ-loop
-feed-features-loop-holds t c = (features-start _ _ _ (stateOf (c .before .before .before .before .before .before .before .before .before .args .tally) (now (c .before .before .before .before .before .before .before .before .before .args .collection))) _ _ (c .field .ensures) (c .before .features-end .ensures) (c .before .before .before .before .before .before .before .before .before .pre .1 .0), c .before .before .before .before .before .before .before .before .before .pre .1 .1, refl)
+feed-features-loop-holds t c = (features-start _ _ _ (stateOf (c .before .before .before .before .before .before .before .before .args .tally) (now (c .before .before .before .before .before .before .before .before .args .collection))) _ _ (c .field .ensures) (c .before .features-end .ensures) (c .before .before .before .before .before .before .before .before .pre .1 .0), c .before .before .before .before .before .before .before .before .pre .1 .1, refl)
 
 feed-features-feed-feature-requires : (t : ℕ) → feed-features-lts.Need-feed-feature-requires (feed-features-calls t) (feed-features-at t) feed-features.Post feed-features-Inv-loop feed-features-μ-loop
-feed-features-feed-feature-requires t c κs = (omega (arith, c .before .before .before .before .before .before .before .before .before .before .before .before .before .pre .0), (fits-first (turn _ _ (Feature (c .before .before .before .before .before .before .before .before .before .before .before .before .before .args .component)) _ _ (c .before .before .loop-test .taken)) (c .before .before .before .loop .inv .0 .fits), c .before .before .before .loop .inv .1, c .before .before .before .before .before .before .component-profile .ensures))
+feed-features-feed-feature-requires t c κs = (omega (arith, c .before .before .before .before .before .before .before .before .before .before .before .before .pre .0), (fits-first (turn _ _ (Feature (c .before .before .before .before .before .before .before .before .before .before .before .before .args .component)) _ _ (c .before .before .loop-test .taken)) (c .before .before .before .loop .inv .0 .fits), c .before .before .before .loop .inv .1))
 
 feed-features-is-decided-requires : (t : ℕ) → feed-features-lts.Need-is-decided-requires (feed-features-calls t) (feed-features-at t) feed-features.Post feed-features-Inv-loop feed-features-μ-loop
 feed-features-is-decided-requires t c κs = search needs
 
 feed-features-same-length : (t : ℕ) → feed-features-lts.Need-same-length (feed-features-calls t) (feed-features-at t) feed-features.Post feed-features-Inv-loop feed-features-μ-loop
-feed-features-same-length t c = same-length _ _ _ (stateOf (c .before .before .before .before .before .before .before .before .before .before .before .before .before .before .before .before .before .before .before .before .args .tally) (now (c .before .before .before .before .before .before .before .before .before .before .before .before .before .before .before .before .before .before .before .before .args .collection))) (feeding-stop (c .before .before .before .before .before .before .before .before .before .before .loop .inv .0) (turn _ _ (Feature (c .before .before .before .before .before .before .before .before .before .before .before .before .before .before .before .before .before .before .before .before .args .component)) _ _ (c .before .before .before .before .before .before .before .before .before .loop-test .taken)) (c .before .before .before .before .before .before .feed-feature .ensures .0) (sym (c .before .is-decided .ensures) ∙ c .if1 .taken))
+feed-features-same-length t c = same-length _ _ _ (stateOf (c .before .before .before .before .before .before .before .before .before .before .before .before .before .before .before .before .before .before .before .args .tally) (now (c .before .before .before .before .before .before .before .before .before .before .before .before .before .before .before .before .before .before .before .args .collection))) (feeding-stop (c .before .before .before .before .before .before .before .before .before .before .loop .inv .0) (turn _ _ (Feature (c .before .before .before .before .before .before .before .before .before .before .before .before .before .before .before .before .before .before .before .args .component)) _ _ (c .before .before .before .before .before .before .before .before .before .loop-test .taken)) (c .before .before .before .before .before .before .feed-feature .ensures .0) (sym (c .before .is-decided .ensures) ∙ c .if1 .taken))
 
 feed-features-same-length-2 : (t : ℕ) → feed-features-lts.Need-same-length-2 (feed-features-calls t) (feed-features-at t) feed-features.Post feed-features-Inv-loop feed-features-μ-loop
 feed-features-same-length-2 t c = omega (arith, c .before .before .before .before .before .before .before .before .before .before .loop .inv .2)
 
 feed-features-returns : (t : ℕ) → feed-features-lts.Need-returns (feed-features-calls t) (feed-features-at t) feed-features.Post feed-features-Inv-loop feed-features-μ-loop
-feed-features-returns t c = (feeding-stop (c .before .before .before .before .before .before .before .before .before .before .loop .inv .0) (turn _ _ (Feature (c .before .before .before .before .before .before .before .before .before .before .before .before .before .before .before .before .before .before .before .before .args .component)) _ _ (c .before .before .before .before .before .before .before .before .before .loop-test .taken)) (c .before .before .before .before .before .before .feed-feature .ensures .0) (sym (c .before .is-decided .ensures) ∙ c .if1 .taken), c .before .before .before .before .before .before .feed-feature .ensures .1)
+feed-features-returns t c = (feeding-stop (c .before .before .before .before .before .before .before .before .before .before .loop .inv .0) (turn _ _ (Feature (c .before .before .before .before .before .before .before .before .before .before .before .before .before .before .before .before .before .before .before .args .component)) _ _ (c .before .before .before .before .before .before .before .before .before .loop-test .taken)) (c .before .before .before .before .before .before .feed-feature .ensures .0) (sym (c .before .is-decided .ensures) ∙ c .if1 .taken), c .before .before .before .before .before .before .feed-feature .ensures .1)
 
 feed-features-add-feature : (t : ℕ) → feed-features-lts.Need-add-feature (feed-features-calls t) (feed-features-at t) feed-features.Post feed-features-Inv-loop feed-features-μ-loop
 feed-features-add-feature t c = omega (arith, c .before .before .before .before .before .before .before .before .before .loop-test .taken)
@@ -264,7 +262,7 @@ feed-features-loop-less : (t : ℕ) → feed-features-lts.Need-loop-less (feed-f
 feed-features-loop-less t c = omega (arith, c .before .before .before .before .before .before .before .before .before .loop-test .taken)
 
 feed-features-loop-again : (t : ℕ) → feed-features-lts.Need-loop-again (feed-features-calls t) (feed-features-at t) feed-features.Post feed-features-Inv-loop feed-features-μ-loop
-feed-features-loop-again t c = (feeding-on (c .before .before .before .before .before .before .before .before .before .before .loop .inv .0) (turn _ _ (Feature (c .before .before .before .before .before .before .before .before .before .before .before .before .before .before .before .before .before .before .before .before .args .component)) _ _ (c .before .before .before .before .before .before .before .before .before .loop-test .taken)) (c .before .before .before .before .before .before .feed-feature .ensures .0) (sym (c .before .is-decided .ensures) ∙ c .if1 .left), c .before .before .before .before .before .before .feed-feature .ensures .1, omega (arith, c .before .before .before .before .before .before .before .before .before .before .loop .inv .2))
+feed-features-loop-again t c = (feeding-on (c .before .before .before .before .before .before .before .before .before .before .loop .inv .0) (turn _ _ (Feature (c .before .before .before .before .before .before .before .before .before .before .before .before .before .before .before .before .before .before .before .args .component)) _ _ (c .before .before .before .before .before .before .before .before .before .loop-test .taken)) (c .before .before .before .before .before .before .feed-feature .ensures .0) (sym (c .before .is-decided .ensures) ∙ c .if1 .left), c .before .before .before .before .before .before .feed-feature .ensures .1, omega (arith, c .before .before .before .before .before .before .before .before .before .before .loop .inv .2))
 
 feed-features-same-length-3 : (t : ℕ) → feed-features-lts.Need-same-length-3 (feed-features-calls t) (feed-features-at t) feed-features.Post feed-features-Inv-loop feed-features-μ-loop
 feed-features-same-length-3 t c = feeding-length (c .before .loop .inv .0)
@@ -273,7 +271,7 @@ feed-features-same-length-4 : (t : ℕ) → feed-features-lts.Need-same-length-4
 feed-features-same-length-4 t c = c .before .loop .inv .2
 
 feed-features-returns-2 : (t : ℕ) → feed-features-lts.Need-returns-2 (feed-features-calls t) (feed-features-at t) feed-features.Post feed-features-Inv-loop feed-features-μ-loop
-feed-features-returns-2 t c = (feeding-end (c .before .loop .inv .0) (over _ _ (Feature (c .before .before .before .before .before .before .before .before .before .before .before .args .component)) _ _ (c .loop-test .left)), c .before .loop .inv .1)
+feed-features-returns-2 t c = (feeding-end (c .before .loop .inv .0) (over _ _ (Feature (c .before .before .before .before .before .before .before .before .before .before .args .component)) _ _ (c .loop-test .left)), c .before .loop .inv .1)
 
 pub +feed+feed-feature+feed-features-spec : {M : Type 1} → statement M
 +feed+feed-feature+feed-features-spec = close μ-feed μ-feed-feature μ-feed-features (λ t. feed-lts.spec (feed-calls t)
@@ -314,6 +312,7 @@ pub +feed+feed-feature+feed-features-spec : {M : Type 1} → statement M
     (λ t. feed-feature-lts.spec (feed-feature-calls t)
     (feed-feature-at t)
     feed-feature.Post
+    (feed-feature-slice-read-feature-profile t)
     (feed-feature-feature-profile-requires t)
     (feed-feature-place-of-requires t)
     (feed-feature-step-of-requires t)
@@ -331,7 +330,6 @@ pub +feed+feed-feature+feed-features-spec : {M : Type 1} → statement M
     feed-features.Post
     feed-features-Inv-loop
     feed-features-μ-loop
-    (feed-features-component-profile-requires t)
     (feed-features-features-end-requires t)
     (feed-features-field-requires t)
     (feed-features-loop-holds t)

@@ -4,6 +4,7 @@ use Rattle.eval.proofs.StepLaws.{step-room, step-taken}
 use Rattle.eval.specs.Feed.{stateOf}
 use Rattle.predicate.specs.declared.atom.Member.the-variants.{Component}
 use mathlib.Core.Path.{refl, sym, _∙_}
+use native.Mathlib.Omega.{arith}
 use denote.Ref.{now}
 use borrow.Author.Needs.{needs}
 use Rattle.eval.proofs.walk.feed_component.Statement.{statement}
@@ -24,6 +25,9 @@ same-length-2 c = search needs
 returns : tie.Need-returns
 returns c = (stands-alike (stateOf (c .before .before .before .before .before .before .before .before .before .before .before .before .before .before .before .args .tally) (now (c .before .before .before .before .before .before .before .before .before .before .before .before .before .before .before .args .collection))) (here-features (now (c .before .before .before .before .before .before .before .before .before .before .before .before .before .before .before .args .rule)) (now (c .before .before .before .before .before .before .before .before .before .before .before .before .before .before .before .args .image)) (now (c .before .before .before .before .before .before .before .before .before .before .before .before .before .before .before .args .tree)) (now (c .before .before .before .before .before .before .before .before .before .before .before .before .before .before .before .args .calls)) 0 (c .before .before .before .before .before .before .before .before .is-features .ensures .there (c .before .before .before .before .before .before .before .if1 .taken)) (Component (c .before .before .before .before .before .before .before .before .before .before .before .before .before .before .before .args .component)) (c .before .before .before .before .before .before .before .before .before .before .before .before .before .before .before .args .component) (c .before .before .before .before .before .before .before .before .is-features .ensures .method (c .before .before .before .before .before .before .before .if1 .taken)) refl) (c .before .before .before .before .feed-features .ensures .0), c .before .before .before .before .feed-features .ensures .1)
 
+slice-read-component-profile : tie.Need-slice-read-component-profile
+slice-read-component-profile c = omega (arith, c .before .before .before .before .before .before .before .before .before .pre .1 .room)
+
 component-profile-requires : tie.Need-component-profile-requires
 component-profile-requires c κs = search needs
 
@@ -37,7 +41,7 @@ is-open-requires : tie.Need-is-open-requires
 is-open-requires c κs = search needs
 
 feed-requires : tie.Need-feed-requires
-feed-requires c κs = c .before .before .before .before .before .before .before .before .before .before .before .before .before .before .before .before .before .pre
+feed-requires c κs = c .before .before .before .before .before .before .before .before .before .before .before .before .before .before .before .before .before .before .pre
 
 same-length-3 : tie.Need-same-length-3
 same-length-3 c = search needs
@@ -49,7 +53,7 @@ returns-2 : tie.Need-returns-2
 returns-2 c = c .before .before .before .before .feed .ensures
 
 take-requires : tie.Need-take-requires
-take-requires c κs = (step-room (c .before .before .before .step-of .ensures .so _ _ _ _ (c .before .before .before .before .before .before .before .before .before .before .before .before .before .before .before .before .pre .1) (c .before .before .before .before .before .place-of .ensures)) (c .before .before .before .before .before .before .before .before .before .before .before .before .before .before .before .before .pre .0), c .before .before .before .before .before .before .before .before .before .before .before .before .before .before .before .before .pre .0 .fewer)
+take-requires c κs = (step-room (c .before .before .before .step-of .ensures .so _ _ _ _ (c .before .before .before .before .before .before .before .before .before .before .before .before .before .before .before .before .before .pre .1) (c .before .before .before .before .before .place-of .ensures)) (c .before .before .before .before .before .before .before .before .before .before .before .before .before .before .before .before .before .pre .0), c .before .before .before .before .before .before .before .before .before .before .before .before .before .before .before .before .before .pre .0 .fewer)
 
 same-length-5 : tie.Need-same-length-5
 same-length-5 c = search needs
@@ -58,7 +62,7 @@ same-length-6 : tie.Need-same-length-6
 same-length-6 c = search needs
 
 returns-3 : tie.Need-returns-3
-returns-3 c = (step-taken (c .before .before .before .before .before .before .step-of .ensures .so _ _ _ _ (c .before .before .before .before .before .before .before .before .before .before .before .before .before .before .before .before .before .before .before .pre .1) (c .before .before .before .before .before .before .before .before .place-of .ensures)) (c .before .before .before .before .before .before .before .before .before .before .before .before .before .before .before .before .before .before .before .pre .0) (sym (c .before .before .before .before .before .is-open .ensures) ∙ c .before .before .before .before .if2 .left) (c .before .before .take .ensures), c .before .before .before .before .before .before .before .before .before .before .before .before .before .before .before .before .before .before .before .pre .1)
+returns-3 c = (step-taken (c .before .before .before .before .before .before .step-of .ensures .so _ _ _ _ (c .before .before .before .before .before .before .before .before .before .before .before .before .before .before .before .before .before .before .before .before .pre .1) (c .before .before .before .before .before .before .before .before .place-of .ensures)) (c .before .before .before .before .before .before .before .before .before .before .before .before .before .before .before .before .before .before .before .before .pre .0) (sym (c .before .before .before .before .before .is-open .ensures) ∙ c .before .before .before .before .if2 .left) (c .before .before .take .ensures), c .before .before .before .before .before .before .before .before .before .before .before .before .before .before .before .before .before .before .before .before .pre .1)
 
 pub feed-component-spec : {M : Type 1} → statement M
 feed-component-spec =
@@ -69,6 +73,7 @@ feed-component-spec =
     same-length
     same-length-2
     returns
+    slice-read-component-profile
     component-profile-requires
     place-of-requires
     step-of-requires

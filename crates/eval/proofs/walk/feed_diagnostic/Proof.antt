@@ -1,4 +1,5 @@
 -- `feed_diagnostic` does what the notes tell, or asks. Assumes nothing.
+use Rattle.profile.proofs.ProfileLaws.{diagnostic-profile}
 use Rattle.eval.proofs.StepLaws.{step-room, step-taken}
 use mathlib.Core.Path.{sym, _∙_}
 use borrow.Author.Needs.{needs}
@@ -9,7 +10,7 @@ diagnostic-profile-requires : tie.Need-diagnostic-profile-requires
 diagnostic-profile-requires c κs = search needs
 
 place-of-requires : tie.Need-place-of-requires
-place-of-requires c κs = sym (c .before .diagnostic-profile .ensures)
+place-of-requires c κs = sym (diagnostic-profile _ _ _ (c .before .diagnostic-profile .ensures))
 
 step-of-requires : tie.Need-step-of-requires
 step-of-requires c κs = c .before .place-of .ensures .small

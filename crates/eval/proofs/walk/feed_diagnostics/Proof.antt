@@ -34,7 +34,7 @@ compare-name-requires : tie.Need-compare-name-requires Inv-loop μ-loop
 compare-name-requires c κs = search needs
 
 loop-holds : tie.Need-loop-holds Inv-loop μ-loop
-loop-holds c = (c .compare-name .ensures .1, c .compare-name .ensures .1, all-start (now (c .before .before .before .before .before .before .before .before .args .image)) (callsFrom (now (c .before .before .before .before .before .before .before .before .args .rule)) (now (c .before .before .before .before .before .before .before .before .args .tree)) (now (c .before .before .before .before .before .before .before .before .args .calls)) 0) (λ ns. kept (isOfAnalysis (now (c .before .before .before .before .before .before .before .before .args .image)) (now (c .before .before .before .before .before .before .before .before .args .name))) (map Diagnostic ns)) (begin (now (c .before .before .before .before .before .before .before .before .args .collection))) _ _ (c .before .record-count .ensures) (c .before .before .before .before .before .before .before .before .pre), notes-none _ _ _ _ PLAIN (omega arith) (omega arith), length-replicate {A = ℕ} PLAIN 0)
+loop-holds c = (c .compare-name .ensures .1, c .compare-name .ensures .1, all-start (now (c .before .before .before .before .before .before .before .before .args .image)) (callsFrom (now (c .before .before .before .before .before .before .before .before .args .rule)) (now (c .before .before .before .before .before .before .before .before .args .tree)) (now (c .before .before .before .before .before .before .before .before .args .calls)) 0) (λ ns. kept (isOfAnalysis (now (c .before .before .before .before .before .before .before .before .args .image)) (now (c .before .before .before .before .before .before .before .before .args .name))) (map Diagnostic ns)) (begin (now (c .before .before .before .before .before .before .before .before .args .collection))) _ _ (c .before .record-count .ensures) (c .before .before .before .before .before .before .before .before .pre), notes-none _ _ _ _, length-replicate {A = ℕ} PLAIN 0)
 
 analysis-of-requires : tie.Need-analysis-of-requires Inv-loop μ-loop
 analysis-of-requires c κs = (c .before .loop .inv .0, c .before .loop .inv .1)

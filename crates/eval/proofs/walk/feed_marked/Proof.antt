@@ -2,7 +2,7 @@
 use mathlib.Core.Path.{sym}
 use native.Mathlib.Omega.{arith}
 use lib.ListN.{length-set}
-use Rattle.eval.proofs.MemoLaws.{front-length, front-settled}
+use Rattle.eval.proofs.MemoLaws.{front-length, notes-front}
 use borrow.Author.Needs.{needs}
 use Rattle.eval.proofs.walk.feed_marked.Statement.{statement}
 use Rattle.eval.proofs.walk.feed_marked.Tie as tie
@@ -13,8 +13,8 @@ slice-aggregate-make-marks c = search needs
 make-marks-requires : tie.Need-make-marks-requires
 make-marks-requires c κs = search needs
 
-settle-requires : tie.Need-settle-requires
-settle-requires c κs = search needs
+wiring-told-requires : tie.Need-wiring-told-requires
+wiring-told-requires c κs = search needs
 
 array-write-notes : tie.Need-array-write-notes
 array-write-notes c = search needs
@@ -29,7 +29,7 @@ slice-aggregate-feed-each-component : tie.Need-slice-aggregate-feed-each-compone
 slice-aggregate-feed-each-component c = sym (front-length (c .before .before .before .before .make-marks .ensures) _)
 
 feed-each-component-requires : tie.Need-feed-each-component-requires
-feed-each-component-requires c κs = (c .before .before .before .before .before .before .before .before .before .before .before .pre, front-settled (c .before .before .before .before .make-marks .ensures) _ _ (c .before .before .settle .ensures))
+feed-each-component-requires c κs = (c .before .before .before .before .before .before .before .before .before .before .before .pre, notes-front (c .before .before .before .before .make-marks .ensures) _ _ (c .before .before .wiring-told .ensures))
 
 same-length : tie.Need-same-length
 same-length c = search needs
@@ -43,7 +43,7 @@ feed-marked-spec =
     (tie.spec
     slice-aggregate-make-marks
     make-marks-requires
-    settle-requires
+    wiring-told-requires
     array-write-notes
     add-end
     array-borrow-prefix-notes

@@ -1,7 +1,5 @@
--- `feed_noted` sends every component, with marks or with a memo of zeros whose first byte may be settled. Assumes nothing.
-use native.Mathlib.Omega.{arith}
-use Rattle.eval.specs.Memo.{PLAIN}
-use Rattle.eval.proofs.MemoLaws.{notes-none, notes-settled}
+-- `feed_noted` sends every component, with marks or with a memo of zeros whose first byte says what profiles tell of the wiring. Assumes nothing.
+use Rattle.eval.proofs.MemoLaws.{notes-plain}
 use borrow.Author.Needs.{needs}
 use Rattle.eval.proofs.walk.feed_noted.Statement.{statement}
 use Rattle.eval.proofs.walk.feed_noted.Tie as tie
@@ -18,8 +16,8 @@ same-length c = search needs
 returns : tie.Need-returns
 returns c = search needs
 
-settle-requires : tie.Need-settle-requires
-settle-requires c κs = search needs
+wiring-told-requires : tie.Need-wiring-told-requires
+wiring-told-requires c κs = search needs
 
 array-write-notes : tie.Need-array-write-notes
 array-write-notes c = search needs
@@ -28,7 +26,7 @@ slice-aggregate-feed-each-component : tie.Need-slice-aggregate-feed-each-compone
 slice-aggregate-feed-each-component c = search needs
 
 feed-each-component-requires : tie.Need-feed-each-component-requires
-feed-each-component-requires c κs = (c .before .before .before .before .before .before .before .before .before .before .pre, notes-settled (notes-none _ _ _ _ PLAIN (omega arith) (omega arith)) _ (c .before .before .settle .ensures))
+feed-each-component-requires c κs = (c .before .before .before .before .before .before .before .before .before .before .pre, notes-plain _ _ _ _ _ (c .before .before .wiring-told .ensures))
 
 same-length-2 : tie.Need-same-length-2
 same-length-2 c = search needs
@@ -44,7 +42,7 @@ feed-noted-spec =
     feed-marked-requires
     same-length
     returns
-    settle-requires
+    wiring-told-requires
     array-write-notes
     slice-aggregate-feed-each-component
     feed-each-component-requires

@@ -1,16 +1,16 @@
--- `marked::next_call` goes from row to row. Assumes nothing.
+-- `marked::next_row` goes from row to row. Assumes nothing.
 use Prim.Native.Nat.{_-_}
 use native.Mathlib.Omega.{arith}
 use Rattle.eval.specs.Marked.{ROWS}
 use borrow.Author.Needs.{needs}
-use Rattle.eval.proofs.marked.next_call.Statement.{statement}
-use Rattle.eval.proofs.marked.next_call.Tie as tie
+use Rattle.eval.proofs.marked.next_row.Statement.{statement}
+use Rattle.eval.proofs.marked.next_row.Tie as tie
 
 abbrev Inv-loop : tie.InvT-loop
-Inv-loop tree from row₀ row = Unit {0}
+Inv-loop tree kind from row₀ row = Unit {0}
 
 abbrev μ-loop : tie.MeasureT-loop
-μ-loop tree from row₀ row = ROWS - row
+μ-loop tree kind from row₀ row = ROWS - row
 
 loop-holds : tie.Need-loop-holds Inv-loop μ-loop
 loop-holds c = tt
@@ -45,8 +45,8 @@ loop-again c = tt
 returns-3 : tie.Need-returns-3 Inv-loop μ-loop
 returns-3 c = search needs
 
-pub next-call-spec : {M : Type 1} → statement M
-next-call-spec =
+pub next-row-spec : {M : Type 1} → statement M
+next-row-spec =
     tie.close
     (tie.spec
     Inv-loop
