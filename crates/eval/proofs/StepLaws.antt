@@ -15,7 +15,7 @@ use Rattle.predicate.specs.declared.atom.Member.{Member}
 use Rattle.predicate.specs.Truth.{truth}
 use Rattle.predicate.specs.Rows.{childrenAt}
 use Rattle.meaning.specs.Value.{rowOf}
-use Rattle.meaning.specs.Calls.{Method, Where, Count, Call, methodNumber}
+use Rattle.meaning.specs.Calls.{Method, Where, Count, Features, Call, methodNumber}
 use Rattle.meaning.specs.Walk.{isQuantifier, isLast}
 use Rattle.calls.specs.Table.{methodAt}
 use Rattle.eval.specs.declared.step.Step.{Step}
@@ -25,7 +25,7 @@ use Rattle.eval.specs.Memo.{KNOWN-TRUE, KNOWN-FALSE, noteIn, argsOf, Not
 use Rattle.eval.specs.Feed.{State, fed, Fits, Stands}
 use Rattle.eval.specs.Step.{isOpen, arrives, after, atFalse, StepIs, Steps}
 use Rattle.eval.proofs.ReadyLaws.{quantifier-of, count-no-quantifier, last-between}
-use Rattle.eval.proofs.FeedLaws.{state, state-is, Alike, fed-alike, fed-lost, fits-one, stands-fed, here-kept, here-dropped, here-arrives, here-one, end-one, end-put}
+use Rattle.eval.proofs.FeedLaws.{state, state-is, Alike, fed-alike, fed-lost, fits-one, stands-fed, here-kept, here-dropped, here-passed, here-arrives, here-one, end-one, end-put}
 
 -- a step at later calls, of a member that passes those before
 step-alike : {image : List ℕ} {calls later : List Call} {m : Member} {r : Step} → Alike image calls (m ∷ []) later (m ∷ []) → StepIs image later m r → StepIs image calls m r
@@ -38,6 +38,10 @@ pub record Passing (rows : List ℕ) (from place : ℕ) (memo : List ℕ) (i : �
 
 pub passing-start : (rows : List ℕ) (from place : ℕ) (memo : List ℕ) → Passing rows from place memo from
 passing-start rows from place memo = record { so = λ rule image tree m n q. record { arrivals = refl; last = refl } }
+
+-- a call that is not past `features`, nor it, is `count` or before it
+pub before-features : (n : ℕ) → n ≤ methodNumber Features → (n ≡ methodNumber Features → ⊥) → n ≤ methodNumber Count
+before-features n l f = whether (eqb n (methodNumber Features)) (λ e. absurd (f (eqb-true n (methodNumber Features) e))) (λ e. omega (arith, l, eqb-false n (methodNumber Features) e))
 
 -- the notes do not tell
 pub step-open : (rows : List ℕ) (from place : ℕ) (memo : List ℕ) → Steps rows from place memo Open
@@ -56,6 +60,16 @@ module _ {rows : List ℕ} {from place : ℕ} {memo : List ℕ} {i : ℕ} (p : P
           so = λ rule image tree m n q.
               let a = p .so rule image tree m n q in
               let b = here-kept rule image tree rows i h m e (q .told rule tree rows n i true k) in
+              record { arrivals = a .arrivals ∙ b .arrivals; last = a .last ∙ b .last };
+        }
+
+    -- `diagnostics`
+    pub passing-over : methodNumber Features < method → Passing rows from place memo (i + 1)
+    passing-over l =
+        record {
+          so = λ rule image tree m n q.
+              let a = p .so rule image tree m n q in
+              let b = here-passed rule image tree rows i h m l in
               record { arrivals = a .arrivals ∙ b .arrivals; last = a .last ∙ b .last };
         }
 

@@ -31,23 +31,27 @@ pub(crate) fn step_of(calls: &[u32], from: usize, place: usize, notes: &[u8]) ->
     let mut i = from;
     while i < calls.len() / ready::CALL_ROW {
         let method = calls[ready::CALL_ROW * i] as usize;
-        if method == method::COUNT {
-            return Step::Counted(false);
+        if method::FEATURES < method {
+            i += 1;
+        } else {
+            if method == method::COUNT {
+                return Step::Counted(false);
+            }
+            if method == method::FEATURES {
+                return Step::Open;
+            }
+            let known = memo::noted(notes, i, place);
+            if known == memo::KNOWN_FALSE {
+                return at_false(method);
+            }
+            if known != memo::KNOWN_TRUE {
+                return Step::Open;
+            }
+            if method != method::WHERE {
+                return Step::Counted(true);
+            }
+            i += 1;
         }
-        if method::COUNT < method {
-            return Step::Open;
-        }
-        let known = memo::noted(notes, i, place);
-        if known == memo::KNOWN_FALSE {
-            return at_false(method);
-        }
-        if known != memo::KNOWN_TRUE {
-            return Step::Open;
-        }
-        if method != method::WHERE {
-            return Step::Counted(true);
-        }
-        i += 1;
     }
     Step::Listed
 }
