@@ -1,5 +1,5 @@
-// Members sent through the calls of a pipeline, one source member at a time: each `where`, then its features, each further `where`. No
-// collection but the last is kept, and no member is sent after one that decides a quantifier.
+// Members sent through the calls of a pipeline, one source member at a time: as the notes tell, or by asking each `where`, then its
+// features, each further `where`. No collection but the last is kept, and no member is sent after one that decides a quantifier.
 use crate::listed;
 use crate::marked;
 use crate::memo;
