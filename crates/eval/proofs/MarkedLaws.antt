@@ -8,7 +8,7 @@ use native.Mathlib.Omega.{arith}
 use lib.Dec.{eqb, ltb, leb}
 use lib.ListN.{length, getD, take, drop, set, replicate, length-append, length-take, length-drop, length-set, length-replicate, getD-replicate, List·getD-append}
 use lib.Seq.{length-take-le, getD-drop, getD-take, getD-set-same, getD-set-other, getD-append-add}
-use borrow.Author.Tests.{lt-ltb, le-ltb, le-leb, lt-leb, eq-eqb, ne-eqb, eqb-true, ltb-true, ltb-false, not-true, not-false}
+use borrow.Author.Tests.{lt-ltb, le-ltb, le-leb, lt-leb, eq-eqb, ne-eqb, ltb-true, ltb-false, not-true, not-false}
 use Rattle.syntax.specs.Kind.{CALL-EXPR, ROOT}
 use Rattle.syntax.specs.Text.{bytesBetween}
 use Rattle.syntax.proofs.BoolLaws.{whether, both}

@@ -170,12 +170,6 @@ note-kept : (memo : List ℕ) (at v i place : ℕ) → (place + PROFILES * i ≡
 unfolding noteIn
 note-kept memo at v i place h = rw (getD-set-other memo at (place + PROFILES * i) v NOT-KNOWN h)
 
--- no note is in the first byte
-place-positive : (p : Profile) (bits : ℕ) → 0 < placeBy p bits
-unfolding placeBy
-place-positive (Number k) bits = whether (ltb bits NO-BITS) (λ t. rw t (omega arith)) (λ t. rw t (omega arith))
-place-positive Unknown bits = omega arith
-
 -- a byte that makes a truth known says that the predicate asks for no more, and the truth
 byte-says : (more r value : Bool) → byteOf more r ≡ known value → (more ≡ false) × (r ≡ value)
 unfolding byteOf
