@@ -13,12 +13,12 @@ ghost use Prim.Native.Nat.{ℕ, _+_, _*_, _≤_, _<_};
 ghost use lib.ListN.{length, drop};
 ghost use lib.Seq.{sets};
 ghost use Rattle.syntax.specs.Text.{ascii, same};
-ghost use Rattle.lexer.specs.Lex.{lex};
+ghost use Rattle.lexer.specs.Lex.{lex, tokenRows};
 ghost use Rattle.trees.specs.Look.{headKind, headText, currentKind, atText, atIdent, peekKind, atMessageDot, atField, atPredicateMethod, atPlainMethod, isComparison, hasCountCompareAhead, hasBinaryOpAtLevel};
 ghost use Rattle.trees.specs.Parse.{next, nextIsIdent, fails, failsAhead, eatWs, bump, expect, expectIdent, literal, callExpr, identExpr, containsExpr, compareExpr, simpleAtom, predicateArgs, noArgs, noMethod, parseMethod, parseDotCall, parse, OrExpr, OrRest, AndExpr, AndRest, Atom, Calls, parseSource, parsePipeline, parsePipelineOrCountCompare, remaining, leftOver, parseRoot};
 ghost use Rattle.lexer.specs.Read.{checkRule};
 ghost use Rattle.trees.specs.Read.{checkTables, Reads};
-ghost use Rattle.trees.specs.Writing.{Ready, Past, Skipped, Fits, Asks, Did, Started, Finished};
+ghost use Rattle.trees.specs.Writing.{Ready, Past, Skipped, Fits, Asks, Did, Started, Finished, NoneFrom, NoOpsFrom};
 
 // Reads a rule that passes refusals 1 to 4 into the three tables; a refusal leaves them as they are.
 pub fn parse_expr(rule: &[u8], tokens: &mut [u32], tree: &mut [u32], errors: &mut [u32]) -> Reading
@@ -72,11 +72,28 @@ fn parse_root(
     requires { ⌜ Asks (lex (now rule)) (now tokens) (now tree) (now errors) level c parseRoot ⌝ }
     ensures { λ r. ⌜ Did (lex (now (rule .entry))) (now (tree .entry)) (now (tree .exit)) (now (errors .entry)) (now (errors .exit)) level c r parseRoot ⌝ }
 {
+    let ops = past_last_op(rule, tokens);
     let o = start_node(tree, kind::ROOT, level, c);
-    let a = parse_pipeline_or_count_compare(rule, tokens, tree, errors, level + 1, o);
+    let a = parse_pipeline_or_count_compare(rule, tokens, tree, errors, level + 1, o, ops);
     let b = eat_ws(rule, tokens, tree, level + 1, a);
     let d = left_over(rule, tokens, tree, errors, level + 1, b);
     finish_node(tree, c.row, d)
+}
+
+// The place past the last `and` or `or`, 0 where there is none: a scan for one can end there.
+fn past_last_op(rule: &[u8], tokens: &[u32]) -> usize
+    requires { ⌜ now tokens ≡ tokenRows 0 (lex (now rule)) ⌝ }
+    ensures { λ r. ⌜ NoOpsFrom (lex (now (rule .entry))) r ⌝ }
+{
+    let mut i = tokens.len() / 3;
+    while 0 < i {
+        let last = i - 1;
+        match tokens[3 * last] {
+            kind::AND_KW | kind::OR_KW => return i,
+            _ => i = last,
+        }
+    }
+    i
 }
 
 // Tokens left over: an error, and they stand in the root.
@@ -106,18 +123,20 @@ fn parse_pipeline_or_count_compare(
     errors: &mut [u32],
     level: u32,
     c: Cursor,
+    ops: usize,
 ) -> Cursor
     requires { ⌜ Asks (lex (now rule)) (now tokens) (now tree) (now errors) level c parsePipelineOrCountCompare ⌝ }
+    requires { ⌜ NoOpsFrom (lex (now rule)) ops ⌝ }
     ensures { λ r. ⌜ Did (lex (now (rule .entry))) (now (tree .entry)) (now (tree .exit)) (now (errors .entry)) (now (errors .exit)) level c r parsePipelineOrCountCompare ⌝ }
 {
     if has_count_compare_ahead(rule, tokens, c) {
         let o = start_node(tree, kind::COUNT_COMPARE_EXPR, level, c);
-        let a = parse_pipeline(rule, tokens, tree, errors, level + 1, o);
+        let a = parse_pipeline(rule, tokens, tree, errors, level + 1, o, ops);
         let b = bump(rule, tokens, tree, level + 1, a);
         let d = bump(rule, tokens, tree, level + 1, b);
         return finish_node(tree, c.row, d);
     }
-    parse_pipeline(rule, tokens, tree, errors, level, c)
+    parse_pipeline(rule, tokens, tree, errors, level, c, ops)
 }
 
 // Whether the last two tokens that are no blanks are a comparison operator and an integer.
@@ -165,13 +184,15 @@ fn parse_pipeline(
     errors: &mut [u32],
     level: u32,
     c: Cursor,
+    ops: usize,
 ) -> Cursor
     requires { ⌜ Asks (lex (now rule)) (now tokens) (now tree) (now errors) level c parsePipeline ⌝ }
+    requires { ⌜ NoOpsFrom (lex (now rule)) ops ⌝ }
     ensures { λ r. ⌜ Did (lex (now (rule .entry))) (now (tree .entry)) (now (tree .exit)) (now (errors .entry)) (now (errors .exit)) level c r parsePipeline ⌝ }
 {
     let o = start_node(tree, kind::PIPELINE_EXPR, level, c);
     let a = parse_source(rule, tokens, tree, errors, level + 1, o);
-    let b = parse_calls(rule, tokens, tree, errors, level + 1, a);
+    let b = parse_calls(rule, tokens, tree, errors, level + 1, a, ops);
     finish_node(tree, c.row, b)
 }
 
@@ -204,14 +225,16 @@ fn parse_calls(
     errors: &mut [u32],
     level: u32,
     c: Cursor,
+    ops: usize,
 ) -> Cursor
     requires { ⌜ Asks (lex (now rule)) (now tokens) (now tree) (now errors) level c (parse Calls) ⌝ }
+    requires { ⌜ NoOpsFrom (lex (now rule)) ops ⌝ }
     ensures { λ r. ⌜ Did (lex (now (rule .entry))) (now (tree .entry)) (now (tree .exit)) (now (errors .entry)) (now (errors .exit)) level c r (parse Calls) ⌝ }
 {
     let a = eat_ws(rule, tokens, tree, level, c);
     if current_kind(rule, tokens, a) == kind::DOT {
-        let b = parse_dot_call(rule, tokens, tree, errors, level, a);
-        return parse_calls(rule, tokens, tree, errors, level, b);
+        let b = parse_dot_call(rule, tokens, tree, errors, level, a, ops);
+        return parse_calls(rule, tokens, tree, errors, level, b, ops);
     }
     a
 }
@@ -224,13 +247,15 @@ fn parse_dot_call(
     errors: &mut [u32],
     level: u32,
     c: Cursor,
+    ops: usize,
 ) -> Cursor
     requires { ⌜ Asks (lex (now rule)) (now tokens) (now tree) (now errors) level c (parseDotCall (parse OrExpr)) ⌝ }
+    requires { ⌜ NoOpsFrom (lex (now rule)) ops ⌝ }
     ensures { λ r. ⌜ Did (lex (now (rule .entry))) (now (tree .entry)) (now (tree .exit)) (now (errors .entry)) (now (errors .exit)) level c r (parseDotCall (parse OrExpr)) ⌝ }
 {
     let o = start_node(tree, kind::DOT_CALL, level, c);
     let a = expect(rule, tokens, tree, errors, level + 1, kind::DOT, o);
-    let b = parse_method(rule, tokens, tree, errors, level + 1, a);
+    let b = parse_method(rule, tokens, tree, errors, level + 1, a, ops);
     finish_node(tree, c.row, b)
 }
 
@@ -242,13 +267,15 @@ fn parse_method(
     errors: &mut [u32],
     level: u32,
     c: Cursor,
+    ops: usize,
 ) -> Cursor
     requires { ⌜ Asks (lex (now rule)) (now tokens) (now tree) (now errors) level c (parseMethod (parse OrExpr)) ⌝ }
+    requires { ⌜ NoOpsFrom (lex (now rule)) ops ⌝ }
     ensures { λ r. ⌜ Did (lex (now (rule .entry))) (now (tree .entry)) (now (tree .exit)) (now (errors .entry)) (now (errors .exit)) level c r (parseMethod (parse OrExpr)) ⌝ }
 {
     if at_predicate_method(rule, tokens, c) {
         let a = bump(rule, tokens, tree, level, c);
-        return predicate_args(rule, tokens, tree, errors, level, a);
+        return predicate_args(rule, tokens, tree, errors, level, a, ops);
     }
     if at_text(rule, tokens, b"count", c) {
         let a = bump(rule, tokens, tree, level, c);
@@ -296,13 +323,15 @@ fn predicate_args(
     errors: &mut [u32],
     level: u32,
     c: Cursor,
+    ops: usize,
 ) -> Cursor
     requires { ⌜ Asks (lex (now rule)) (now tokens) (now tree) (now errors) level c (predicateArgs (parse OrExpr)) ⌝ }
+    requires { ⌜ NoOpsFrom (lex (now rule)) ops ⌝ }
     ensures { λ r. ⌜ Did (lex (now (rule .entry))) (now (tree .entry)) (now (tree .exit)) (now (errors .entry)) (now (errors .exit)) level c r (predicateArgs (parse OrExpr)) ⌝ }
 {
     let o = start_node(tree, kind::CALL_ARGS, level, c);
     let a = expect(rule, tokens, tree, errors, level + 1, kind::L_PAREN, o);
-    let b = parse_or_expr(rule, tokens, tree, errors, level + 1, a);
+    let b = parse_or_expr(rule, tokens, tree, errors, level + 1, a, ops);
     let d = expect(rule, tokens, tree, errors, level + 1, kind::R_PAREN, b);
     finish_node(tree, c.row, d)
 }
@@ -352,17 +381,19 @@ fn parse_or_expr(
     errors: &mut [u32],
     level: u32,
     c: Cursor,
+    ops: usize,
 ) -> Cursor
     requires { ⌜ Asks (lex (now rule)) (now tokens) (now tree) (now errors) level c (parse OrExpr) ⌝ }
+    requires { ⌜ NoOpsFrom (lex (now rule)) ops ⌝ }
     ensures { λ r. ⌜ Did (lex (now (rule .entry))) (now (tree .entry)) (now (tree .exit)) (now (errors .entry)) (now (errors .exit)) level c r (parse OrExpr) ⌝ }
 {
-    if has_binary_op_at_level(rule, tokens, kind::OR_KW, c) {
+    if has_binary_op_at_level(rule, tokens, kind::OR_KW, c, ops) {
         let o = start_node(tree, kind::BINARY_EXPR, level, c);
-        let a = parse_and_expr(rule, tokens, tree, errors, level + 1, o);
-        let b = or_rest(rule, tokens, tree, errors, level + 1, a);
+        let a = parse_and_expr(rule, tokens, tree, errors, level + 1, o, ops);
+        let b = or_rest(rule, tokens, tree, errors, level + 1, a, ops);
         return finish_node(tree, c.row, b);
     }
-    parse_and_expr(rule, tokens, tree, errors, level, c)
+    parse_and_expr(rule, tokens, tree, errors, level, c, ops)
 }
 
 // ( 'or' and_expr )*
@@ -373,14 +404,16 @@ fn or_rest(
     errors: &mut [u32],
     level: u32,
     c: Cursor,
+    ops: usize,
 ) -> Cursor
     requires { ⌜ Asks (lex (now rule)) (now tokens) (now tree) (now errors) level c (parse OrRest) ⌝ }
+    requires { ⌜ NoOpsFrom (lex (now rule)) ops ⌝ }
     ensures { λ r. ⌜ Did (lex (now (rule .entry))) (now (tree .entry)) (now (tree .exit)) (now (errors .entry)) (now (errors .exit)) level c r (parse OrRest) ⌝ }
 {
     if current_kind(rule, tokens, c) == kind::OR_KW {
         let a = bump(rule, tokens, tree, level, c);
-        let b = parse_and_expr(rule, tokens, tree, errors, level, a);
-        return or_rest(rule, tokens, tree, errors, level, b);
+        let b = parse_and_expr(rule, tokens, tree, errors, level, a, ops);
+        return or_rest(rule, tokens, tree, errors, level, b, ops);
     }
     c
 }
@@ -393,17 +426,19 @@ fn parse_and_expr(
     errors: &mut [u32],
     level: u32,
     c: Cursor,
+    ops: usize,
 ) -> Cursor
     requires { ⌜ Asks (lex (now rule)) (now tokens) (now tree) (now errors) level c (parse AndExpr) ⌝ }
+    requires { ⌜ NoOpsFrom (lex (now rule)) ops ⌝ }
     ensures { λ r. ⌜ Did (lex (now (rule .entry))) (now (tree .entry)) (now (tree .exit)) (now (errors .entry)) (now (errors .exit)) level c r (parse AndExpr) ⌝ }
 {
-    if has_binary_op_at_level(rule, tokens, kind::AND_KW, c) {
+    if has_binary_op_at_level(rule, tokens, kind::AND_KW, c, ops) {
         let o = start_node(tree, kind::BINARY_EXPR, level, c);
-        let a = parse_atom(rule, tokens, tree, errors, level + 1, o);
-        let b = and_rest(rule, tokens, tree, errors, level + 1, a);
+        let a = parse_atom(rule, tokens, tree, errors, level + 1, o, ops);
+        let b = and_rest(rule, tokens, tree, errors, level + 1, a, ops);
         return finish_node(tree, c.row, b);
     }
-    parse_atom(rule, tokens, tree, errors, level, c)
+    parse_atom(rule, tokens, tree, errors, level, c, ops)
 }
 
 // ( 'and' atom )*
@@ -414,27 +449,30 @@ fn and_rest(
     errors: &mut [u32],
     level: u32,
     c: Cursor,
+    ops: usize,
 ) -> Cursor
     requires { ⌜ Asks (lex (now rule)) (now tokens) (now tree) (now errors) level c (parse AndRest) ⌝ }
+    requires { ⌜ NoOpsFrom (lex (now rule)) ops ⌝ }
     ensures { λ r. ⌜ Did (lex (now (rule .entry))) (now (tree .entry)) (now (tree .exit)) (now (errors .entry)) (now (errors .exit)) level c r (parse AndRest) ⌝ }
 {
     if current_kind(rule, tokens, c) == kind::AND_KW {
         let a = bump(rule, tokens, tree, level, c);
-        let b = parse_atom(rule, tokens, tree, errors, level, a);
-        return and_rest(rule, tokens, tree, errors, level, b);
+        let b = parse_atom(rule, tokens, tree, errors, level, a, ops);
+        return and_rest(rule, tokens, tree, errors, level, b, ops);
     }
     c
 }
 
-// Whether `op` stands ahead outside brackets, before the bracket that closes this place and after something that is no blank.
-fn has_binary_op_at_level(rule: &[u8], tokens: &[u32], op: u32, c: Cursor) -> bool
+// Whether `op` stands ahead outside brackets, before the bracket that closes this place and after something that is no blank. From the token at `ops` on there is none.
+fn has_binary_op_at_level(rule: &[u8], tokens: &[u32], op: u32, c: Cursor, ops: usize) -> bool
     requires { ⌜ Ready (lex (now rule)) (now tokens) c ⌝ }
+    requires { ⌜ NoneFrom op (lex (now rule)) ops ⌝ }
     ensures { λ r. ⌜ r ≡ hasBinaryOpAtLevel op (drop (c .token) (lex (now (rule .entry)))) ⌝ }
 {
     let mut depth: usize = 0;
     let mut found = false;
     let mut i = c.token;
-    while 3 * i < tokens.len() {
+    while i < ops {
         let k = tokens[3 * i];
         i += 1;
         if k == kind::WHITESPACE {} else if k == kind::L_PAREN {
@@ -467,8 +505,10 @@ fn parse_atom(
     errors: &mut [u32],
     level: u32,
     c: Cursor,
+    ops: usize,
 ) -> Cursor
     requires { ⌜ Asks (lex (now rule)) (now tokens) (now tree) (now errors) level c (parse Atom) ⌝ }
+    requires { ⌜ NoOpsFrom (lex (now rule)) ops ⌝ }
     ensures { λ r. ⌜ Did (lex (now (rule .entry))) (now (tree .entry)) (now (tree .exit)) (now (errors .entry)) (now (errors .exit)) level c r (parse Atom) ⌝ }
 {
     let a = eat_ws(rule, tokens, tree, level, c);
@@ -476,13 +516,13 @@ fn parse_atom(
     if k == kind::NOT_KW {
         let o = start_node(tree, kind::UNARY_EXPR, level, a);
         let b = bump(rule, tokens, tree, level + 1, o);
-        let d = parse_atom(rule, tokens, tree, errors, level + 1, b);
+        let d = parse_atom(rule, tokens, tree, errors, level + 1, b, ops);
         return finish_node(tree, a.row, d);
     }
     if k == kind::L_PAREN {
         let o = start_node(tree, kind::PAREN_EXPR, level, a);
         let b = bump(rule, tokens, tree, level + 1, o);
-        let d = parse_or_expr(rule, tokens, tree, errors, level + 1, b);
+        let d = parse_or_expr(rule, tokens, tree, errors, level + 1, b, ops);
         let e = expect(rule, tokens, tree, errors, level + 1, kind::R_PAREN, d);
         return finish_node(tree, a.row, e);
     }

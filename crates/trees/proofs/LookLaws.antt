@@ -6,8 +6,9 @@ use Prim.Native.Nat.{ℕ, zero, suc, _+_, _*_, _-_, _≤_, _<_}
 use native.Mathlib.Omega.{arith}
 use borrow.Author.Tests.{eq-eqb, ne-eqb, eqb-true, eqb-false}
 use lib.Dec.{eqb}
-use lib.ListN.{length, drop, getD, length-drop}
-use Rattle.syntax.specs.Kind.{WHITESPACE, L-PAREN, R-PAREN, INT-LIT, NONE}
+use lib.ListN.{length, drop, getD, length-drop, drop-of-length-le}
+use lib.Seq.{drop-drop}
+use Rattle.syntax.specs.Kind.{WHITESPACE, L-PAREN, R-PAREN, INT-LIT, AND-KW, OR-KW, NONE}
 use Rattle.syntax.proofs.BoolLaws.{whether}
 use Rattle.lexer.specs.Lex.{Token, tokenRows}
 use Rattle.reader.specs.Reader as reader
@@ -15,9 +16,9 @@ use Rattle.reader.proofs.ReaderLaws.{current-later, current-blank, current-soli
 use Rattle.trees.specs.Look.{skipWs, headKind, tailOf, currentKind, atKind, isComparison, endsInComparison, opAhead}
 use Rattle.trees.specs.Green.{size}
 use Rattle.trees.specs.Parse.{Parser, done, next, fails, failsAhead, _▹_, eatWs, nextIs, remaining}
-use Rattle.trees.specs.Writing.{Ready, Past, Skipped, Fits, Asks, Did}
+use Rattle.trees.specs.Writing.{Ready, Past, Skipped, Fits, Asks, Did, Without, none, more, NoneFrom, NoOpsFrom}
 use Rattle.trees.specs.declared.Cursor.{Cursor}
-use Rattle.trees.proofs.TokenLaws.{Row, row, at-end, table-length}
+use Rattle.trees.proofs.TokenLaws.{Row, row, row-in, rows-length, at-end, table-length}
 use Rattle.trees.proofs.WritingLaws.{did-done, did-then, did-as, fits-as, fits-first, fits-then, tree-long}
 
 -- ---- blanks
@@ -209,10 +210,6 @@ module _ {tokens : List ℕ} {ts : List Token} {i : ℕ} (w : Row 0 tokens ts i)
               rw (w .here, solid, no-open, no-close, eq-eqb (w .token .kind) op (sym (w .kind) ∙ a), eq-eqb depth 0 z, f, opAhead)
 
 -- at the end of the tokens
-pub op-end : (op depth : ℕ) (found : Bool) {ts : List Token} → ts ≡ [] → false ≡ opAhead op depth found ts
-unfolding opAhead
-op-end op depth found e = rw e
-
 pub ends-integer : (second last : ℕ) {ts : List Token} → ts ≡ [] → last ≡ INT-LIT → isComparison second ≡ endsInComparison second last ts
 unfolding endsInComparison
 ends-integer second last e q = rw (e, eq-eqb _ _ q) (sym (and-true (isComparison second)))
@@ -220,6 +217,54 @@ ends-integer second last e q = rw (e, eq-eqb _ _ q) (sym (and-true (isComparison
 pub ends-other : (second last : ℕ) {ts : List Token} → ts ≡ [] → (last ≡ INT-LIT → ⊥) → false ≡ endsInComparison second last ts
 unfolding endsInComparison
 ends-other second last e n = rw (e, ne-eqb _ _ n) (sym (and-false (isComparison second)))
+
+-- ---- places from which on no token is of a kind
+
+-- before such a place each token has a row
+pub row-before : {ts : List Token} {tokens : List ℕ} {c : Cursor} {op n : ℕ} → Ready ts tokens c → NoneFrom op ts n → (i : ℕ) → i < n → Row 0 tokens ts i
+row-before {ts} r b i h = row-in ts (r .rows) i (omega (arith, table-length r, b .within))
+
+-- a test that gives the same either way
+either : {A : Type 0} (t : Bool) {x y z : A} → x ≡ z → y ≡ z → (elim t [ true ↦ x | false ↦ y ]) ≡ z
+either true p q = p
+either false p q = q
+
+-- where no token is of its kind an operator is not ahead
+op-without : (op depth : ℕ) (found : Bool) {ts : List Token} → Without op ts → opAhead op depth found ts ≡ false
+unfolding opAhead
+op-without op depth found none = refl
+op-without op depth found {ts = t ∷ ts} (more n w) =
+    either (eqb (t .kind) WHITESPACE) (op-without op depth found w)
+    (either (eqb (t .kind) L-PAREN) (op-without op (depth + 1) true w)
+    (either (eqb (t .kind) R-PAREN) (either (eqb depth 0) refl (op-without op (depth - 1) found w)) (rw (ne-eqb (t .kind) op n) (op-without op depth true w))))
+
+-- so it is not ahead from such a place on
+without-drop : {k : ℕ} {ts : List Token} (m : ℕ) → Without k ts → Without k (drop m ts)
+without-drop zero w = w
+without-drop (suc m) none = none
+without-drop (suc m) (more n w) = without-drop m w
+
+pub op-end : {op n : ℕ} (depth : ℕ) (found : Bool) {ts : List Token} → NoneFrom op ts n → (i : ℕ) → n ≤ i → false ≡ opAhead op depth found (drop i ts)
+op-end {op} {n} depth found {ts} b i h =
+    let e : n + (i - n) ≡ i = omega arith in
+    sym (op-without op depth found (rw (drop-drop, e) at (without-drop (i - n) (b .rest))))
+
+-- such places are the end, and that of a token of another kind where the place past it is one
+none-end : (k : ℕ) (ts : List Token) → NoneFrom k ts (length ts)
+none-end k ts = record { within = omega arith; rest = rw (drop-of-length-le ts {i = length ts} (omega arith)) none }
+
+none-back : {k : ℕ} {tokens : List ℕ} {ts : List Token} {i : ℕ} → Row 0 tokens ts i → (getD tokens (3 * i) 0 ≡ k → ⊥) → NoneFrom k ts (i + 1) → NoneFrom k ts i
+none-back w n b = record { within = omega (arith, b .within); rest = rw (w .here) (more (λ q. n (w .kind ∙ q)) (b .rest)) }
+
+pub ops-end : (ts : List Token) → NoOpsFrom ts (length ts)
+ops-end ts = record { ands = none-end _ ts; ors = none-end _ ts }
+
+pub ops-back : {tokens : List ℕ} {ts : List Token} {i : ℕ} → tokens ≡ tokenRows 0 ts → NoOpsFrom ts i → 0 < i → (getD tokens (3 * (i - 1)) 0 ≡ AND-KW → ⊥)
+    → (getD tokens (3 * (i - 1)) 0 ≡ OR-KW → ⊥) → NoOpsFrom ts (i - 1)
+ops-back {ts = ts} {i = i} e b h a o =
+    let w = row-in ts e (i - 1) (omega (arith, rows-length ts e, b .ands .within)) in
+    let s : i ≡ i - 1 + 1 = omega arith in
+    record { ands = none-back w a (rw s at (b .ands)); ors = none-back w o (rw s at (b .ors)) }
 
 -- ---- tests of the code as tests of the definitions
 

@@ -4,6 +4,7 @@ use Prim.Native.Nat.{ℕ, _+_, _*_, _≤_, _<_, _^_}
 use mathlib.Core.List.{List, [], _∷_}
 use lib.ListN.{length, take, drop, set}
 use lib.Seq.{sets}
+use Rattle.syntax.specs.Kind.{AND-KW, OR-KW}
 use Rattle.lexer.specs.Lex.{Token, tokenRows}
 use Rattle.trees.specs.Green.{size, height, width, span}
 use Rattle.trees.specs.Look.{skipWs, tailOf}
@@ -66,3 +67,18 @@ pub record Started (t₀ t₁ : List ℕ) (k level : ℕ) (c r : Cursor) : Type 
 pub record Finished (t₀ t₁ : List ℕ) (at : ℕ) (r s : Cursor) : Type 0 where
   pub tree : t₁ ≡ set t₀ (at + 3) (r .byte)
   pub cursor : s ≡ r
+
+-- no token is of kind k
+pub data Without (k : ℕ) : List Token → Type 0 where
+  none : Without k []
+  more : {t : Token} {ts : List Token} → (t .kind ≡ k → ⊥) → Without k ts → Without k (t ∷ ts)
+
+-- n is the place of a token or the end, and from there on no token is of kind k
+pub record NoneFrom (k : ℕ) (ts : List Token) (n : ℕ) : Type 0 where
+  pub within : n ≤ length ts
+  pub rest : Without k (drop n ts)
+
+-- none is `and` or `or`
+pub record NoOpsFrom (ts : List Token) (n : ℕ) : Type 0 where
+  pub ands : NoneFrom AND-KW ts n
+  pub ors : NoneFrom OR-KW ts n

@@ -124,16 +124,16 @@ abbrev parse-or-expr-calls : ℕ → parse-or-expr-lts.Claims
 parse-or-expr-calls t = (has-binary-op-at-level-reads.Asked, has-binary-op-at-level-reads.Learnt, start-node-reads.Asked, start-node-reads.Learnt, parse-and-expr-below t, parse-and-expr.Post, or-rest-below t, or-rest.Post, finish-node-reads.Asked, finish-node-reads.Learnt)
 
 and-rest-current-kind-requires : (t : ℕ) → and-rest-lts.Need-current-kind-requires (and-rest-calls t) (and-rest-at t) and-rest.Post
-and-rest-current-kind-requires t c κs = c .before .before .before .before .pre .1 .fits .ready
+and-rest-current-kind-requires t c κs = c .before .before .before .before .pre .1 .0 .fits .ready
 
 and-rest-bump-requires : (t : ℕ) → and-rest-lts.Need-bump-requires (and-rest-calls t) (and-rest-at t) and-rest.Post
-and-rest-bump-requires t c κs = (asks-first _ _ (asks-first _ _ (asks-true _ _ _ (at-yes _ (c .before .before .current-kind .ensures) (c .before .if1 .taken)) (asks-is step-and-rest-is (asks-step AndRest (c .before .before .before .before .before .before .before .pre .1)))))) .fits
+and-rest-bump-requires t c κs = (asks-first _ _ (asks-first _ _ (asks-true _ _ _ (at-yes _ (c .before .before .current-kind .ensures) (c .before .if1 .taken)) (asks-is step-and-rest-is (asks-step AndRest (c .before .before .before .before .before .before .before .pre .1 .0)))))) .fits
 
 and-rest-parse-atom-requires : (t : ℕ) → and-rest-lts.Need-parse-atom-requires (and-rest-calls t) (and-rest-at t) and-rest.Post
-and-rest-parse-atom-requires t c κs = (omega (arith, c .before .before .before .before .before .before .before .before .before .before .before .before .pre .0, c .before .before .before .before .before .before .before .before .before .before .before .before .pre .1 .fits .ready .within, table-length (c .before .before .before .before .before .before .before .before .before .before .before .before .pre .1 .fits .ready), bump-ahead 14 (λ e. omega arith) (sym (c .before .before .before .before .before .before .before .current-kind .ensures) ∙ c .before .before .before .before .before .before .if1 .taken) (c .before .before .before .before .bump .ensures []), c .before .before .before .before .bump .ensures [] .wrote .within), (asks-then _ _ (asks-first _ _ (asks-true _ _ _ (at-yes _ (c .before .before .before .before .before .before .before .current-kind .ensures) (c .before .before .before .before .before .before .if1 .taken)) (asks-is step-and-rest-is (asks-step AndRest (c .before .before .before .before .before .before .before .before .before .before .before .before .pre .1))))) (c .before .before .before .before .bump .ensures _)))
+and-rest-parse-atom-requires t c κs = (omega (arith, c .before .before .before .before .before .before .before .before .before .before .before .before .pre .0, c .before .before .before .before .before .before .before .before .before .before .before .before .pre .1 .0 .fits .ready .within, table-length (c .before .before .before .before .before .before .before .before .before .before .before .before .pre .1 .0 .fits .ready), bump-ahead 14 (λ e. omega arith) (sym (c .before .before .before .before .before .before .before .current-kind .ensures) ∙ c .before .before .before .before .before .before .if1 .taken) (c .before .before .before .before .bump .ensures []), c .before .before .before .before .bump .ensures [] .wrote .within), (asks-then _ _ (asks-first _ _ (asks-true _ _ _ (at-yes _ (c .before .before .before .before .before .before .before .current-kind .ensures) (c .before .before .before .before .before .before .if1 .taken)) (asks-is step-and-rest-is (asks-step AndRest (c .before .before .before .before .before .before .before .before .before .before .before .before .pre .1 .0))))) (c .before .before .before .before .bump .ensures _), c .before .before .before .before .before .before .before .before .before .before .before .before .pre .1 .1))
 
 and-rest-and-rest-requires : (t : ℕ) → and-rest-lts.Need-and-rest-requires (and-rest-calls t) (and-rest-at t) and-rest.Post
-and-rest-and-rest-requires t c κs = (omega (arith, c .before .before .before .before .before .before .before .before .before .before .before .before .before .before .before .before .before .before .before .pre .0, c .before .before .before .before .before .before .before .before .before .before .before .before .before .before .before .before .before .before .before .pre .1 .fits .ready .within, table-length (c .before .before .before .before .before .before .before .before .before .before .before .before .before .before .before .before .before .before .before .pre .1 .fits .ready), bump-ahead 14 (λ e. omega arith) (sym (c .before .before .before .before .before .before .before .before .before .before .before .before .before .before .current-kind .ensures) ∙ c .before .before .before .before .before .before .before .before .before .before .before .before .before .if1 .taken) (c .before .before .before .before .before .before .before .before .before .before .before .bump .ensures []), c .before .before .before .before .before .before .before .before .before .before .before .bump .ensures [] .wrote .within, c .before .before .before .before .before .before .parse-atom .ensures .wrote .ahead, c .before .before .before .before .before .before .parse-atom .ensures .wrote .within), (asks-then _ _ (asks-true _ _ _ (at-yes _ (c .before .before .before .before .before .before .before .before .before .before .before .before .before .before .current-kind .ensures) (c .before .before .before .before .before .before .before .before .before .before .before .before .before .if1 .taken)) (asks-is step-and-rest-is (asks-step AndRest (c .before .before .before .before .before .before .before .before .before .before .before .before .before .before .before .before .before .before .before .pre .1)))) (did-then (c .before .before .before .before .before .before .before .before .before .before .before .bump .ensures _) (c .before .before .before .before .before .before .parse-atom .ensures))))
+and-rest-and-rest-requires t c κs = (omega (arith, c .before .before .before .before .before .before .before .before .before .before .before .before .before .before .before .before .before .before .before .pre .0, c .before .before .before .before .before .before .before .before .before .before .before .before .before .before .before .before .before .before .before .pre .1 .0 .fits .ready .within, table-length (c .before .before .before .before .before .before .before .before .before .before .before .before .before .before .before .before .before .before .before .pre .1 .0 .fits .ready), bump-ahead 14 (λ e. omega arith) (sym (c .before .before .before .before .before .before .before .before .before .before .before .before .before .before .current-kind .ensures) ∙ c .before .before .before .before .before .before .before .before .before .before .before .before .before .if1 .taken) (c .before .before .before .before .before .before .before .before .before .before .before .bump .ensures []), c .before .before .before .before .before .before .before .before .before .before .before .bump .ensures [] .wrote .within, c .before .before .before .before .before .before .parse-atom .ensures .wrote .ahead, c .before .before .before .before .before .before .parse-atom .ensures .wrote .within), (asks-then _ _ (asks-true _ _ _ (at-yes _ (c .before .before .before .before .before .before .before .before .before .before .before .before .before .before .current-kind .ensures) (c .before .before .before .before .before .before .before .before .before .before .before .before .before .if1 .taken)) (asks-is step-and-rest-is (asks-step AndRest (c .before .before .before .before .before .before .before .before .before .before .before .before .before .before .before .before .before .before .before .pre .1 .0)))) (did-then (c .before .before .before .before .before .before .before .before .before .before .before .bump .ensures _) (c .before .before .before .before .before .before .parse-atom .ensures)), c .before .before .before .before .before .before .before .before .before .before .before .before .before .before .before .before .before .before .before .pre .1 .1))
 
 and-rest-same-length : (t : ℕ) → and-rest-lts.Need-same-length (and-rest-calls t) (and-rest-at t) and-rest.Post
 and-rest-same-length t c = tree-long (did-then (did-then (c .before .before .before .before .before .before .before .before .before .before .before .before .before .before .before .before .bump .ensures _) (c .before .before .before .before .before .before .before .before .before .before .before .parse-atom .ensures)) (c .before .before .before .before .and-rest .ensures))
@@ -145,19 +145,19 @@ and-rest-returns : (t : ℕ) → and-rest-lts.Need-returns (and-rest-calls t) (a
 and-rest-returns t c = did-step AndRest (did-is step-and-rest-is (did-true _ _ _ (at-yes _ (c .before .before .before .before .before .before .before .before .before .before .before .before .before .before .before .before .before .before .before .current-kind .ensures) (c .before .before .before .before .before .before .before .before .before .before .before .before .before .before .before .before .before .before .if1 .taken)) (did-then (did-then (c .before .before .before .before .before .before .before .before .before .before .before .before .before .before .before .before .bump .ensures _) (c .before .before .before .before .before .before .before .before .before .before .before .parse-atom .ensures)) (c .before .before .before .before .and-rest .ensures))))
 
 and-rest-returns-2 : (t : ℕ) → and-rest-lts.Need-returns-2 (and-rest-calls t) (and-rest-at t) and-rest.Post
-and-rest-returns-2 t c = did-step AndRest (did-is step-and-rest-is (did-false _ _ _ (at-no _ (c .before .current-kind .ensures) (c .if1 .left)) (did-done (c .before .before .before .before .before .before .pre .1 .fits .ready))))
+and-rest-returns-2 t c = did-step AndRest (did-is step-and-rest-is (did-false _ _ _ (at-no _ (c .before .current-kind .ensures) (c .if1 .left)) (did-done (c .before .before .before .before .before .before .pre .1 .0 .fits .ready))))
 
 or-rest-current-kind-requires : (t : ℕ) → or-rest-lts.Need-current-kind-requires (or-rest-calls t) (or-rest-at t) or-rest.Post
-or-rest-current-kind-requires t c κs = c .before .before .before .before .pre .1 .fits .ready
+or-rest-current-kind-requires t c κs = c .before .before .before .before .pre .1 .0 .fits .ready
 
 or-rest-bump-requires : (t : ℕ) → or-rest-lts.Need-bump-requires (or-rest-calls t) (or-rest-at t) or-rest.Post
-or-rest-bump-requires t c κs = (asks-first _ _ (asks-first _ _ (asks-true _ _ _ (at-yes _ (c .before .before .current-kind .ensures) (c .before .if1 .taken)) (asks-is step-or-rest-is (asks-step OrRest (c .before .before .before .before .before .before .before .pre .1)))))) .fits
+or-rest-bump-requires t c κs = (asks-first _ _ (asks-first _ _ (asks-true _ _ _ (at-yes _ (c .before .before .current-kind .ensures) (c .before .if1 .taken)) (asks-is step-or-rest-is (asks-step OrRest (c .before .before .before .before .before .before .before .pre .1 .0)))))) .fits
 
 or-rest-parse-and-expr-requires : (t : ℕ) → or-rest-lts.Need-parse-and-expr-requires (or-rest-calls t) (or-rest-at t) or-rest.Post
-or-rest-parse-and-expr-requires t c κs = (omega (arith, c .before .before .before .before .before .before .before .before .before .before .before .before .pre .0, c .before .before .before .before .before .before .before .before .before .before .before .before .pre .1 .fits .ready .within, table-length (c .before .before .before .before .before .before .before .before .before .before .before .before .pre .1 .fits .ready), bump-ahead 15 (λ e. omega arith) (sym (c .before .before .before .before .before .before .before .current-kind .ensures) ∙ c .before .before .before .before .before .before .if1 .taken) (c .before .before .before .before .bump .ensures []), c .before .before .before .before .bump .ensures [] .wrote .within), (asks-then _ _ (asks-first _ _ (asks-true _ _ _ (at-yes _ (c .before .before .before .before .before .before .before .current-kind .ensures) (c .before .before .before .before .before .before .if1 .taken)) (asks-is step-or-rest-is (asks-step OrRest (c .before .before .before .before .before .before .before .before .before .before .before .before .pre .1))))) (c .before .before .before .before .bump .ensures _)))
+or-rest-parse-and-expr-requires t c κs = (omega (arith, c .before .before .before .before .before .before .before .before .before .before .before .before .pre .0, c .before .before .before .before .before .before .before .before .before .before .before .before .pre .1 .0 .fits .ready .within, table-length (c .before .before .before .before .before .before .before .before .before .before .before .before .pre .1 .0 .fits .ready), bump-ahead 15 (λ e. omega arith) (sym (c .before .before .before .before .before .before .before .current-kind .ensures) ∙ c .before .before .before .before .before .before .if1 .taken) (c .before .before .before .before .bump .ensures []), c .before .before .before .before .bump .ensures [] .wrote .within), (asks-then _ _ (asks-first _ _ (asks-true _ _ _ (at-yes _ (c .before .before .before .before .before .before .before .current-kind .ensures) (c .before .before .before .before .before .before .if1 .taken)) (asks-is step-or-rest-is (asks-step OrRest (c .before .before .before .before .before .before .before .before .before .before .before .before .pre .1 .0))))) (c .before .before .before .before .bump .ensures _), c .before .before .before .before .before .before .before .before .before .before .before .before .pre .1 .1))
 
 or-rest-or-rest-requires : (t : ℕ) → or-rest-lts.Need-or-rest-requires (or-rest-calls t) (or-rest-at t) or-rest.Post
-or-rest-or-rest-requires t c κs = (omega (arith, c .before .before .before .before .before .before .before .before .before .before .before .before .before .before .before .before .before .before .before .pre .0, c .before .before .before .before .before .before .before .before .before .before .before .before .before .before .before .before .before .before .before .pre .1 .fits .ready .within, table-length (c .before .before .before .before .before .before .before .before .before .before .before .before .before .before .before .before .before .before .before .pre .1 .fits .ready), bump-ahead 15 (λ e. omega arith) (sym (c .before .before .before .before .before .before .before .before .before .before .before .before .before .before .current-kind .ensures) ∙ c .before .before .before .before .before .before .before .before .before .before .before .before .before .if1 .taken) (c .before .before .before .before .before .before .before .before .before .before .before .bump .ensures []), c .before .before .before .before .before .before .before .before .before .before .before .bump .ensures [] .wrote .within, c .before .before .before .before .before .before .parse-and-expr .ensures .wrote .ahead, c .before .before .before .before .before .before .parse-and-expr .ensures .wrote .within), (asks-then _ _ (asks-true _ _ _ (at-yes _ (c .before .before .before .before .before .before .before .before .before .before .before .before .before .before .current-kind .ensures) (c .before .before .before .before .before .before .before .before .before .before .before .before .before .if1 .taken)) (asks-is step-or-rest-is (asks-step OrRest (c .before .before .before .before .before .before .before .before .before .before .before .before .before .before .before .before .before .before .before .pre .1)))) (did-then (c .before .before .before .before .before .before .before .before .before .before .before .bump .ensures _) (c .before .before .before .before .before .before .parse-and-expr .ensures))))
+or-rest-or-rest-requires t c κs = (omega (arith, c .before .before .before .before .before .before .before .before .before .before .before .before .before .before .before .before .before .before .before .pre .0, c .before .before .before .before .before .before .before .before .before .before .before .before .before .before .before .before .before .before .before .pre .1 .0 .fits .ready .within, table-length (c .before .before .before .before .before .before .before .before .before .before .before .before .before .before .before .before .before .before .before .pre .1 .0 .fits .ready), bump-ahead 15 (λ e. omega arith) (sym (c .before .before .before .before .before .before .before .before .before .before .before .before .before .before .current-kind .ensures) ∙ c .before .before .before .before .before .before .before .before .before .before .before .before .before .if1 .taken) (c .before .before .before .before .before .before .before .before .before .before .before .bump .ensures []), c .before .before .before .before .before .before .before .before .before .before .before .bump .ensures [] .wrote .within, c .before .before .before .before .before .before .parse-and-expr .ensures .wrote .ahead, c .before .before .before .before .before .before .parse-and-expr .ensures .wrote .within), (asks-then _ _ (asks-true _ _ _ (at-yes _ (c .before .before .before .before .before .before .before .before .before .before .before .before .before .before .current-kind .ensures) (c .before .before .before .before .before .before .before .before .before .before .before .before .before .if1 .taken)) (asks-is step-or-rest-is (asks-step OrRest (c .before .before .before .before .before .before .before .before .before .before .before .before .before .before .before .before .before .before .before .pre .1 .0)))) (did-then (c .before .before .before .before .before .before .before .before .before .before .before .bump .ensures _) (c .before .before .before .before .before .before .parse-and-expr .ensures)), c .before .before .before .before .before .before .before .before .before .before .before .before .before .before .before .before .before .before .before .pre .1 .1))
 
 or-rest-same-length : (t : ℕ) → or-rest-lts.Need-same-length (or-rest-calls t) (or-rest-at t) or-rest.Post
 or-rest-same-length t c = tree-long (did-then (did-then (c .before .before .before .before .before .before .before .before .before .before .before .before .before .before .before .before .bump .ensures _) (c .before .before .before .before .before .before .before .before .before .before .before .parse-and-expr .ensures)) (c .before .before .before .before .or-rest .ensures))
@@ -169,28 +169,28 @@ or-rest-returns : (t : ℕ) → or-rest-lts.Need-returns (or-rest-calls t) (or-r
 or-rest-returns t c = did-step OrRest (did-is step-or-rest-is (did-true _ _ _ (at-yes _ (c .before .before .before .before .before .before .before .before .before .before .before .before .before .before .before .before .before .before .before .current-kind .ensures) (c .before .before .before .before .before .before .before .before .before .before .before .before .before .before .before .before .before .before .if1 .taken)) (did-then (did-then (c .before .before .before .before .before .before .before .before .before .before .before .before .before .before .before .before .bump .ensures _) (c .before .before .before .before .before .before .before .before .before .before .before .parse-and-expr .ensures)) (c .before .before .before .before .or-rest .ensures))))
 
 or-rest-returns-2 : (t : ℕ) → or-rest-lts.Need-returns-2 (or-rest-calls t) (or-rest-at t) or-rest.Post
-or-rest-returns-2 t c = did-step OrRest (did-is step-or-rest-is (did-false _ _ _ (at-no _ (c .before .current-kind .ensures) (c .if1 .left)) (did-done (c .before .before .before .before .before .before .pre .1 .fits .ready))))
+or-rest-returns-2 t c = did-step OrRest (did-is step-or-rest-is (did-false _ _ _ (at-no _ (c .before .current-kind .ensures) (c .if1 .left)) (did-done (c .before .before .before .before .before .before .pre .1 .0 .fits .ready))))
 
 parse-and-expr-has-binary-op-at-level-requires : (t : ℕ) → parse-and-expr-lts.Need-has-binary-op-at-level-requires (parse-and-expr-calls t) (parse-and-expr-at t) parse-and-expr.Post
-parse-and-expr-has-binary-op-at-level-requires t c κs = c .before .before .before .before .pre .1 .fits .ready
+parse-and-expr-has-binary-op-at-level-requires t c κs = (c .before .before .before .before .pre .1 .0 .fits .ready, c .before .before .before .before .pre .1 .1 .ands)
 
 parse-and-expr-start-node-requires : (t : ℕ) → parse-and-expr-lts.Need-start-node-requires (parse-and-expr-calls t) (parse-and-expr-at t) parse-and-expr.Post
-parse-and-expr-start-node-requires t c κs = node-room _ _ (asks-true _ _ _ (sym (c .before .before .has-binary-op-at-level .ensures) ∙ c .before .if1 .taken) (asks-is step-and-is (asks-step AndExpr (c .before .before .before .before .before .before .before .pre .1))))
+parse-and-expr-start-node-requires t c κs = node-room _ _ (asks-true _ _ _ (sym (c .before .before .has-binary-op-at-level .ensures) ∙ c .before .if1 .taken) (asks-is step-and-is (asks-step AndExpr (c .before .before .before .before .before .before .before .pre .1 .0))))
 
 parse-and-expr-add-parse-atom : (t : ℕ) → parse-and-expr-lts.Need-add-parse-atom (parse-and-expr-calls t) (parse-and-expr-at t) parse-and-expr.Post
-parse-and-expr-add-parse-atom t c = record { fits = node-level _ _ (asks-true _ _ _ (sym (c .before .before .before .before .before .before .before .has-binary-op-at-level .ensures) ∙ c .before .before .before .before .before .before .if1 .taken) (asks-is step-and-is (asks-step AndExpr (c .before .before .before .before .before .before .before .before .before .before .before .before .pre .1)))) }
+parse-and-expr-add-parse-atom t c = record { fits = node-level _ _ (asks-true _ _ _ (sym (c .before .before .before .before .before .before .before .has-binary-op-at-level .ensures) ∙ c .before .before .before .before .before .before .if1 .taken) (asks-is step-and-is (asks-step AndExpr (c .before .before .before .before .before .before .before .before .before .before .before .before .pre .1 .0)))) }
 
 parse-and-expr-parse-atom-requires : (t : ℕ) → parse-and-expr-lts.Need-parse-atom-requires (parse-and-expr-calls t) (parse-and-expr-at t) parse-and-expr.Post
-parse-and-expr-parse-atom-requires t c κs = (omega (arith, c .before .before .before .before .before .before .before .before .before .before .before .before .pre .0, c .before .before .before .before .before .before .before .before .before .before .before .before .pre .1 .fits .ready .within, table-length (c .before .before .before .before .before .before .before .before .before .before .before .before .pre .1 .fits .ready), started-token (c .before .before .before .before .start-node .ensures)), (asks-first _ _ (asks-node _ _ (asks-true _ _ _ (sym (c .before .before .before .before .before .before .before .has-binary-op-at-level .ensures) ∙ c .before .before .before .before .before .before .if1 .taken) (asks-is step-and-is (asks-step AndExpr (c .before .before .before .before .before .before .before .before .before .before .before .before .pre .1)))) (c .before .before .before .before .start-node .ensures))))
+parse-and-expr-parse-atom-requires t c κs = (omega (arith, c .before .before .before .before .before .before .before .before .before .before .before .before .pre .0, c .before .before .before .before .before .before .before .before .before .before .before .before .pre .1 .0 .fits .ready .within, table-length (c .before .before .before .before .before .before .before .before .before .before .before .before .pre .1 .0 .fits .ready), started-token (c .before .before .before .before .start-node .ensures)), (asks-first _ _ (asks-node _ _ (asks-true _ _ _ (sym (c .before .before .before .before .before .before .before .has-binary-op-at-level .ensures) ∙ c .before .before .before .before .before .before .if1 .taken) (asks-is step-and-is (asks-step AndExpr (c .before .before .before .before .before .before .before .before .before .before .before .before .pre .1 .0)))) (c .before .before .before .before .start-node .ensures)), c .before .before .before .before .before .before .before .before .before .before .before .before .pre .1 .1))
 
 parse-and-expr-add-and-rest : (t : ℕ) → parse-and-expr-lts.Need-add-and-rest (parse-and-expr-calls t) (parse-and-expr-at t) parse-and-expr.Post
-parse-and-expr-add-and-rest t c = record { fits = node-level _ _ (asks-true _ _ _ (sym (c .before .before .before .before .before .before .before .before .before .before .before .before .before .before .has-binary-op-at-level .ensures) ∙ c .before .before .before .before .before .before .before .before .before .before .before .before .before .if1 .taken) (asks-is step-and-is (asks-step AndExpr (c .before .before .before .before .before .before .before .before .before .before .before .before .before .before .before .before .before .before .before .pre .1)))) }
+parse-and-expr-add-and-rest t c = record { fits = node-level _ _ (asks-true _ _ _ (sym (c .before .before .before .before .before .before .before .before .before .before .before .before .before .before .has-binary-op-at-level .ensures) ∙ c .before .before .before .before .before .before .before .before .before .before .before .before .before .if1 .taken) (asks-is step-and-is (asks-step AndExpr (c .before .before .before .before .before .before .before .before .before .before .before .before .before .before .before .before .before .before .before .pre .1 .0)))) }
 
 parse-and-expr-and-rest-requires : (t : ℕ) → parse-and-expr-lts.Need-and-rest-requires (parse-and-expr-calls t) (parse-and-expr-at t) parse-and-expr.Post
-parse-and-expr-and-rest-requires t c κs = (omega (arith, c .before .before .before .before .before .before .before .before .before .before .before .before .before .before .before .before .before .before .before .pre .0, c .before .before .before .before .before .before .before .before .before .before .before .before .before .before .before .before .before .before .before .pre .1 .fits .ready .within, table-length (c .before .before .before .before .before .before .before .before .before .before .before .before .before .before .before .before .before .before .before .pre .1 .fits .ready), started-token (c .before .before .before .before .before .before .before .before .before .before .before .start-node .ensures), c .before .before .before .before .before .before .parse-atom .ensures .wrote .ahead, c .before .before .before .before .before .before .parse-atom .ensures .wrote .within), (asks-then _ _ (asks-node _ _ (asks-true _ _ _ (sym (c .before .before .before .before .before .before .before .before .before .before .before .before .before .before .has-binary-op-at-level .ensures) ∙ c .before .before .before .before .before .before .before .before .before .before .before .before .before .if1 .taken) (asks-is step-and-is (asks-step AndExpr (c .before .before .before .before .before .before .before .before .before .before .before .before .before .before .before .before .before .before .before .pre .1)))) (c .before .before .before .before .before .before .before .before .before .before .before .start-node .ensures)) (c .before .before .before .before .before .before .parse-atom .ensures)))
+parse-and-expr-and-rest-requires t c κs = (omega (arith, c .before .before .before .before .before .before .before .before .before .before .before .before .before .before .before .before .before .before .before .pre .0, c .before .before .before .before .before .before .before .before .before .before .before .before .before .before .before .before .before .before .before .pre .1 .0 .fits .ready .within, table-length (c .before .before .before .before .before .before .before .before .before .before .before .before .before .before .before .before .before .before .before .pre .1 .0 .fits .ready), started-token (c .before .before .before .before .before .before .before .before .before .before .before .start-node .ensures), c .before .before .before .before .before .before .parse-atom .ensures .wrote .ahead, c .before .before .before .before .before .before .parse-atom .ensures .wrote .within), (asks-then _ _ (asks-node _ _ (asks-true _ _ _ (sym (c .before .before .before .before .before .before .before .before .before .before .before .before .before .before .has-binary-op-at-level .ensures) ∙ c .before .before .before .before .before .before .before .before .before .before .before .before .before .if1 .taken) (asks-is step-and-is (asks-step AndExpr (c .before .before .before .before .before .before .before .before .before .before .before .before .before .before .before .before .before .before .before .pre .1 .0)))) (c .before .before .before .before .before .before .before .before .before .before .before .start-node .ensures)) (c .before .before .before .before .before .before .parse-atom .ensures), c .before .before .before .before .before .before .before .before .before .before .before .before .before .before .before .before .before .before .before .pre .1 .1))
 
 parse-and-expr-finish-node-requires : (t : ℕ) → parse-and-expr-lts.Need-finish-node-requires (parse-and-expr-calls t) (parse-and-expr-at t) parse-and-expr.Post
-parse-and-expr-finish-node-requires t c κs = finish-room (node-room _ _ (asks-true _ _ _ (sym (c .before .before .before .before .before .before .before .before .before .before .before .before .before .before .before .before .before .before .before .before .has-binary-op-at-level .ensures) ∙ c .before .before .before .before .before .before .before .before .before .before .before .before .before .before .before .before .before .before .before .if1 .taken) (asks-is step-and-is (asks-step AndExpr (c .before .before .before .before .before .before .before .before .before .before .before .before .before .before .before .before .before .before .before .before .before .before .before .before .before .pre .1))))) (c .before .before .before .before .before .before .before .before .before .before .before .before .before .before .before .before .before .start-node .ensures) (did-then (c .before .before .before .before .before .before .before .before .before .before .before .before .parse-atom .ensures) (c .before .before .before .before .before .and-rest .ensures))
+parse-and-expr-finish-node-requires t c κs = finish-room (node-room _ _ (asks-true _ _ _ (sym (c .before .before .before .before .before .before .before .before .before .before .before .before .before .before .before .before .before .before .before .before .has-binary-op-at-level .ensures) ∙ c .before .before .before .before .before .before .before .before .before .before .before .before .before .before .before .before .before .before .before .if1 .taken) (asks-is step-and-is (asks-step AndExpr (c .before .before .before .before .before .before .before .before .before .before .before .before .before .before .before .before .before .before .before .before .before .before .before .before .before .pre .1 .0))))) (c .before .before .before .before .before .before .before .before .before .before .before .before .before .before .before .before .before .start-node .ensures) (did-then (c .before .before .before .before .before .before .before .before .before .before .before .before .parse-atom .ensures) (c .before .before .before .before .before .and-rest .ensures))
 
 parse-and-expr-same-length : (t : ℕ) → parse-and-expr-lts.Need-same-length (parse-and-expr-calls t) (parse-and-expr-at t) parse-and-expr.Post
 parse-and-expr-same-length t c = finished-long (c .before .before .finish-node .ensures) ∙ tree-long (did-then (c .before .before .before .before .before .before .before .before .before .before .before .before .before .before .before .parse-atom .ensures) (c .before .before .before .before .before .before .before .before .and-rest .ensures)) ∙ started-long (c .before .before .before .before .before .before .before .before .before .before .before .before .before .before .before .before .before .before .before .before .start-node .ensures)
@@ -202,7 +202,7 @@ parse-and-expr-returns : (t : ℕ) → parse-and-expr-lts.Need-returns (parse-an
 parse-and-expr-returns t c = did-step AndExpr (did-is step-and-is (did-true _ _ _ (sym (c .before .before .before .before .before .before .before .before .before .before .before .before .before .before .before .before .before .before .before .before .before .before .before .has-binary-op-at-level .ensures) ∙ c .before .before .before .before .before .before .before .before .before .before .before .before .before .before .before .before .before .before .before .before .before .before .if1 .taken) (did-node (c .before .before .before .before .before .before .before .before .before .before .before .before .before .before .before .before .before .before .before .before .start-node .ensures) (did-then (c .before .before .before .before .before .before .before .before .before .before .before .before .before .before .before .parse-atom .ensures) (c .before .before .before .before .before .before .before .before .and-rest .ensures)) (c .before .before .finish-node .ensures))))
 
 parse-and-expr-parse-atom-requires-2 : (t : ℕ) → parse-and-expr-lts.Need-parse-atom-requires-2 (parse-and-expr-calls t) (parse-and-expr-at t) parse-and-expr.Post
-parse-and-expr-parse-atom-requires-2 t c κs = (omega (arith, c .before .before .before .before .before .before .before .before .pre .0, c .before .before .before .before .before .before .before .before .pre .1 .fits .ready .within, table-length (c .before .before .before .before .before .before .before .before .pre .1 .fits .ready), c .before .before .before .before .before .before .before .before .pre .1 .fits .ready .within), (asks-false _ _ _ (sym (c .before .before .before .has-binary-op-at-level .ensures) ∙ c .before .before .if1 .left) (asks-is step-and-is (asks-step AndExpr (c .before .before .before .before .before .before .before .before .pre .1)))))
+parse-and-expr-parse-atom-requires-2 t c κs = (omega (arith, c .before .before .before .before .before .before .before .before .pre .0, c .before .before .before .before .before .before .before .before .pre .1 .0 .fits .ready .within, table-length (c .before .before .before .before .before .before .before .before .pre .1 .0 .fits .ready), c .before .before .before .before .before .before .before .before .pre .1 .0 .fits .ready .within), (asks-false _ _ _ (sym (c .before .before .before .has-binary-op-at-level .ensures) ∙ c .before .before .if1 .left) (asks-is step-and-is (asks-step AndExpr (c .before .before .before .before .before .before .before .before .pre .1 .0))), c .before .before .before .before .before .before .before .before .pre .1 .1))
 
 parse-and-expr-same-length-3 : (t : ℕ) → parse-and-expr-lts.Need-same-length-3 (parse-and-expr-calls t) (parse-and-expr-at t) parse-and-expr.Post
 parse-and-expr-same-length-3 t c = tree-long (c .before .before .before .before .parse-atom2 .ensures)
@@ -214,28 +214,28 @@ parse-and-expr-returns-2 : (t : ℕ) → parse-and-expr-lts.Need-returns-2 (pars
 parse-and-expr-returns-2 t c = did-step AndExpr (did-is step-and-is (did-false _ _ _ (sym (c .before .before .before .before .before .before .before .before .has-binary-op-at-level .ensures) ∙ c .before .before .before .before .before .before .before .if1 .left) (c .before .before .before .before .parse-atom2 .ensures)))
 
 parse-atom-eat-ws-requires : (t : ℕ) → parse-atom-lts.Need-eat-ws-requires (parse-atom-calls t) (parse-atom-at t) parse-atom.Post
-parse-atom-eat-ws-requires t c κs = asks-first _ _ (asks-is step-atom-is (asks-step Atom (c .before .before .before .before .before .pre .1))) .fits
+parse-atom-eat-ws-requires t c κs = asks-first _ _ (asks-is step-atom-is (asks-step Atom (c .before .before .before .before .before .pre .1 .0))) .fits
 
 parse-atom-current-kind-requires : (t : ℕ) → parse-atom-lts.Need-current-kind-requires (parse-atom-calls t) (parse-atom-at t) parse-atom.Post
-parse-atom-current-kind-requires t c κs = (ready-then (c .before .before .eat-ws .ensures []) (c .before .before .before .before .before .before .before .before .pre .1 .fits .ready))
+parse-atom-current-kind-requires t c κs = (ready-then (c .before .before .eat-ws .ensures []) (c .before .before .before .before .before .before .before .before .pre .1 .0 .fits .ready))
 
 parse-atom-start-node-requires : (t : ℕ) → parse-atom-lts.Need-start-node-requires (parse-atom-calls t) (parse-atom-at t) parse-atom.Post
-parse-atom-start-node-requires t c κs = node-room _ _ (asks-true _ _ _ (at-yes _ (c .before .before .current-kind .ensures) (c .before .if1 .taken)) (asks-is atom-here-is (asks-then _ _ (asks-is step-atom-is (asks-step Atom (c .before .before .before .before .before .before .before .before .before .before .before .pre .1))) (c .before .before .before .before .before .eat-ws .ensures _))))
+parse-atom-start-node-requires t c κs = node-room _ _ (asks-true _ _ _ (at-yes _ (c .before .before .current-kind .ensures) (c .before .if1 .taken)) (asks-is atom-here-is (asks-then _ _ (asks-is step-atom-is (asks-step Atom (c .before .before .before .before .before .before .before .before .before .before .before .pre .1 .0))) (c .before .before .before .before .before .eat-ws .ensures _))))
 
 parse-atom-add-bump : (t : ℕ) → parse-atom-lts.Need-add-bump (parse-atom-calls t) (parse-atom-at t) parse-atom.Post
-parse-atom-add-bump t c = record { fits = node-level _ _ (asks-true _ _ _ (at-yes _ (c .before .before .before .before .before .before .current-kind .ensures) (c .before .before .before .before .before .if1 .taken)) (asks-is atom-here-is (asks-then _ _ (asks-is step-atom-is (asks-step Atom (c .before .before .before .before .before .before .before .before .before .before .before .before .before .before .before .pre .1))) (c .before .before .before .before .before .before .before .before .before .eat-ws .ensures _)))) }
+parse-atom-add-bump t c = record { fits = node-level _ _ (asks-true _ _ _ (at-yes _ (c .before .before .before .before .before .before .current-kind .ensures) (c .before .before .before .before .before .if1 .taken)) (asks-is atom-here-is (asks-then _ _ (asks-is step-atom-is (asks-step Atom (c .before .before .before .before .before .before .before .before .before .before .before .before .before .before .before .pre .1 .0))) (c .before .before .before .before .before .before .before .before .before .eat-ws .ensures _)))) }
 
 parse-atom-bump-requires : (t : ℕ) → parse-atom-lts.Need-bump-requires (parse-atom-calls t) (parse-atom-at t) parse-atom.Post
-parse-atom-bump-requires t c κs = (asks-first _ _ (asks-node _ _ (asks-true _ _ _ (at-yes _ (c .before .before .before .before .before .before .current-kind .ensures) (c .before .before .before .before .before .if1 .taken)) (asks-is atom-here-is (asks-then _ _ (asks-is step-atom-is (asks-step Atom (c .before .before .before .before .before .before .before .before .before .before .before .before .before .before .before .pre .1))) (c .before .before .before .before .before .before .before .before .before .eat-ws .ensures _)))) (c .before .before .before .start-node .ensures))) .fits
+parse-atom-bump-requires t c κs = (asks-first _ _ (asks-node _ _ (asks-true _ _ _ (at-yes _ (c .before .before .before .before .before .before .current-kind .ensures) (c .before .before .before .before .before .if1 .taken)) (asks-is atom-here-is (asks-then _ _ (asks-is step-atom-is (asks-step Atom (c .before .before .before .before .before .before .before .before .before .before .before .before .before .before .before .pre .1 .0))) (c .before .before .before .before .before .before .before .before .before .eat-ws .ensures _)))) (c .before .before .before .start-node .ensures))) .fits
 
 parse-atom-add-parse-atom : (t : ℕ) → parse-atom-lts.Need-add-parse-atom (parse-atom-calls t) (parse-atom-at t) parse-atom.Post
-parse-atom-add-parse-atom t c = record { fits = node-level _ _ (asks-true _ _ _ (at-yes _ (c .before .before .before .before .before .before .before .before .before .before .before .current-kind .ensures) (c .before .before .before .before .before .before .before .before .before .before .if1 .taken)) (asks-is atom-here-is (asks-then _ _ (asks-is step-atom-is (asks-step Atom (c .before .before .before .before .before .before .before .before .before .before .before .before .before .before .before .before .before .before .before .before .pre .1))) (c .before .before .before .before .before .before .before .before .before .before .before .before .before .before .eat-ws .ensures _)))) }
+parse-atom-add-parse-atom t c = record { fits = node-level _ _ (asks-true _ _ _ (at-yes _ (c .before .before .before .before .before .before .before .before .before .before .before .current-kind .ensures) (c .before .before .before .before .before .before .before .before .before .before .if1 .taken)) (asks-is atom-here-is (asks-then _ _ (asks-is step-atom-is (asks-step Atom (c .before .before .before .before .before .before .before .before .before .before .before .before .before .before .before .before .before .before .before .before .pre .1 .0))) (c .before .before .before .before .before .before .before .before .before .before .before .before .before .before .eat-ws .ensures _)))) }
 
 parse-atom-parse-atom-requires : (t : ℕ) → parse-atom-lts.Need-parse-atom-requires (parse-atom-calls t) (parse-atom-at t) parse-atom.Post
-parse-atom-parse-atom-requires t c κs = (omega (arith, c .before .before .before .before .before .before .before .before .before .before .before .before .before .before .before .before .before .before .before .before .pre .0, c .before .before .before .before .before .before .before .before .before .before .before .before .before .before .before .before .before .before .before .before .pre .1 .fits .ready .within, table-length (c .before .before .before .before .before .before .before .before .before .before .before .before .before .before .before .before .before .before .before .before .pre .1 .fits .ready), bump-inside 16 (λ e. omega arith) (sym (c .before .before .before .before .before .before .before .before .before .before .before .current-kind .ensures) ∙ c .before .before .before .before .before .before .before .before .before .before .if1 .taken) (c .before .before .before .before .before .before .before .before .start-node .ensures) (c .before .before .before .before .bump .ensures []), c .before .before .before .before .bump .ensures [] .wrote .within, c .before .before .before .before .before .before .before .before .before .before .before .before .before .before .eat-ws .ensures [] .wrote .ahead), (asks-then _ _ (asks-node _ _ (asks-true _ _ _ (at-yes _ (c .before .before .before .before .before .before .before .before .before .before .before .current-kind .ensures) (c .before .before .before .before .before .before .before .before .before .before .if1 .taken)) (asks-is atom-here-is (asks-then _ _ (asks-is step-atom-is (asks-step Atom (c .before .before .before .before .before .before .before .before .before .before .before .before .before .before .before .before .before .before .before .before .pre .1))) (c .before .before .before .before .before .before .before .before .before .before .before .before .before .before .eat-ws .ensures _)))) (c .before .before .before .before .before .before .before .before .start-node .ensures)) (c .before .before .before .before .bump .ensures _)))
+parse-atom-parse-atom-requires t c κs = (omega (arith, c .before .before .before .before .before .before .before .before .before .before .before .before .before .before .before .before .before .before .before .before .pre .0, c .before .before .before .before .before .before .before .before .before .before .before .before .before .before .before .before .before .before .before .before .pre .1 .0 .fits .ready .within, table-length (c .before .before .before .before .before .before .before .before .before .before .before .before .before .before .before .before .before .before .before .before .pre .1 .0 .fits .ready), bump-inside 16 (λ e. omega arith) (sym (c .before .before .before .before .before .before .before .before .before .before .before .current-kind .ensures) ∙ c .before .before .before .before .before .before .before .before .before .before .if1 .taken) (c .before .before .before .before .before .before .before .before .start-node .ensures) (c .before .before .before .before .bump .ensures []), c .before .before .before .before .bump .ensures [] .wrote .within, c .before .before .before .before .before .before .before .before .before .before .before .before .before .before .eat-ws .ensures [] .wrote .ahead), (asks-then _ _ (asks-node _ _ (asks-true _ _ _ (at-yes _ (c .before .before .before .before .before .before .before .before .before .before .before .current-kind .ensures) (c .before .before .before .before .before .before .before .before .before .before .if1 .taken)) (asks-is atom-here-is (asks-then _ _ (asks-is step-atom-is (asks-step Atom (c .before .before .before .before .before .before .before .before .before .before .before .before .before .before .before .before .before .before .before .before .pre .1 .0))) (c .before .before .before .before .before .before .before .before .before .before .before .before .before .before .eat-ws .ensures _)))) (c .before .before .before .before .before .before .before .before .start-node .ensures)) (c .before .before .before .before .bump .ensures _), c .before .before .before .before .before .before .before .before .before .before .before .before .before .before .before .before .before .before .before .before .pre .1 .1))
 
 parse-atom-finish-node-requires : (t : ℕ) → parse-atom-lts.Need-finish-node-requires (parse-atom-calls t) (parse-atom-at t) parse-atom.Post
-parse-atom-finish-node-requires t c κs = finish-room (node-room _ _ (asks-true _ _ _ (at-yes _ (c .before .before .before .before .before .before .before .before .before .before .before .before .before .before .before .before .before .current-kind .ensures) (c .before .before .before .before .before .before .before .before .before .before .before .before .before .before .before .before .if1 .taken)) (asks-is atom-here-is (asks-then _ _ (asks-is step-atom-is (asks-step Atom (c .before .before .before .before .before .before .before .before .before .before .before .before .before .before .before .before .before .before .before .before .before .before .before .before .before .before .pre .1))) (c .before .before .before .before .before .before .before .before .before .before .before .before .before .before .before .before .before .before .before .before .eat-ws .ensures _))))) (c .before .before .before .before .before .before .before .before .before .before .before .before .before .before .start-node .ensures) (did-then (c .before .before .before .before .before .before .before .before .before .before .bump .ensures _) (c .before .before .before .before .before .parse-atom .ensures))
+parse-atom-finish-node-requires t c κs = finish-room (node-room _ _ (asks-true _ _ _ (at-yes _ (c .before .before .before .before .before .before .before .before .before .before .before .before .before .before .before .before .before .current-kind .ensures) (c .before .before .before .before .before .before .before .before .before .before .before .before .before .before .before .before .if1 .taken)) (asks-is atom-here-is (asks-then _ _ (asks-is step-atom-is (asks-step Atom (c .before .before .before .before .before .before .before .before .before .before .before .before .before .before .before .before .before .before .before .before .before .before .before .before .before .before .pre .1 .0))) (c .before .before .before .before .before .before .before .before .before .before .before .before .before .before .before .before .before .before .before .before .eat-ws .ensures _))))) (c .before .before .before .before .before .before .before .before .before .before .before .before .before .before .start-node .ensures) (did-then (c .before .before .before .before .before .before .before .before .before .before .bump .ensures _) (c .before .before .before .before .before .parse-atom .ensures))
 
 parse-atom-same-length : (t : ℕ) → parse-atom-lts.Need-same-length (parse-atom-calls t) (parse-atom-at t) parse-atom.Post
 parse-atom-same-length t c = finished-long (c .before .before .finish-node .ensures) ∙ tree-long (did-then (c .before .before .before .before .before .before .before .before .before .before .before .before .before .bump .ensures _) (c .before .before .before .before .before .before .before .before .parse-atom .ensures)) ∙ started-long (c .before .before .before .before .before .before .before .before .before .before .before .before .before .before .before .before .before .start-node .ensures) ∙ tree-long (c .before .before .before .before .before .before .before .before .before .before .before .before .before .before .before .before .before .before .before .before .before .before .before .eat-ws .ensures [])
@@ -247,28 +247,28 @@ parse-atom-returns : (t : ℕ) → parse-atom-lts.Need-returns (parse-atom-calls
 parse-atom-returns t c = did-step Atom (did-is step-atom-is (did-then (c .before .before .before .before .before .before .before .before .before .before .before .before .before .before .before .before .before .before .before .before .before .before .before .eat-ws .ensures _) (did-is atom-here-is (did-true _ _ _ (at-yes _ (c .before .before .before .before .before .before .before .before .before .before .before .before .before .before .before .before .before .before .before .before .current-kind .ensures) (c .before .before .before .before .before .before .before .before .before .before .before .before .before .before .before .before .before .before .before .if1 .taken)) (did-node (c .before .before .before .before .before .before .before .before .before .before .before .before .before .before .before .before .before .start-node .ensures) (did-then (c .before .before .before .before .before .before .before .before .before .before .before .before .before .bump .ensures _) (c .before .before .before .before .before .before .before .before .parse-atom .ensures)) (c .before .before .finish-node .ensures))))))
 
 parse-atom-start-node-requires-2 : (t : ℕ) → parse-atom-lts.Need-start-node-requires-2 (parse-atom-calls t) (parse-atom-at t) parse-atom.Post
-parse-atom-start-node-requires-2 t c κs = node-room _ _ (asks-true _ _ _ (at-yes _ (c .before .before .before .current-kind .ensures) (c .before .if2 .taken)) (asks-false _ _ _ (at-no _ (c .before .before .before .current-kind .ensures) (c .before .before .if1 .left)) (asks-is atom-here-is (asks-then _ _ (asks-is step-atom-is (asks-step Atom (c .before .before .before .before .before .before .before .before .before .before .before .before .pre .1))) (c .before .before .before .before .before .before .eat-ws .ensures _)))))
+parse-atom-start-node-requires-2 t c κs = node-room _ _ (asks-true _ _ _ (at-yes _ (c .before .before .before .current-kind .ensures) (c .before .if2 .taken)) (asks-false _ _ _ (at-no _ (c .before .before .before .current-kind .ensures) (c .before .before .if1 .left)) (asks-is atom-here-is (asks-then _ _ (asks-is step-atom-is (asks-step Atom (c .before .before .before .before .before .before .before .before .before .before .before .before .pre .1 .0))) (c .before .before .before .before .before .before .eat-ws .ensures _)))))
 
 parse-atom-add-bump-2 : (t : ℕ) → parse-atom-lts.Need-add-bump-2 (parse-atom-calls t) (parse-atom-at t) parse-atom.Post
-parse-atom-add-bump-2 t c = record { fits = node-level _ _ (asks-true _ _ _ (at-yes _ (c .before .before .before .before .before .before .before .current-kind .ensures) (c .before .before .before .before .before .if2 .taken)) (asks-false _ _ _ (at-no _ (c .before .before .before .before .before .before .before .current-kind .ensures) (c .before .before .before .before .before .before .if1 .left)) (asks-is atom-here-is (asks-then _ _ (asks-is step-atom-is (asks-step Atom (c .before .before .before .before .before .before .before .before .before .before .before .before .before .before .before .before .pre .1))) (c .before .before .before .before .before .before .before .before .before .before .eat-ws .ensures _))))) }
+parse-atom-add-bump-2 t c = record { fits = node-level _ _ (asks-true _ _ _ (at-yes _ (c .before .before .before .before .before .before .before .current-kind .ensures) (c .before .before .before .before .before .if2 .taken)) (asks-false _ _ _ (at-no _ (c .before .before .before .before .before .before .before .current-kind .ensures) (c .before .before .before .before .before .before .if1 .left)) (asks-is atom-here-is (asks-then _ _ (asks-is step-atom-is (asks-step Atom (c .before .before .before .before .before .before .before .before .before .before .before .before .before .before .before .before .pre .1 .0))) (c .before .before .before .before .before .before .before .before .before .before .eat-ws .ensures _))))) }
 
 parse-atom-bump-requires-2 : (t : ℕ) → parse-atom-lts.Need-bump-requires-2 (parse-atom-calls t) (parse-atom-at t) parse-atom.Post
-parse-atom-bump-requires-2 t c κs = (asks-first _ _ (asks-first _ _ (asks-node _ _ (asks-true _ _ _ (at-yes _ (c .before .before .before .before .before .before .before .current-kind .ensures) (c .before .before .before .before .before .if2 .taken)) (asks-false _ _ _ (at-no _ (c .before .before .before .before .before .before .before .current-kind .ensures) (c .before .before .before .before .before .before .if1 .left)) (asks-is atom-here-is (asks-then _ _ (asks-is step-atom-is (asks-step Atom (c .before .before .before .before .before .before .before .before .before .before .before .before .before .before .before .before .pre .1))) (c .before .before .before .before .before .before .before .before .before .before .eat-ws .ensures _))))) (c .before .before .before .start-node2 .ensures)))) .fits
+parse-atom-bump-requires-2 t c κs = (asks-first _ _ (asks-first _ _ (asks-node _ _ (asks-true _ _ _ (at-yes _ (c .before .before .before .before .before .before .before .current-kind .ensures) (c .before .before .before .before .before .if2 .taken)) (asks-false _ _ _ (at-no _ (c .before .before .before .before .before .before .before .current-kind .ensures) (c .before .before .before .before .before .before .if1 .left)) (asks-is atom-here-is (asks-then _ _ (asks-is step-atom-is (asks-step Atom (c .before .before .before .before .before .before .before .before .before .before .before .before .before .before .before .before .pre .1 .0))) (c .before .before .before .before .before .before .before .before .before .before .eat-ws .ensures _))))) (c .before .before .before .start-node2 .ensures)))) .fits
 
 parse-atom-add-parse-or-expr : (t : ℕ) → parse-atom-lts.Need-add-parse-or-expr (parse-atom-calls t) (parse-atom-at t) parse-atom.Post
-parse-atom-add-parse-or-expr t c = record { fits = node-level _ _ (asks-true _ _ _ (at-yes _ (c .before .before .before .before .before .before .before .before .before .before .before .before .current-kind .ensures) (c .before .before .before .before .before .before .before .before .before .before .if2 .taken)) (asks-false _ _ _ (at-no _ (c .before .before .before .before .before .before .before .before .before .before .before .before .current-kind .ensures) (c .before .before .before .before .before .before .before .before .before .before .before .if1 .left)) (asks-is atom-here-is (asks-then _ _ (asks-is step-atom-is (asks-step Atom (c .before .before .before .before .before .before .before .before .before .before .before .before .before .before .before .before .before .before .before .before .before .pre .1))) (c .before .before .before .before .before .before .before .before .before .before .before .before .before .before .before .eat-ws .ensures _))))) }
+parse-atom-add-parse-or-expr t c = record { fits = node-level _ _ (asks-true _ _ _ (at-yes _ (c .before .before .before .before .before .before .before .before .before .before .before .before .current-kind .ensures) (c .before .before .before .before .before .before .before .before .before .before .if2 .taken)) (asks-false _ _ _ (at-no _ (c .before .before .before .before .before .before .before .before .before .before .before .before .current-kind .ensures) (c .before .before .before .before .before .before .before .before .before .before .before .if1 .left)) (asks-is atom-here-is (asks-then _ _ (asks-is step-atom-is (asks-step Atom (c .before .before .before .before .before .before .before .before .before .before .before .before .before .before .before .before .before .before .before .before .before .pre .1 .0))) (c .before .before .before .before .before .before .before .before .before .before .before .before .before .before .before .eat-ws .ensures _))))) }
 
 parse-atom-parse-or-expr-requires : (t : ℕ) → parse-atom-lts.Need-parse-or-expr-requires (parse-atom-calls t) (parse-atom-at t) parse-atom.Post
-parse-atom-parse-or-expr-requires t c κs = (omega (arith, c .before .before .before .before .before .before .before .before .before .before .before .before .before .before .before .before .before .before .before .before .before .pre .0, c .before .before .before .before .before .before .before .before .before .before .before .before .before .before .before .before .before .before .before .before .before .pre .1 .fits .ready .within, table-length (c .before .before .before .before .before .before .before .before .before .before .before .before .before .before .before .before .before .before .before .before .before .pre .1 .fits .ready), bump-inside 4 (λ e. omega arith) (sym (c .before .before .before .before .before .before .before .before .before .before .before .before .current-kind .ensures) ∙ c .before .before .before .before .before .before .before .before .before .before .if2 .taken) (c .before .before .before .before .before .before .before .before .start-node2 .ensures) (c .before .before .before .before .bump2 .ensures []), c .before .before .before .before .bump2 .ensures [] .wrote .within, c .before .before .before .before .before .before .before .before .before .before .before .before .before .before .before .eat-ws .ensures [] .wrote .ahead), (asks-then _ _ (asks-first _ _ (asks-node _ _ (asks-true _ _ _ (at-yes _ (c .before .before .before .before .before .before .before .before .before .before .before .before .current-kind .ensures) (c .before .before .before .before .before .before .before .before .before .before .if2 .taken)) (asks-false _ _ _ (at-no _ (c .before .before .before .before .before .before .before .before .before .before .before .before .current-kind .ensures) (c .before .before .before .before .before .before .before .before .before .before .before .if1 .left)) (asks-is atom-here-is (asks-then _ _ (asks-is step-atom-is (asks-step Atom (c .before .before .before .before .before .before .before .before .before .before .before .before .before .before .before .before .before .before .before .before .before .pre .1))) (c .before .before .before .before .before .before .before .before .before .before .before .before .before .before .before .eat-ws .ensures _))))) (c .before .before .before .before .before .before .before .before .start-node2 .ensures))) (c .before .before .before .before .bump2 .ensures _)))
+parse-atom-parse-or-expr-requires t c κs = (omega (arith, c .before .before .before .before .before .before .before .before .before .before .before .before .before .before .before .before .before .before .before .before .before .pre .0, c .before .before .before .before .before .before .before .before .before .before .before .before .before .before .before .before .before .before .before .before .before .pre .1 .0 .fits .ready .within, table-length (c .before .before .before .before .before .before .before .before .before .before .before .before .before .before .before .before .before .before .before .before .before .pre .1 .0 .fits .ready), bump-inside 4 (λ e. omega arith) (sym (c .before .before .before .before .before .before .before .before .before .before .before .before .current-kind .ensures) ∙ c .before .before .before .before .before .before .before .before .before .before .if2 .taken) (c .before .before .before .before .before .before .before .before .start-node2 .ensures) (c .before .before .before .before .bump2 .ensures []), c .before .before .before .before .bump2 .ensures [] .wrote .within, c .before .before .before .before .before .before .before .before .before .before .before .before .before .before .before .eat-ws .ensures [] .wrote .ahead), (asks-then _ _ (asks-first _ _ (asks-node _ _ (asks-true _ _ _ (at-yes _ (c .before .before .before .before .before .before .before .before .before .before .before .before .current-kind .ensures) (c .before .before .before .before .before .before .before .before .before .before .if2 .taken)) (asks-false _ _ _ (at-no _ (c .before .before .before .before .before .before .before .before .before .before .before .before .current-kind .ensures) (c .before .before .before .before .before .before .before .before .before .before .before .if1 .left)) (asks-is atom-here-is (asks-then _ _ (asks-is step-atom-is (asks-step Atom (c .before .before .before .before .before .before .before .before .before .before .before .before .before .before .before .before .before .before .before .before .before .pre .1 .0))) (c .before .before .before .before .before .before .before .before .before .before .before .before .before .before .before .eat-ws .ensures _))))) (c .before .before .before .before .before .before .before .before .start-node2 .ensures))) (c .before .before .before .before .bump2 .ensures _), c .before .before .before .before .before .before .before .before .before .before .before .before .before .before .before .before .before .before .before .before .before .pre .1 .1))
 
 parse-atom-add-expect : (t : ℕ) → parse-atom-lts.Need-add-expect (parse-atom-calls t) (parse-atom-at t) parse-atom.Post
-parse-atom-add-expect t c = record { fits = node-level _ _ (asks-true _ _ _ (at-yes _ (c .before .before .before .before .before .before .before .before .before .before .before .before .before .before .before .before .before .before .before .current-kind .ensures) (c .before .before .before .before .before .before .before .before .before .before .before .before .before .before .before .before .before .if2 .taken)) (asks-false _ _ _ (at-no _ (c .before .before .before .before .before .before .before .before .before .before .before .before .before .before .before .before .before .before .before .current-kind .ensures) (c .before .before .before .before .before .before .before .before .before .before .before .before .before .before .before .before .before .before .if1 .left)) (asks-is atom-here-is (asks-then _ _ (asks-is step-atom-is (asks-step Atom (c .before .before .before .before .before .before .before .before .before .before .before .before .before .before .before .before .before .before .before .before .before .before .before .before .before .before .before .before .pre .1))) (c .before .before .before .before .before .before .before .before .before .before .before .before .before .before .before .before .before .before .before .before .before .before .eat-ws .ensures _))))) }
+parse-atom-add-expect t c = record { fits = node-level _ _ (asks-true _ _ _ (at-yes _ (c .before .before .before .before .before .before .before .before .before .before .before .before .before .before .before .before .before .before .before .current-kind .ensures) (c .before .before .before .before .before .before .before .before .before .before .before .before .before .before .before .before .before .if2 .taken)) (asks-false _ _ _ (at-no _ (c .before .before .before .before .before .before .before .before .before .before .before .before .before .before .before .before .before .before .before .current-kind .ensures) (c .before .before .before .before .before .before .before .before .before .before .before .before .before .before .before .before .before .before .if1 .left)) (asks-is atom-here-is (asks-then _ _ (asks-is step-atom-is (asks-step Atom (c .before .before .before .before .before .before .before .before .before .before .before .before .before .before .before .before .before .before .before .before .before .before .before .before .before .before .before .before .pre .1 .0))) (c .before .before .before .before .before .before .before .before .before .before .before .before .before .before .before .before .before .before .before .before .before .before .eat-ws .ensures _))))) }
 
 parse-atom-expect-requires : (t : ℕ) → parse-atom-lts.Need-expect-requires (parse-atom-calls t) (parse-atom-at t) parse-atom.Post
-parse-atom-expect-requires t c κs = (asks-then _ _ (asks-node _ _ (asks-true _ _ _ (at-yes _ (c .before .before .before .before .before .before .before .before .before .before .before .before .before .before .before .before .before .before .before .current-kind .ensures) (c .before .before .before .before .before .before .before .before .before .before .before .before .before .before .before .before .before .if2 .taken)) (asks-false _ _ _ (at-no _ (c .before .before .before .before .before .before .before .before .before .before .before .before .before .before .before .before .before .before .before .current-kind .ensures) (c .before .before .before .before .before .before .before .before .before .before .before .before .before .before .before .before .before .before .if1 .left)) (asks-is atom-here-is (asks-then _ _ (asks-is step-atom-is (asks-step Atom (c .before .before .before .before .before .before .before .before .before .before .before .before .before .before .before .before .before .before .before .before .before .before .before .before .before .before .before .before .pre .1))) (c .before .before .before .before .before .before .before .before .before .before .before .before .before .before .before .before .before .before .before .before .before .before .eat-ws .ensures _))))) (c .before .before .before .before .before .before .before .before .before .before .before .before .before .before .before .start-node2 .ensures)) (did-then (c .before .before .before .before .before .before .before .before .before .before .before .bump2 .ensures _) (c .before .before .before .before .before .before .parse-or-expr .ensures)))
+parse-atom-expect-requires t c κs = (asks-then _ _ (asks-node _ _ (asks-true _ _ _ (at-yes _ (c .before .before .before .before .before .before .before .before .before .before .before .before .before .before .before .before .before .before .before .current-kind .ensures) (c .before .before .before .before .before .before .before .before .before .before .before .before .before .before .before .before .before .if2 .taken)) (asks-false _ _ _ (at-no _ (c .before .before .before .before .before .before .before .before .before .before .before .before .before .before .before .before .before .before .before .current-kind .ensures) (c .before .before .before .before .before .before .before .before .before .before .before .before .before .before .before .before .before .before .if1 .left)) (asks-is atom-here-is (asks-then _ _ (asks-is step-atom-is (asks-step Atom (c .before .before .before .before .before .before .before .before .before .before .before .before .before .before .before .before .before .before .before .before .before .before .before .before .before .before .before .before .pre .1 .0))) (c .before .before .before .before .before .before .before .before .before .before .before .before .before .before .before .before .before .before .before .before .before .before .eat-ws .ensures _))))) (c .before .before .before .before .before .before .before .before .before .before .before .before .before .before .before .start-node2 .ensures)) (did-then (c .before .before .before .before .before .before .before .before .before .before .before .bump2 .ensures _) (c .before .before .before .before .before .before .parse-or-expr .ensures)))
 
 parse-atom-finish-node-requires-2 : (t : ℕ) → parse-atom-lts.Need-finish-node-requires-2 (parse-atom-calls t) (parse-atom-at t) parse-atom.Post
-parse-atom-finish-node-requires-2 t c κs = finish-room (node-room _ _ (asks-true _ _ _ (at-yes _ (c .before .before .before .before .before .before .before .before .before .before .before .before .before .before .before .before .before .before .before .before .before .before .before .before .before .current-kind .ensures) (c .before .before .before .before .before .before .before .before .before .before .before .before .before .before .before .before .before .before .before .before .before .before .before .if2 .taken)) (asks-false _ _ _ (at-no _ (c .before .before .before .before .before .before .before .before .before .before .before .before .before .before .before .before .before .before .before .before .before .before .before .before .before .current-kind .ensures) (c .before .before .before .before .before .before .before .before .before .before .before .before .before .before .before .before .before .before .before .before .before .before .before .before .if1 .left)) (asks-is atom-here-is (asks-then _ _ (asks-is step-atom-is (asks-step Atom (c .before .before .before .before .before .before .before .before .before .before .before .before .before .before .before .before .before .before .before .before .before .before .before .before .before .before .before .before .before .before .before .before .before .before .pre .1))) (c .before .before .before .before .before .before .before .before .before .before .before .before .before .before .before .before .before .before .before .before .before .before .before .before .before .before .before .before .eat-ws .ensures _)))))) (c .before .before .before .before .before .before .before .before .before .before .before .before .before .before .before .before .before .before .before .before .before .start-node2 .ensures) (did-then (did-then (c .before .before .before .before .before .before .before .before .before .before .before .before .before .before .before .before .before .bump2 .ensures _) (c .before .before .before .before .before .before .before .before .before .before .before .before .parse-or-expr .ensures)) (c .before .before .before .before .before .expect .ensures))
+parse-atom-finish-node-requires-2 t c κs = finish-room (node-room _ _ (asks-true _ _ _ (at-yes _ (c .before .before .before .before .before .before .before .before .before .before .before .before .before .before .before .before .before .before .before .before .before .before .before .before .before .current-kind .ensures) (c .before .before .before .before .before .before .before .before .before .before .before .before .before .before .before .before .before .before .before .before .before .before .before .if2 .taken)) (asks-false _ _ _ (at-no _ (c .before .before .before .before .before .before .before .before .before .before .before .before .before .before .before .before .before .before .before .before .before .before .before .before .before .current-kind .ensures) (c .before .before .before .before .before .before .before .before .before .before .before .before .before .before .before .before .before .before .before .before .before .before .before .before .if1 .left)) (asks-is atom-here-is (asks-then _ _ (asks-is step-atom-is (asks-step Atom (c .before .before .before .before .before .before .before .before .before .before .before .before .before .before .before .before .before .before .before .before .before .before .before .before .before .before .before .before .before .before .before .before .before .before .pre .1 .0))) (c .before .before .before .before .before .before .before .before .before .before .before .before .before .before .before .before .before .before .before .before .before .before .before .before .before .before .before .before .eat-ws .ensures _)))))) (c .before .before .before .before .before .before .before .before .before .before .before .before .before .before .before .before .before .before .before .before .before .start-node2 .ensures) (did-then (did-then (c .before .before .before .before .before .before .before .before .before .before .before .before .before .before .before .before .before .bump2 .ensures _) (c .before .before .before .before .before .before .before .before .before .before .before .before .parse-or-expr .ensures)) (c .before .before .before .before .before .expect .ensures))
 
 parse-atom-same-length-3 : (t : ℕ) → parse-atom-lts.Need-same-length-3 (parse-atom-calls t) (parse-atom-at t) parse-atom.Post
 parse-atom-same-length-3 t c = finished-long (c .before .before .finish-node2 .ensures) ∙ tree-long (did-then (did-then (c .before .before .before .before .before .before .before .before .before .before .before .before .before .before .before .before .before .before .before .before .bump2 .ensures _) (c .before .before .before .before .before .before .before .before .before .before .before .before .before .before .before .parse-or-expr .ensures)) (c .before .before .before .before .before .before .before .before .expect .ensures)) ∙ started-long (c .before .before .before .before .before .before .before .before .before .before .before .before .before .before .before .before .before .before .before .before .before .before .before .before .start-node2 .ensures) ∙ tree-long (c .before .before .before .before .before .before .before .before .before .before .before .before .before .before .before .before .before .before .before .before .before .before .before .before .before .before .before .before .before .before .before .eat-ws .ensures [])
@@ -280,7 +280,7 @@ parse-atom-returns-2 : (t : ℕ) → parse-atom-lts.Need-returns-2 (parse-atom-c
 parse-atom-returns-2 t c = did-step Atom (did-is step-atom-is (did-then (c .before .before .before .before .before .before .before .before .before .before .before .before .before .before .before .before .before .before .before .before .before .before .before .before .before .before .before .before .before .before .before .eat-ws .ensures _) (did-is atom-here-is (did-false _ _ _ (at-no _ (c .before .before .before .before .before .before .before .before .before .before .before .before .before .before .before .before .before .before .before .before .before .before .before .before .before .before .before .before .current-kind .ensures) (c .before .before .before .before .before .before .before .before .before .before .before .before .before .before .before .before .before .before .before .before .before .before .before .before .before .before .before .if1 .left)) (did-true _ _ _ (at-yes _ (c .before .before .before .before .before .before .before .before .before .before .before .before .before .before .before .before .before .before .before .before .before .before .before .before .before .before .before .before .current-kind .ensures) (c .before .before .before .before .before .before .before .before .before .before .before .before .before .before .before .before .before .before .before .before .before .before .before .before .before .before .if2 .taken)) (did-node (c .before .before .before .before .before .before .before .before .before .before .before .before .before .before .before .before .before .before .before .before .before .before .before .before .start-node2 .ensures) (did-then (did-then (c .before .before .before .before .before .before .before .before .before .before .before .before .before .before .before .before .before .before .before .before .bump2 .ensures _) (c .before .before .before .before .before .before .before .before .before .before .before .before .before .before .before .parse-or-expr .ensures)) (c .before .before .before .before .before .before .before .before .expect .ensures)) (c .before .before .finish-node2 .ensures)))))))
 
 parse-atom-simple-atom-requires : (t : ℕ) → parse-atom-lts.Need-simple-atom-requires (parse-atom-calls t) (parse-atom-at t) parse-atom.Post
-parse-atom-simple-atom-requires t c κs = (asks-false _ _ _ (at-no _ (c .before .before .before .before .current-kind .ensures) (c .before .before .if2 .left)) (asks-false _ _ _ (at-no _ (c .before .before .before .before .current-kind .ensures) (c .before .before .before .if1 .left)) (asks-is atom-here-is (asks-then _ _ (asks-is step-atom-is (asks-step Atom (c .before .before .before .before .before .before .before .before .before .before .before .before .before .pre .1))) (c .before .before .before .before .before .before .before .eat-ws .ensures _)))))
+parse-atom-simple-atom-requires t c κs = (asks-false _ _ _ (at-no _ (c .before .before .before .before .current-kind .ensures) (c .before .before .if2 .left)) (asks-false _ _ _ (at-no _ (c .before .before .before .before .current-kind .ensures) (c .before .before .before .if1 .left)) (asks-is atom-here-is (asks-then _ _ (asks-is step-atom-is (asks-step Atom (c .before .before .before .before .before .before .before .before .before .before .before .before .before .pre .1 .0))) (c .before .before .before .before .before .before .before .eat-ws .ensures _)))))
 
 parse-atom-same-length-5 : (t : ℕ) → parse-atom-lts.Need-same-length-5 (parse-atom-calls t) (parse-atom-at t) parse-atom.Post
 parse-atom-same-length-5 t c = tree-long (c .before .before .before .before .simple-atom .ensures) ∙ tree-long (c .before .before .before .before .before .before .before .before .before .before .before .before .eat-ws .ensures [])
@@ -292,25 +292,25 @@ parse-atom-returns-3 : (t : ℕ) → parse-atom-lts.Need-returns-3 (parse-atom-c
 parse-atom-returns-3 t c = did-step Atom (did-is step-atom-is (did-then (c .before .before .before .before .before .before .before .before .before .before .before .before .eat-ws .ensures _) (did-is atom-here-is (did-false _ _ _ (at-no _ (c .before .before .before .before .before .before .before .before .before .current-kind .ensures) (c .before .before .before .before .before .before .before .before .if1 .left)) (did-false _ _ _ (at-no _ (c .before .before .before .before .before .before .before .before .before .current-kind .ensures) (c .before .before .before .before .before .before .before .if2 .left)) (c .before .before .before .before .simple-atom .ensures))))))
 
 parse-or-expr-has-binary-op-at-level-requires : (t : ℕ) → parse-or-expr-lts.Need-has-binary-op-at-level-requires (parse-or-expr-calls t) (parse-or-expr-at t) parse-or-expr.Post
-parse-or-expr-has-binary-op-at-level-requires t c κs = c .before .before .before .before .pre .1 .fits .ready
+parse-or-expr-has-binary-op-at-level-requires t c κs = (c .before .before .before .before .pre .1 .0 .fits .ready, c .before .before .before .before .pre .1 .1 .ors)
 
 parse-or-expr-start-node-requires : (t : ℕ) → parse-or-expr-lts.Need-start-node-requires (parse-or-expr-calls t) (parse-or-expr-at t) parse-or-expr.Post
-parse-or-expr-start-node-requires t c κs = node-room _ _ (asks-true _ _ _ (sym (c .before .before .has-binary-op-at-level .ensures) ∙ c .before .if1 .taken) (asks-is step-or-is (asks-step OrExpr (c .before .before .before .before .before .before .before .pre .1))))
+parse-or-expr-start-node-requires t c κs = node-room _ _ (asks-true _ _ _ (sym (c .before .before .has-binary-op-at-level .ensures) ∙ c .before .if1 .taken) (asks-is step-or-is (asks-step OrExpr (c .before .before .before .before .before .before .before .pre .1 .0))))
 
 parse-or-expr-add-parse-and-expr : (t : ℕ) → parse-or-expr-lts.Need-add-parse-and-expr (parse-or-expr-calls t) (parse-or-expr-at t) parse-or-expr.Post
-parse-or-expr-add-parse-and-expr t c = record { fits = node-level _ _ (asks-true _ _ _ (sym (c .before .before .before .before .before .before .before .has-binary-op-at-level .ensures) ∙ c .before .before .before .before .before .before .if1 .taken) (asks-is step-or-is (asks-step OrExpr (c .before .before .before .before .before .before .before .before .before .before .before .before .pre .1)))) }
+parse-or-expr-add-parse-and-expr t c = record { fits = node-level _ _ (asks-true _ _ _ (sym (c .before .before .before .before .before .before .before .has-binary-op-at-level .ensures) ∙ c .before .before .before .before .before .before .if1 .taken) (asks-is step-or-is (asks-step OrExpr (c .before .before .before .before .before .before .before .before .before .before .before .before .pre .1 .0)))) }
 
 parse-or-expr-parse-and-expr-requires : (t : ℕ) → parse-or-expr-lts.Need-parse-and-expr-requires (parse-or-expr-calls t) (parse-or-expr-at t) parse-or-expr.Post
-parse-or-expr-parse-and-expr-requires t c κs = (omega (arith, c .before .before .before .before .before .before .before .before .before .before .before .before .pre .0, c .before .before .before .before .before .before .before .before .before .before .before .before .pre .1 .fits .ready .within, table-length (c .before .before .before .before .before .before .before .before .before .before .before .before .pre .1 .fits .ready), started-token (c .before .before .before .before .start-node .ensures)), (asks-first _ _ (asks-node _ _ (asks-true _ _ _ (sym (c .before .before .before .before .before .before .before .has-binary-op-at-level .ensures) ∙ c .before .before .before .before .before .before .if1 .taken) (asks-is step-or-is (asks-step OrExpr (c .before .before .before .before .before .before .before .before .before .before .before .before .pre .1)))) (c .before .before .before .before .start-node .ensures))))
+parse-or-expr-parse-and-expr-requires t c κs = (omega (arith, c .before .before .before .before .before .before .before .before .before .before .before .before .pre .0, c .before .before .before .before .before .before .before .before .before .before .before .before .pre .1 .0 .fits .ready .within, table-length (c .before .before .before .before .before .before .before .before .before .before .before .before .pre .1 .0 .fits .ready), started-token (c .before .before .before .before .start-node .ensures)), (asks-first _ _ (asks-node _ _ (asks-true _ _ _ (sym (c .before .before .before .before .before .before .before .has-binary-op-at-level .ensures) ∙ c .before .before .before .before .before .before .if1 .taken) (asks-is step-or-is (asks-step OrExpr (c .before .before .before .before .before .before .before .before .before .before .before .before .pre .1 .0)))) (c .before .before .before .before .start-node .ensures)), c .before .before .before .before .before .before .before .before .before .before .before .before .pre .1 .1))
 
 parse-or-expr-add-or-rest : (t : ℕ) → parse-or-expr-lts.Need-add-or-rest (parse-or-expr-calls t) (parse-or-expr-at t) parse-or-expr.Post
-parse-or-expr-add-or-rest t c = record { fits = node-level _ _ (asks-true _ _ _ (sym (c .before .before .before .before .before .before .before .before .before .before .before .before .before .before .has-binary-op-at-level .ensures) ∙ c .before .before .before .before .before .before .before .before .before .before .before .before .before .if1 .taken) (asks-is step-or-is (asks-step OrExpr (c .before .before .before .before .before .before .before .before .before .before .before .before .before .before .before .before .before .before .before .pre .1)))) }
+parse-or-expr-add-or-rest t c = record { fits = node-level _ _ (asks-true _ _ _ (sym (c .before .before .before .before .before .before .before .before .before .before .before .before .before .before .has-binary-op-at-level .ensures) ∙ c .before .before .before .before .before .before .before .before .before .before .before .before .before .if1 .taken) (asks-is step-or-is (asks-step OrExpr (c .before .before .before .before .before .before .before .before .before .before .before .before .before .before .before .before .before .before .before .pre .1 .0)))) }
 
 parse-or-expr-or-rest-requires : (t : ℕ) → parse-or-expr-lts.Need-or-rest-requires (parse-or-expr-calls t) (parse-or-expr-at t) parse-or-expr.Post
-parse-or-expr-or-rest-requires t c κs = (omega (arith, c .before .before .before .before .before .before .before .before .before .before .before .before .before .before .before .before .before .before .before .pre .0, c .before .before .before .before .before .before .before .before .before .before .before .before .before .before .before .before .before .before .before .pre .1 .fits .ready .within, table-length (c .before .before .before .before .before .before .before .before .before .before .before .before .before .before .before .before .before .before .before .pre .1 .fits .ready), started-token (c .before .before .before .before .before .before .before .before .before .before .before .start-node .ensures), c .before .before .before .before .before .before .parse-and-expr .ensures .wrote .ahead, c .before .before .before .before .before .before .parse-and-expr .ensures .wrote .within), (asks-then _ _ (asks-node _ _ (asks-true _ _ _ (sym (c .before .before .before .before .before .before .before .before .before .before .before .before .before .before .has-binary-op-at-level .ensures) ∙ c .before .before .before .before .before .before .before .before .before .before .before .before .before .if1 .taken) (asks-is step-or-is (asks-step OrExpr (c .before .before .before .before .before .before .before .before .before .before .before .before .before .before .before .before .before .before .before .pre .1)))) (c .before .before .before .before .before .before .before .before .before .before .before .start-node .ensures)) (c .before .before .before .before .before .before .parse-and-expr .ensures)))
+parse-or-expr-or-rest-requires t c κs = (omega (arith, c .before .before .before .before .before .before .before .before .before .before .before .before .before .before .before .before .before .before .before .pre .0, c .before .before .before .before .before .before .before .before .before .before .before .before .before .before .before .before .before .before .before .pre .1 .0 .fits .ready .within, table-length (c .before .before .before .before .before .before .before .before .before .before .before .before .before .before .before .before .before .before .before .pre .1 .0 .fits .ready), started-token (c .before .before .before .before .before .before .before .before .before .before .before .start-node .ensures), c .before .before .before .before .before .before .parse-and-expr .ensures .wrote .ahead, c .before .before .before .before .before .before .parse-and-expr .ensures .wrote .within), (asks-then _ _ (asks-node _ _ (asks-true _ _ _ (sym (c .before .before .before .before .before .before .before .before .before .before .before .before .before .before .has-binary-op-at-level .ensures) ∙ c .before .before .before .before .before .before .before .before .before .before .before .before .before .if1 .taken) (asks-is step-or-is (asks-step OrExpr (c .before .before .before .before .before .before .before .before .before .before .before .before .before .before .before .before .before .before .before .pre .1 .0)))) (c .before .before .before .before .before .before .before .before .before .before .before .start-node .ensures)) (c .before .before .before .before .before .before .parse-and-expr .ensures), c .before .before .before .before .before .before .before .before .before .before .before .before .before .before .before .before .before .before .before .pre .1 .1))
 
 parse-or-expr-finish-node-requires : (t : ℕ) → parse-or-expr-lts.Need-finish-node-requires (parse-or-expr-calls t) (parse-or-expr-at t) parse-or-expr.Post
-parse-or-expr-finish-node-requires t c κs = finish-room (node-room _ _ (asks-true _ _ _ (sym (c .before .before .before .before .before .before .before .before .before .before .before .before .before .before .before .before .before .before .before .before .has-binary-op-at-level .ensures) ∙ c .before .before .before .before .before .before .before .before .before .before .before .before .before .before .before .before .before .before .before .if1 .taken) (asks-is step-or-is (asks-step OrExpr (c .before .before .before .before .before .before .before .before .before .before .before .before .before .before .before .before .before .before .before .before .before .before .before .before .before .pre .1))))) (c .before .before .before .before .before .before .before .before .before .before .before .before .before .before .before .before .before .start-node .ensures) (did-then (c .before .before .before .before .before .before .before .before .before .before .before .before .parse-and-expr .ensures) (c .before .before .before .before .before .or-rest .ensures))
+parse-or-expr-finish-node-requires t c κs = finish-room (node-room _ _ (asks-true _ _ _ (sym (c .before .before .before .before .before .before .before .before .before .before .before .before .before .before .before .before .before .before .before .before .has-binary-op-at-level .ensures) ∙ c .before .before .before .before .before .before .before .before .before .before .before .before .before .before .before .before .before .before .before .if1 .taken) (asks-is step-or-is (asks-step OrExpr (c .before .before .before .before .before .before .before .before .before .before .before .before .before .before .before .before .before .before .before .before .before .before .before .before .before .pre .1 .0))))) (c .before .before .before .before .before .before .before .before .before .before .before .before .before .before .before .before .before .start-node .ensures) (did-then (c .before .before .before .before .before .before .before .before .before .before .before .before .parse-and-expr .ensures) (c .before .before .before .before .before .or-rest .ensures))
 
 parse-or-expr-same-length : (t : ℕ) → parse-or-expr-lts.Need-same-length (parse-or-expr-calls t) (parse-or-expr-at t) parse-or-expr.Post
 parse-or-expr-same-length t c = finished-long (c .before .before .finish-node .ensures) ∙ tree-long (did-then (c .before .before .before .before .before .before .before .before .before .before .before .before .before .before .before .parse-and-expr .ensures) (c .before .before .before .before .before .before .before .before .or-rest .ensures)) ∙ started-long (c .before .before .before .before .before .before .before .before .before .before .before .before .before .before .before .before .before .before .before .before .start-node .ensures)
@@ -322,7 +322,7 @@ parse-or-expr-returns : (t : ℕ) → parse-or-expr-lts.Need-returns (parse-or-e
 parse-or-expr-returns t c = did-step OrExpr (did-is step-or-is (did-true _ _ _ (sym (c .before .before .before .before .before .before .before .before .before .before .before .before .before .before .before .before .before .before .before .before .before .before .before .has-binary-op-at-level .ensures) ∙ c .before .before .before .before .before .before .before .before .before .before .before .before .before .before .before .before .before .before .before .before .before .before .if1 .taken) (did-node (c .before .before .before .before .before .before .before .before .before .before .before .before .before .before .before .before .before .before .before .before .start-node .ensures) (did-then (c .before .before .before .before .before .before .before .before .before .before .before .before .before .before .before .parse-and-expr .ensures) (c .before .before .before .before .before .before .before .before .or-rest .ensures)) (c .before .before .finish-node .ensures))))
 
 parse-or-expr-parse-and-expr-requires-2 : (t : ℕ) → parse-or-expr-lts.Need-parse-and-expr-requires-2 (parse-or-expr-calls t) (parse-or-expr-at t) parse-or-expr.Post
-parse-or-expr-parse-and-expr-requires-2 t c κs = (omega (arith, c .before .before .before .before .before .before .before .before .pre .0, c .before .before .before .before .before .before .before .before .pre .1 .fits .ready .within, table-length (c .before .before .before .before .before .before .before .before .pre .1 .fits .ready), c .before .before .before .before .before .before .before .before .pre .1 .fits .ready .within), (asks-false _ _ _ (sym (c .before .before .before .has-binary-op-at-level .ensures) ∙ c .before .before .if1 .left) (asks-is step-or-is (asks-step OrExpr (c .before .before .before .before .before .before .before .before .pre .1)))))
+parse-or-expr-parse-and-expr-requires-2 t c κs = (omega (arith, c .before .before .before .before .before .before .before .before .pre .0, c .before .before .before .before .before .before .before .before .pre .1 .0 .fits .ready .within, table-length (c .before .before .before .before .before .before .before .before .pre .1 .0 .fits .ready), c .before .before .before .before .before .before .before .before .pre .1 .0 .fits .ready .within), (asks-false _ _ _ (sym (c .before .before .before .has-binary-op-at-level .ensures) ∙ c .before .before .if1 .left) (asks-is step-or-is (asks-step OrExpr (c .before .before .before .before .before .before .before .before .pre .1 .0))), c .before .before .before .before .before .before .before .before .pre .1 .1))
 
 parse-or-expr-same-length-3 : (t : ℕ) → parse-or-expr-lts.Need-same-length-3 (parse-or-expr-calls t) (parse-or-expr-at t) parse-or-expr.Post
 parse-or-expr-same-length-3 t c = tree-long (c .before .before .before .before .parse-and-expr2 .ensures)

@@ -38,16 +38,16 @@ abbrev parse-calls-calls : ℕ → parse-calls-lts.Claims
 parse-calls-calls t = (eat-ws-reads.Asked, eat-ws-reads.Learnt, current-kind-reads.Asked, current-kind-reads.Learnt, parse-dot-call-reads.Asked, parse-dot-call-reads.Learnt, parse-calls-below t, parse-calls.Post)
 
 parse-calls-eat-ws-requires : (t : ℕ) → parse-calls-lts.Need-eat-ws-requires (parse-calls-calls t) (parse-calls-at t) parse-calls.Post
-parse-calls-eat-ws-requires t c κs = asks-first _ _ (asks-is step-calls-is (asks-step Calls (c .before .before .before .before .before .pre .1))) .fits
+parse-calls-eat-ws-requires t c κs = asks-first _ _ (asks-is step-calls-is (asks-step Calls (c .before .before .before .before .before .pre .1 .0))) .fits
 
 parse-calls-current-kind-requires : (t : ℕ) → parse-calls-lts.Need-current-kind-requires (parse-calls-calls t) (parse-calls-at t) parse-calls.Post
-parse-calls-current-kind-requires t c κs = (ready-then (c .before .before .eat-ws .ensures []) (c .before .before .before .before .before .before .before .before .pre .1 .fits .ready))
+parse-calls-current-kind-requires t c κs = (ready-then (c .before .before .eat-ws .ensures []) (c .before .before .before .before .before .before .before .before .pre .1 .0 .fits .ready))
 
 parse-calls-parse-dot-call-requires : (t : ℕ) → parse-calls-lts.Need-parse-dot-call-requires (parse-calls-calls t) (parse-calls-at t) parse-calls.Post
-parse-calls-parse-dot-call-requires t c κs = (asks-first _ _ (asks-true _ _ _ (at-yes _ (c .before .before .before .current-kind .ensures) (c .before .before .if1 .taken)) (asks-then _ _ (asks-is step-calls-is (asks-step Calls (c .before .before .before .before .before .before .before .before .before .before .before .before .pre .1))) (c .before .before .before .before .before .before .eat-ws .ensures _))))
+parse-calls-parse-dot-call-requires t c κs = (asks-first _ _ (asks-true _ _ _ (at-yes _ (c .before .before .before .current-kind .ensures) (c .before .before .if1 .taken)) (asks-then _ _ (asks-is step-calls-is (asks-step Calls (c .before .before .before .before .before .before .before .before .before .before .before .before .pre .1 .0))) (c .before .before .before .before .before .before .eat-ws .ensures _))), c .before .before .before .before .before .before .before .before .before .before .before .before .pre .1 .1)
 
 parse-calls-parse-calls-requires : (t : ℕ) → parse-calls-lts.Need-parse-calls-requires (parse-calls-calls t) (parse-calls-at t) parse-calls.Post
-parse-calls-parse-calls-requires t c κs = (omega (arith, c .before .before .before .before .before .before .before .before .before .before .before .before .before .before .before .before .before .before .before .pre .0, c .before .before .before .before .before .before .before .before .before .before .before .before .before .before .before .before .before .before .before .pre .1 .fits .ready .within, table-length (c .before .before .before .before .before .before .before .before .before .before .before .before .before .before .before .before .before .before .before .pre .1 .fits .ready), dot-ahead (sym (c .before .before .before .before .before .before .before .before .before .before .current-kind .ensures) ∙ c .before .before .before .before .before .before .before .before .before .if1 .taken) (c .before .before .before .before .before .before .parse-dot-call .ensures), c .before .before .before .before .before .before .parse-dot-call .ensures .wrote .within, c .before .before .before .before .before .before .before .before .before .before .before .before .before .eat-ws .ensures [] .wrote .ahead), (asks-then _ _ (asks-true _ _ _ (at-yes _ (c .before .before .before .before .before .before .before .before .before .before .current-kind .ensures) (c .before .before .before .before .before .before .before .before .before .if1 .taken)) (asks-then _ _ (asks-is step-calls-is (asks-step Calls (c .before .before .before .before .before .before .before .before .before .before .before .before .before .before .before .before .before .before .before .pre .1))) (c .before .before .before .before .before .before .before .before .before .before .before .before .before .eat-ws .ensures _))) (c .before .before .before .before .before .before .parse-dot-call .ensures)))
+parse-calls-parse-calls-requires t c κs = (omega (arith, c .before .before .before .before .before .before .before .before .before .before .before .before .before .before .before .before .before .before .before .pre .0, c .before .before .before .before .before .before .before .before .before .before .before .before .before .before .before .before .before .before .before .pre .1 .0 .fits .ready .within, table-length (c .before .before .before .before .before .before .before .before .before .before .before .before .before .before .before .before .before .before .before .pre .1 .0 .fits .ready), dot-ahead (sym (c .before .before .before .before .before .before .before .before .before .before .current-kind .ensures) ∙ c .before .before .before .before .before .before .before .before .before .if1 .taken) (c .before .before .before .before .before .before .parse-dot-call .ensures), c .before .before .before .before .before .before .parse-dot-call .ensures .wrote .within, c .before .before .before .before .before .before .before .before .before .before .before .before .before .eat-ws .ensures [] .wrote .ahead), (asks-then _ _ (asks-true _ _ _ (at-yes _ (c .before .before .before .before .before .before .before .before .before .before .current-kind .ensures) (c .before .before .before .before .before .before .before .before .before .if1 .taken)) (asks-then _ _ (asks-is step-calls-is (asks-step Calls (c .before .before .before .before .before .before .before .before .before .before .before .before .before .before .before .before .before .before .before .pre .1 .0))) (c .before .before .before .before .before .before .before .before .before .before .before .before .before .eat-ws .ensures _))) (c .before .before .before .before .before .before .parse-dot-call .ensures), c .before .before .before .before .before .before .before .before .before .before .before .before .before .before .before .before .before .before .before .pre .1 .1))
 
 parse-calls-same-length : (t : ℕ) → parse-calls-lts.Need-same-length (parse-calls-calls t) (parse-calls-at t) parse-calls.Post
 parse-calls-same-length t c = tree-long (did-then (c .before .before .before .before .before .before .before .before .before .before .before .parse-dot-call .ensures) (c .before .before .before .before .parse-calls .ensures)) ∙ tree-long (c .before .before .before .before .before .before .before .before .before .before .before .before .before .before .before .before .before .before .eat-ws .ensures [])
@@ -62,7 +62,7 @@ parse-calls-same-length-3 : (t : ℕ) → parse-calls-lts.Need-same-length-3 (pa
 parse-calls-same-length-3 t c = tree-long (c .before .before .before .before .eat-ws .ensures [])
 
 parse-calls-returns-2 : (t : ℕ) → parse-calls-lts.Need-returns-2 (parse-calls-calls t) (parse-calls-at t) parse-calls.Post
-parse-calls-returns-2 t c = did-step Calls (did-is step-calls-is (did-then (c .before .before .before .before .eat-ws .ensures _) (did-false _ _ _ (at-no _ (c .before .current-kind .ensures) (c .if1 .left)) (did-done (ready-then (c .before .before .before .before .eat-ws .ensures []) (c .before .before .before .before .before .before .before .before .before .before .pre .1 .fits .ready))))))
+parse-calls-returns-2 t c = did-step Calls (did-is step-calls-is (did-then (c .before .before .before .before .eat-ws .ensures _) (did-false _ _ _ (at-no _ (c .before .current-kind .ensures) (c .if1 .left)) (did-done (ready-then (c .before .before .before .before .eat-ws .ensures []) (c .before .before .before .before .before .before .before .before .before .before .pre .1 .0 .fits .ready))))))
 
 pub +parse-calls-spec : {M : Type 1} → statement M
 +parse-calls-spec = close μ-parse-calls λ t. parse-calls-lts.spec (parse-calls-calls t)

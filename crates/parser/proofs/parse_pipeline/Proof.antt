@@ -6,22 +6,22 @@ use Rattle.parser.proofs.parse_pipeline.Statement.{statement}
 use Rattle.parser.proofs.parse_pipeline.Tie as tie
 
 start-node-requires : tie.Need-start-node-requires
-start-node-requires c κs = node-room _ _ (asks-is parse-pipeline-is (c .before .before .before .before .before .pre))
+start-node-requires c κs = node-room _ _ (asks-is parse-pipeline-is (c .before .before .before .before .before .pre .0))
 
 add-parse-source : tie.Need-add-parse-source
-add-parse-source c = record { fits = node-level _ _ (asks-is parse-pipeline-is (c .before .before .before .before .before .before .before .before .before .before .pre)) }
+add-parse-source c = record { fits = node-level _ _ (asks-is parse-pipeline-is (c .before .before .before .before .before .before .before .before .before .before .pre .0)) }
 
 parse-source-requires : tie.Need-parse-source-requires
-parse-source-requires c κs = (asks-first _ _ (asks-node _ _ (asks-is parse-pipeline-is (c .before .before .before .before .before .before .before .before .before .before .pre)) (c .before .before .before .before .start-node .ensures)))
+parse-source-requires c κs = (asks-first _ _ (asks-node _ _ (asks-is parse-pipeline-is (c .before .before .before .before .before .before .before .before .before .before .pre .0)) (c .before .before .before .before .start-node .ensures)))
 
 add-parse-calls : tie.Need-add-parse-calls
-add-parse-calls c = record { fits = node-level _ _ (asks-is parse-pipeline-is (c .before .before .before .before .before .before .before .before .before .before .before .before .before .before .before .before .before .pre)) }
+add-parse-calls c = record { fits = node-level _ _ (asks-is parse-pipeline-is (c .before .before .before .before .before .before .before .before .before .before .before .before .before .before .before .before .before .pre .0)) }
 
 parse-calls-requires : tie.Need-parse-calls-requires
-parse-calls-requires c κs = (asks-then _ _ (asks-node _ _ (asks-is parse-pipeline-is (c .before .before .before .before .before .before .before .before .before .before .before .before .before .before .before .before .before .pre)) (c .before .before .before .before .before .before .before .before .before .before .before .start-node .ensures)) (c .before .before .before .before .before .before .parse-source .ensures))
+parse-calls-requires c κs = (asks-then _ _ (asks-node _ _ (asks-is parse-pipeline-is (c .before .before .before .before .before .before .before .before .before .before .before .before .before .before .before .before .before .pre .0)) (c .before .before .before .before .before .before .before .before .before .before .before .start-node .ensures)) (c .before .before .before .before .before .before .parse-source .ensures), c .before .before .before .before .before .before .before .before .before .before .before .before .before .before .before .before .before .pre .1)
 
 finish-node-requires : tie.Need-finish-node-requires
-finish-node-requires c κs = finish-room (node-room _ _ (asks-is parse-pipeline-is (c .before .before .before .before .before .before .before .before .before .before .before .before .before .before .before .before .before .before .before .before .before .before .before .pre))) (c .before .before .before .before .before .before .before .before .before .before .before .before .before .before .before .before .before .start-node .ensures) (did-then (c .before .before .before .before .before .before .before .before .before .before .before .before .parse-source .ensures) (c .before .before .before .before .before .parse-calls .ensures))
+finish-node-requires c κs = finish-room (node-room _ _ (asks-is parse-pipeline-is (c .before .before .before .before .before .before .before .before .before .before .before .before .before .before .before .before .before .before .before .before .before .before .before .pre .0))) (c .before .before .before .before .before .before .before .before .before .before .before .before .before .before .before .before .before .start-node .ensures) (did-then (c .before .before .before .before .before .before .before .before .before .before .before .before .parse-source .ensures) (c .before .before .before .before .before .parse-calls .ensures))
 
 same-length : tie.Need-same-length
 same-length c = finished-long (c .before .before .finish-node .ensures) ∙ tree-long (did-then (c .before .before .before .before .before .before .before .before .before .before .before .before .before .before .before .parse-source .ensures) (c .before .before .before .before .before .before .before .before .parse-calls .ensures)) ∙ started-long (c .before .before .before .before .before .before .before .before .before .before .before .before .before .before .before .before .before .before .before .before .start-node .ensures)

@@ -6,31 +6,31 @@ use Rattle.parser.proofs.parse_pipeline_or_count_compare.Statement.{sta
 use Rattle.parser.proofs.parse_pipeline_or_count_compare.Tie as tie
 
 has-count-compare-ahead-requires : tie.Need-has-count-compare-ahead-requires
-has-count-compare-ahead-requires c κs = c .before .before .before .before .pre .fits .ready
+has-count-compare-ahead-requires c κs = c .before .before .before .before .pre .0 .fits .ready
 
 start-node-requires : tie.Need-start-node-requires
-start-node-requires c κs = node-room _ _ (asks-true _ _ _ (sym (c .before .before .has-count-compare-ahead .ensures) ∙ c .before .if1 .taken) (asks-is parse-compare-is (c .before .before .before .before .before .before .before .pre)))
+start-node-requires c κs = node-room _ _ (asks-true _ _ _ (sym (c .before .before .has-count-compare-ahead .ensures) ∙ c .before .if1 .taken) (asks-is parse-compare-is (c .before .before .before .before .before .before .before .pre .0)))
 
 add-parse-pipeline : tie.Need-add-parse-pipeline
-add-parse-pipeline c = record { fits = node-level _ _ (asks-true _ _ _ (sym (c .before .before .before .before .before .before .before .has-count-compare-ahead .ensures) ∙ c .before .before .before .before .before .before .if1 .taken) (asks-is parse-compare-is (c .before .before .before .before .before .before .before .before .before .before .before .before .pre))) }
+add-parse-pipeline c = record { fits = node-level _ _ (asks-true _ _ _ (sym (c .before .before .before .before .before .before .before .has-count-compare-ahead .ensures) ∙ c .before .before .before .before .before .before .if1 .taken) (asks-is parse-compare-is (c .before .before .before .before .before .before .before .before .before .before .before .before .pre .0))) }
 
 parse-pipeline-requires : tie.Need-parse-pipeline-requires
-parse-pipeline-requires c κs = (asks-first _ _ (asks-first _ _ (asks-node _ _ (asks-true _ _ _ (sym (c .before .before .before .before .before .before .before .has-count-compare-ahead .ensures) ∙ c .before .before .before .before .before .before .if1 .taken) (asks-is parse-compare-is (c .before .before .before .before .before .before .before .before .before .before .before .before .pre))) (c .before .before .before .before .start-node .ensures))))
+parse-pipeline-requires c κs = (asks-first _ _ (asks-first _ _ (asks-node _ _ (asks-true _ _ _ (sym (c .before .before .before .before .before .before .before .has-count-compare-ahead .ensures) ∙ c .before .before .before .before .before .before .if1 .taken) (asks-is parse-compare-is (c .before .before .before .before .before .before .before .before .before .before .before .before .pre .0))) (c .before .before .before .before .start-node .ensures))), c .before .before .before .before .before .before .before .before .before .before .before .before .pre .1)
 
 add-bump : tie.Need-add-bump
-add-bump c = record { fits = node-level _ _ (asks-true _ _ _ (sym (c .before .before .before .before .before .before .before .before .before .before .before .before .before .has-count-compare-ahead .ensures) ∙ c .before .before .before .before .before .before .before .before .before .before .before .before .if1 .taken) (asks-is parse-compare-is (c .before .before .before .before .before .before .before .before .before .before .before .before .before .before .before .before .before .before .pre))) }
+add-bump c = record { fits = node-level _ _ (asks-true _ _ _ (sym (c .before .before .before .before .before .before .before .before .before .before .before .before .before .has-count-compare-ahead .ensures) ∙ c .before .before .before .before .before .before .before .before .before .before .before .before .if1 .taken) (asks-is parse-compare-is (c .before .before .before .before .before .before .before .before .before .before .before .before .before .before .before .before .before .before .pre .0))) }
 
 bump-requires : tie.Need-bump-requires
-bump-requires c κs = (asks-then _ _ (asks-first _ _ (asks-node _ _ (asks-true _ _ _ (sym (c .before .before .before .before .before .before .before .before .before .before .before .before .before .has-count-compare-ahead .ensures) ∙ c .before .before .before .before .before .before .before .before .before .before .before .before .if1 .taken) (asks-is parse-compare-is (c .before .before .before .before .before .before .before .before .before .before .before .before .before .before .before .before .before .before .pre))) (c .before .before .before .before .before .before .before .before .before .before .start-node .ensures))) (c .before .before .before .before .before .parse-pipeline .ensures)) .fits
+bump-requires c κs = (asks-then _ _ (asks-first _ _ (asks-node _ _ (asks-true _ _ _ (sym (c .before .before .before .before .before .before .before .before .before .before .before .before .before .has-count-compare-ahead .ensures) ∙ c .before .before .before .before .before .before .before .before .before .before .before .before .if1 .taken) (asks-is parse-compare-is (c .before .before .before .before .before .before .before .before .before .before .before .before .before .before .before .before .before .before .pre .0))) (c .before .before .before .before .before .before .before .before .before .before .start-node .ensures))) (c .before .before .before .before .before .parse-pipeline .ensures)) .fits
 
 add-bump-2 : tie.Need-add-bump-2
-add-bump-2 c = record { fits = node-level _ _ (asks-true _ _ _ (sym (c .before .before .before .before .before .before .before .before .before .before .before .before .before .before .before .before .before .has-count-compare-ahead .ensures) ∙ c .before .before .before .before .before .before .before .before .before .before .before .before .before .before .before .before .if1 .taken) (asks-is parse-compare-is (c .before .before .before .before .before .before .before .before .before .before .before .before .before .before .before .before .before .before .before .before .before .before .pre))) }
+add-bump-2 c = record { fits = node-level _ _ (asks-true _ _ _ (sym (c .before .before .before .before .before .before .before .before .before .before .before .before .before .before .before .before .before .has-count-compare-ahead .ensures) ∙ c .before .before .before .before .before .before .before .before .before .before .before .before .before .before .before .before .if1 .taken) (asks-is parse-compare-is (c .before .before .before .before .before .before .before .before .before .before .before .before .before .before .before .before .before .before .before .before .before .before .pre .0))) }
 
 bump-requires-2 : tie.Need-bump-requires-2
-bump-requires-2 c κs = (asks-then _ _ (asks-node _ _ (asks-true _ _ _ (sym (c .before .before .before .before .before .before .before .before .before .before .before .before .before .before .before .before .before .has-count-compare-ahead .ensures) ∙ c .before .before .before .before .before .before .before .before .before .before .before .before .before .before .before .before .if1 .taken) (asks-is parse-compare-is (c .before .before .before .before .before .before .before .before .before .before .before .before .before .before .before .before .before .before .before .before .before .before .pre))) (c .before .before .before .before .before .before .before .before .before .before .before .before .before .before .start-node .ensures)) (did-then (c .before .before .before .before .before .before .before .before .before .parse-pipeline .ensures) (c .before .before .before .bump .ensures _))) .fits
+bump-requires-2 c κs = (asks-then _ _ (asks-node _ _ (asks-true _ _ _ (sym (c .before .before .before .before .before .before .before .before .before .before .before .before .before .before .before .before .before .has-count-compare-ahead .ensures) ∙ c .before .before .before .before .before .before .before .before .before .before .before .before .before .before .before .before .if1 .taken) (asks-is parse-compare-is (c .before .before .before .before .before .before .before .before .before .before .before .before .before .before .before .before .before .before .before .before .before .before .pre .0))) (c .before .before .before .before .before .before .before .before .before .before .before .before .before .before .start-node .ensures)) (did-then (c .before .before .before .before .before .before .before .before .before .parse-pipeline .ensures) (c .before .before .before .bump .ensures _))) .fits
 
 finish-node-requires : tie.Need-finish-node-requires
-finish-node-requires c κs = finish-room (node-room _ _ (asks-true _ _ _ (sym (c .before .before .before .before .before .before .before .before .before .before .before .before .before .before .before .before .before .before .before .before .before .has-count-compare-ahead .ensures) ∙ c .before .before .before .before .before .before .before .before .before .before .before .before .before .before .before .before .before .before .before .before .if1 .taken) (asks-is parse-compare-is (c .before .before .before .before .before .before .before .before .before .before .before .before .before .before .before .before .before .before .before .before .before .before .before .before .before .before .pre)))) (c .before .before .before .before .before .before .before .before .before .before .before .before .before .before .before .before .before .before .start-node .ensures) (did-then (did-then (c .before .before .before .before .before .before .before .before .before .before .before .before .before .parse-pipeline .ensures) (c .before .before .before .before .before .before .before .bump .ensures _)) (c .before .before .before .bump2 .ensures _))
+finish-node-requires c κs = finish-room (node-room _ _ (asks-true _ _ _ (sym (c .before .before .before .before .before .before .before .before .before .before .before .before .before .before .before .before .before .before .before .before .before .has-count-compare-ahead .ensures) ∙ c .before .before .before .before .before .before .before .before .before .before .before .before .before .before .before .before .before .before .before .before .if1 .taken) (asks-is parse-compare-is (c .before .before .before .before .before .before .before .before .before .before .before .before .before .before .before .before .before .before .before .before .before .before .before .before .before .before .pre .0)))) (c .before .before .before .before .before .before .before .before .before .before .before .before .before .before .before .before .before .before .start-node .ensures) (did-then (did-then (c .before .before .before .before .before .before .before .before .before .before .before .before .before .parse-pipeline .ensures) (c .before .before .before .before .before .before .before .bump .ensures _)) (c .before .before .before .bump2 .ensures _))
 
 same-length : tie.Need-same-length
 same-length c = finished-long (c .before .before .finish-node .ensures) ∙ tree-long (did-then (did-then (c .before .before .before .before .before .before .before .before .before .before .before .before .before .before .before .before .parse-pipeline .ensures) (c .before .before .before .before .before .before .before .before .before .before .bump .ensures _)) (c .before .before .before .before .before .before .bump2 .ensures _)) ∙ started-long (c .before .before .before .before .before .before .before .before .before .before .before .before .before .before .before .before .before .before .before .before .before .start-node .ensures)
@@ -42,7 +42,7 @@ returns : tie.Need-returns
 returns c = did-is parse-compare-is (did-true _ _ _ (sym (c .before .before .before .before .before .before .before .before .before .before .before .before .before .before .before .before .before .before .before .before .before .before .before .before .has-count-compare-ahead .ensures) ∙ c .before .before .before .before .before .before .before .before .before .before .before .before .before .before .before .before .before .before .before .before .before .before .before .if1 .taken) (did-node (c .before .before .before .before .before .before .before .before .before .before .before .before .before .before .before .before .before .before .before .before .before .start-node .ensures) (did-then (did-then (c .before .before .before .before .before .before .before .before .before .before .before .before .before .before .before .before .parse-pipeline .ensures) (c .before .before .before .before .before .before .before .before .before .before .bump .ensures _)) (c .before .before .before .before .before .before .bump2 .ensures _)) (c .before .before .finish-node .ensures)))
 
 parse-pipeline-requires-2 : tie.Need-parse-pipeline-requires-2
-parse-pipeline-requires-2 c κs = (asks-false _ _ _ (sym (c .before .before .before .has-count-compare-ahead .ensures) ∙ c .before .before .if1 .left) (asks-is parse-compare-is (c .before .before .before .before .before .before .before .before .pre)))
+parse-pipeline-requires-2 c κs = (asks-false _ _ _ (sym (c .before .before .before .has-count-compare-ahead .ensures) ∙ c .before .before .if1 .left) (asks-is parse-compare-is (c .before .before .before .before .before .before .before .before .pre .0)), c .before .before .before .before .before .before .before .before .pre .1)
 
 same-length-3 : tie.Need-same-length-3
 same-length-3 c = tree-long (c .before .before .before .before .parse-pipeline2 .ensures)

@@ -6,28 +6,28 @@ use Rattle.parser.proofs.predicate_args.Statement.{statement}
 use Rattle.parser.proofs.predicate_args.Tie as tie
 
 start-node-requires : tie.Need-start-node-requires
-start-node-requires c κs = node-room _ _ (asks-is predicate-args-is (c .before .before .before .before .before .pre))
+start-node-requires c κs = node-room _ _ (asks-is predicate-args-is (c .before .before .before .before .before .pre .0))
 
 add-expect : tie.Need-add-expect
-add-expect c = record { fits = node-level _ _ (asks-is predicate-args-is (c .before .before .before .before .before .before .before .before .before .before .pre)) }
+add-expect c = record { fits = node-level _ _ (asks-is predicate-args-is (c .before .before .before .before .before .before .before .before .before .before .pre .0)) }
 
 expect-requires : tie.Need-expect-requires
-expect-requires c κs = (asks-first _ _ (asks-first _ _ (asks-node _ _ (asks-is predicate-args-is (c .before .before .before .before .before .before .before .before .before .before .pre)) (c .before .before .before .before .start-node .ensures))))
+expect-requires c κs = (asks-first _ _ (asks-first _ _ (asks-node _ _ (asks-is predicate-args-is (c .before .before .before .before .before .before .before .before .before .before .pre .0)) (c .before .before .before .before .start-node .ensures))))
 
 add-parse-or-expr : tie.Need-add-parse-or-expr
-add-parse-or-expr c = record { fits = node-level _ _ (asks-is predicate-args-is (c .before .before .before .before .before .before .before .before .before .before .before .before .before .before .before .before .before .pre)) }
+add-parse-or-expr c = record { fits = node-level _ _ (asks-is predicate-args-is (c .before .before .before .before .before .before .before .before .before .before .before .before .before .before .before .before .before .pre .0)) }
 
 parse-or-expr-requires : tie.Need-parse-or-expr-requires
-parse-or-expr-requires c κs = (asks-then _ _ (asks-first _ _ (asks-node _ _ (asks-is predicate-args-is (c .before .before .before .before .before .before .before .before .before .before .before .before .before .before .before .before .before .pre)) (c .before .before .before .before .before .before .before .before .before .before .before .start-node .ensures))) (c .before .before .before .before .before .before .expect .ensures))
+parse-or-expr-requires c κs = (asks-then _ _ (asks-first _ _ (asks-node _ _ (asks-is predicate-args-is (c .before .before .before .before .before .before .before .before .before .before .before .before .before .before .before .before .before .pre .0)) (c .before .before .before .before .before .before .before .before .before .before .before .start-node .ensures))) (c .before .before .before .before .before .before .expect .ensures), c .before .before .before .before .before .before .before .before .before .before .before .before .before .before .before .before .before .pre .1)
 
 add-expect-2 : tie.Need-add-expect-2
-add-expect-2 c = record { fits = node-level _ _ (asks-is predicate-args-is (c .before .before .before .before .before .before .before .before .before .before .before .before .before .before .before .before .before .before .before .before .before .before .before .before .pre)) }
+add-expect-2 c = record { fits = node-level _ _ (asks-is predicate-args-is (c .before .before .before .before .before .before .before .before .before .before .before .before .before .before .before .before .before .before .before .before .before .before .before .before .pre .0)) }
 
 expect-requires-2 : tie.Need-expect-requires-2
-expect-requires-2 c κs = (asks-then _ _ (asks-node _ _ (asks-is predicate-args-is (c .before .before .before .before .before .before .before .before .before .before .before .before .before .before .before .before .before .before .before .before .before .before .before .before .pre)) (c .before .before .before .before .before .before .before .before .before .before .before .before .before .before .before .before .before .before .start-node .ensures)) (did-then (c .before .before .before .before .before .before .before .before .before .before .before .before .before .expect .ensures) (c .before .before .before .before .before .before .parse-or-expr .ensures)))
+expect-requires-2 c κs = (asks-then _ _ (asks-node _ _ (asks-is predicate-args-is (c .before .before .before .before .before .before .before .before .before .before .before .before .before .before .before .before .before .before .before .before .before .before .before .before .pre .0)) (c .before .before .before .before .before .before .before .before .before .before .before .before .before .before .before .before .before .before .start-node .ensures)) (did-then (c .before .before .before .before .before .before .before .before .before .before .before .before .before .expect .ensures) (c .before .before .before .before .before .before .parse-or-expr .ensures)))
 
 finish-node-requires : tie.Need-finish-node-requires
-finish-node-requires c κs = finish-room (node-room _ _ (asks-is predicate-args-is (c .before .before .before .before .before .before .before .before .before .before .before .before .before .before .before .before .before .before .before .before .before .before .before .before .before .before .before .before .before .before .pre))) (c .before .before .before .before .before .before .before .before .before .before .before .before .before .before .before .before .before .before .before .before .before .before .before .before .start-node .ensures) (did-then (did-then (c .before .before .before .before .before .before .before .before .before .before .before .before .before .before .before .before .before .before .before .expect .ensures) (c .before .before .before .before .before .before .before .before .before .before .before .before .parse-or-expr .ensures)) (c .before .before .before .before .before .expect2 .ensures))
+finish-node-requires c κs = finish-room (node-room _ _ (asks-is predicate-args-is (c .before .before .before .before .before .before .before .before .before .before .before .before .before .before .before .before .before .before .before .before .before .before .before .before .before .before .before .before .before .before .pre .0))) (c .before .before .before .before .before .before .before .before .before .before .before .before .before .before .before .before .before .before .before .before .before .before .before .before .start-node .ensures) (did-then (did-then (c .before .before .before .before .before .before .before .before .before .before .before .before .before .before .before .before .before .before .before .expect .ensures) (c .before .before .before .before .before .before .before .before .before .before .before .before .parse-or-expr .ensures)) (c .before .before .before .before .before .expect2 .ensures))
 
 same-length : tie.Need-same-length
 same-length c = finished-long (c .before .before .finish-node .ensures) ∙ tree-long (did-then (did-then (c .before .before .before .before .before .before .before .before .before .before .before .before .before .before .before .before .before .before .before .before .before .before .expect .ensures) (c .before .before .before .before .before .before .before .before .before .before .before .before .before .before .before .parse-or-expr .ensures)) (c .before .before .before .before .before .before .before .before .expect2 .ensures)) ∙ started-long (c .before .before .before .before .before .before .before .before .before .before .before .before .before .before .before .before .before .before .before .before .before .before .before .before .before .before .before .start-node .ensures)
