@@ -6,6 +6,7 @@ use syntax::refusal::Check;
 use syntax::refusal::Refusal;
 use syntax::text;
 use trees::Cursor;
+use trees::Ops;
 use trees::Reading;
 ghost use mathlib.Core.Path.{_≡_};
 ghost use mathlib.Core.List.{List, [], _∷_};
@@ -72,7 +73,9 @@ fn parse_root(
     requires { ⌜ Asks (lex (now rule)) (now tokens) (now tree) (now errors) level c parseRoot ⌝ }
     ensures { λ r. ⌜ Did (lex (now (rule .entry))) (now (tree .entry)) (now (tree .exit)) (now (errors .entry)) (now (errors .exit)) level c r parseRoot ⌝ }
 {
-    let ops = past_last_op(rule, tokens);
+    let ands = past_last(rule, tokens, kind::AND_KW);
+    let ors = past_last(rule, tokens, kind::OR_KW);
+    let ops = Ops { ands, ors };
     let o = start_node(tree, kind::ROOT, level, c);
     let a = parse_pipeline_or_count_compare(rule, tokens, tree, errors, level + 1, o, ops);
     let b = eat_ws(rule, tokens, tree, level + 1, a);
@@ -80,18 +83,18 @@ fn parse_root(
     finish_node(tree, c.row, d)
 }
 
-// The place past the last `and` or `or`, 0 where there is none: a scan for one can end there.
-fn past_last_op(rule: &[u8], tokens: &[u32]) -> usize
+// The place past the last token of a kind, 0 where there is none: a scan for that kind can end there.
+fn past_last(rule: &[u8], tokens: &[u32], kind: u32) -> usize
     requires { ⌜ now tokens ≡ tokenRows 0 (lex (now rule)) ⌝ }
-    ensures { λ r. ⌜ NoOpsFrom (lex (now (rule .entry))) r ⌝ }
+    ensures { λ r. ⌜ NoneFrom kind (lex (now (rule .entry))) r ⌝ }
 {
     let mut i = tokens.len() / 3;
     while 0 < i {
         let last = i - 1;
-        match tokens[3 * last] {
-            kind::AND_KW | kind::OR_KW => return i,
-            _ => i = last,
+        if tokens[3 * last] == kind {
+            return i;
         }
+        i = last;
     }
     i
 }
@@ -123,7 +126,7 @@ fn parse_pipeline_or_count_compare(
     errors: &mut [u32],
     level: u32,
     c: Cursor,
-    ops: usize,
+    ops: Ops,
 ) -> Cursor
     requires { ⌜ Asks (lex (now rule)) (now tokens) (now tree) (now errors) level c parsePipelineOrCountCompare ⌝ }
     requires { ⌜ NoOpsFrom (lex (now rule)) ops ⌝ }
@@ -184,7 +187,7 @@ fn parse_pipeline(
     errors: &mut [u32],
     level: u32,
     c: Cursor,
-    ops: usize,
+    ops: Ops,
 ) -> Cursor
     requires { ⌜ Asks (lex (now rule)) (now tokens) (now tree) (now errors) level c parsePipeline ⌝ }
     requires { ⌜ NoOpsFrom (lex (now rule)) ops ⌝ }
@@ -225,7 +228,7 @@ fn parse_calls(
     errors: &mut [u32],
     level: u32,
     c: Cursor,
-    ops: usize,
+    ops: Ops,
 ) -> Cursor
     requires { ⌜ Asks (lex (now rule)) (now tokens) (now tree) (now errors) level c (parse Calls) ⌝ }
     requires { ⌜ NoOpsFrom (lex (now rule)) ops ⌝ }
@@ -247,7 +250,7 @@ fn parse_dot_call(
     errors: &mut [u32],
     level: u32,
     c: Cursor,
-    ops: usize,
+    ops: Ops,
 ) -> Cursor
     requires { ⌜ Asks (lex (now rule)) (now tokens) (now tree) (now errors) level c (parseDotCall (parse OrExpr)) ⌝ }
     requires { ⌜ NoOpsFrom (lex (now rule)) ops ⌝ }
@@ -267,7 +270,7 @@ fn parse_method(
     errors: &mut [u32],
     level: u32,
     c: Cursor,
-    ops: usize,
+    ops: Ops,
 ) -> Cursor
     requires { ⌜ Asks (lex (now rule)) (now tokens) (now tree) (now errors) level c (parseMethod (parse OrExpr)) ⌝ }
     requires { ⌜ NoOpsFrom (lex (now rule)) ops ⌝ }
@@ -323,7 +326,7 @@ fn predicate_args(
     errors: &mut [u32],
     level: u32,
     c: Cursor,
-    ops: usize,
+    ops: Ops,
 ) -> Cursor
     requires { ⌜ Asks (lex (now rule)) (now tokens) (now tree) (now errors) level c (predicateArgs (parse OrExpr)) ⌝ }
     requires { ⌜ NoOpsFrom (lex (now rule)) ops ⌝ }
@@ -381,13 +384,13 @@ fn parse_or_expr(
     errors: &mut [u32],
     level: u32,
     c: Cursor,
-    ops: usize,
+    ops: Ops,
 ) -> Cursor
     requires { ⌜ Asks (lex (now rule)) (now tokens) (now tree) (now errors) level c (parse OrExpr) ⌝ }
     requires { ⌜ NoOpsFrom (lex (now rule)) ops ⌝ }
     ensures { λ r. ⌜ Did (lex (now (rule .entry))) (now (tree .entry)) (now (tree .exit)) (now (errors .entry)) (now (errors .exit)) level c r (parse OrExpr) ⌝ }
 {
-    if has_binary_op_at_level(rule, tokens, kind::OR_KW, c, ops) {
+    if has_binary_op_at_level(rule, tokens, kind::OR_KW, c, ops.ors) {
         let o = start_node(tree, kind::BINARY_EXPR, level, c);
         let a = parse_and_expr(rule, tokens, tree, errors, level + 1, o, ops);
         let b = or_rest(rule, tokens, tree, errors, level + 1, a, ops);
@@ -404,7 +407,7 @@ fn or_rest(
     errors: &mut [u32],
     level: u32,
     c: Cursor,
-    ops: usize,
+    ops: Ops,
 ) -> Cursor
     requires { ⌜ Asks (lex (now rule)) (now tokens) (now tree) (now errors) level c (parse OrRest) ⌝ }
     requires { ⌜ NoOpsFrom (lex (now rule)) ops ⌝ }
@@ -426,13 +429,13 @@ fn parse_and_expr(
     errors: &mut [u32],
     level: u32,
     c: Cursor,
-    ops: usize,
+    ops: Ops,
 ) -> Cursor
     requires { ⌜ Asks (lex (now rule)) (now tokens) (now tree) (now errors) level c (parse AndExpr) ⌝ }
     requires { ⌜ NoOpsFrom (lex (now rule)) ops ⌝ }
     ensures { λ r. ⌜ Did (lex (now (rule .entry))) (now (tree .entry)) (now (tree .exit)) (now (errors .entry)) (now (errors .exit)) level c r (parse AndExpr) ⌝ }
 {
-    if has_binary_op_at_level(rule, tokens, kind::AND_KW, c, ops) {
+    if has_binary_op_at_level(rule, tokens, kind::AND_KW, c, ops.ands) {
         let o = start_node(tree, kind::BINARY_EXPR, level, c);
         let a = parse_atom(rule, tokens, tree, errors, level + 1, o, ops);
         let b = and_rest(rule, tokens, tree, errors, level + 1, a, ops);
@@ -449,7 +452,7 @@ fn and_rest(
     errors: &mut [u32],
     level: u32,
     c: Cursor,
-    ops: usize,
+    ops: Ops,
 ) -> Cursor
     requires { ⌜ Asks (lex (now rule)) (now tokens) (now tree) (now errors) level c (parse AndRest) ⌝ }
     requires { ⌜ NoOpsFrom (lex (now rule)) ops ⌝ }
@@ -463,16 +466,16 @@ fn and_rest(
     c
 }
 
-// Whether `op` stands ahead outside brackets, before the bracket that closes this place and after something that is no blank. From the token at `ops` on there is none.
-fn has_binary_op_at_level(rule: &[u8], tokens: &[u32], op: u32, c: Cursor, ops: usize) -> bool
+// Whether `op` stands ahead outside brackets, before the bracket that closes this place and after something that is no blank. From the token at `end` on there is none.
+fn has_binary_op_at_level(rule: &[u8], tokens: &[u32], op: u32, c: Cursor, end: usize) -> bool
     requires { ⌜ Ready (lex (now rule)) (now tokens) c ⌝ }
-    requires { ⌜ NoneFrom op (lex (now rule)) ops ⌝ }
+    requires { ⌜ NoneFrom op (lex (now rule)) end ⌝ }
     ensures { λ r. ⌜ r ≡ hasBinaryOpAtLevel op (drop (c .token) (lex (now (rule .entry)))) ⌝ }
 {
     let mut depth: usize = 0;
     let mut found = false;
     let mut i = c.token;
-    while i < ops {
+    while i < end {
         let k = tokens[3 * i];
         i += 1;
         if k == kind::WHITESPACE {} else if k == kind::L_PAREN {
@@ -505,7 +508,7 @@ fn parse_atom(
     errors: &mut [u32],
     level: u32,
     c: Cursor,
-    ops: usize,
+    ops: Ops,
 ) -> Cursor
     requires { ⌜ Asks (lex (now rule)) (now tokens) (now tree) (now errors) level c (parse Atom) ⌝ }
     requires { ⌜ NoOpsFrom (lex (now rule)) ops ⌝ }

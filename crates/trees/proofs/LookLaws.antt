@@ -8,7 +8,7 @@ use borrow.Author.Tests.{eq-eqb, ne-eqb, eqb-true, eqb-false}
 use lib.Dec.{eqb}
 use lib.ListN.{length, drop, getD, length-drop, drop-of-length-le}
 use lib.Seq.{drop-drop}
-use Rattle.syntax.specs.Kind.{WHITESPACE, L-PAREN, R-PAREN, INT-LIT, AND-KW, OR-KW, NONE}
+use Rattle.syntax.specs.Kind.{WHITESPACE, L-PAREN, R-PAREN, INT-LIT, NONE}
 use Rattle.syntax.proofs.BoolLaws.{whether}
 use Rattle.lexer.specs.Lex.{Token, tokenRows}
 use Rattle.reader.specs.Reader as reader
@@ -16,7 +16,7 @@ use Rattle.reader.proofs.ReaderLaws.{current-later, current-blank, current-soli
 use Rattle.trees.specs.Look.{skipWs, headKind, tailOf, currentKind, atKind, isComparison, endsInComparison, opAhead}
 use Rattle.trees.specs.Green.{size}
 use Rattle.trees.specs.Parse.{Parser, done, next, fails, failsAhead, _▹_, eatWs, nextIs, remaining}
-use Rattle.trees.specs.Writing.{Ready, Past, Skipped, Fits, Asks, Did, Without, none, more, NoneFrom, NoOpsFrom}
+use Rattle.trees.specs.Writing.{Ready, Past, Skipped, Fits, Asks, Did, Without, none, more, NoneFrom}
 use Rattle.trees.specs.declared.Cursor.{Cursor}
 use Rattle.trees.proofs.TokenLaws.{Row, row, row-in, rows-length, at-end, table-length}
 use Rattle.trees.proofs.WritingLaws.{did-done, did-then, did-as, fits-as, fits-first, fits-then, tree-long}
@@ -250,21 +250,15 @@ op-end {op} {n} depth found {ts} b i h =
     sym (op-without op depth found (rw (drop-drop, e) at (without-drop (i - n) (b .rest))))
 
 -- such places are the end, and that of a token of another kind where the place past it is one
-none-end : (k : ℕ) (ts : List Token) → NoneFrom k ts (length ts)
+pub none-end : (k : ℕ) (ts : List Token) → NoneFrom k ts (length ts)
 none-end k ts = record { within = omega arith; rest = rw (drop-of-length-le ts {i = length ts} (omega arith)) none }
 
-none-back : {k : ℕ} {tokens : List ℕ} {ts : List Token} {i : ℕ} → Row 0 tokens ts i → (getD tokens (3 * i) 0 ≡ k → ⊥) → NoneFrom k ts (i + 1) → NoneFrom k ts i
-none-back w n b = record { within = omega (arith, b .within); rest = rw (w .here) (more (λ q. n (w .kind ∙ q)) (b .rest)) }
-
-pub ops-end : (ts : List Token) → NoOpsFrom ts (length ts)
-ops-end ts = record { ands = none-end _ ts; ors = none-end _ ts }
-
-pub ops-back : {tokens : List ℕ} {ts : List Token} {i : ℕ} → tokens ≡ tokenRows 0 ts → NoOpsFrom ts i → 0 < i → (getD tokens (3 * (i - 1)) 0 ≡ AND-KW → ⊥)
-    → (getD tokens (3 * (i - 1)) 0 ≡ OR-KW → ⊥) → NoOpsFrom ts (i - 1)
-ops-back {ts = ts} {i = i} e b h a o =
-    let w = row-in ts e (i - 1) (omega (arith, rows-length ts e, b .ands .within)) in
+pub none-back : {k : ℕ} {tokens : List ℕ} {ts : List Token} {i : ℕ} → tokens ≡ tokenRows 0 ts → NoneFrom k ts i → 0 < i → (getD tokens (3 * (i - 1)) 0 ≡ k → ⊥)
+    → NoneFrom k ts (i - 1)
+none-back {k} {ts = ts} {i = i} e b h n =
+    let w = row-in ts e (i - 1) (omega (arith, rows-length ts e, b .within)) in
     let s : i ≡ i - 1 + 1 = omega arith in
-    record { ands = none-back w a (rw s at (b .ands)); ors = none-back w o (rw s at (b .ors)) }
+    record { within = omega (arith, b .within); rest = rw (w .here) (more (λ q. n (w .kind ∙ q)) (rw s at (b .rest))) }
 
 -- ---- tests of the code as tests of the definitions
 

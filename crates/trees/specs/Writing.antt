@@ -11,6 +11,7 @@ use Rattle.trees.specs.Look.{skipWs, tailOf}
 use Rattle.trees.specs.Parse.{Parsed, Parser}
 use Rattle.trees.specs.Rows.{treeRows, errorRows}
 use Rattle.trees.specs.declared.Cursor.{Cursor}
+use Rattle.trees.specs.declared.Ops.{Ops}
 
 -- the tokens ts stand in the token table, and the cursor at one of them or at their end
 pub record Ready (ts : List Token) (tokens : List ℕ) (c : Cursor) : Type 0 where
@@ -78,7 +79,7 @@ pub record NoneFrom (k : ℕ) (ts : List Token) (n : ℕ) : Type 0 where
   pub within : n ≤ length ts
   pub rest : Without k (drop n ts)
 
--- none is `and` or `or`
-pub record NoOpsFrom (ts : List Token) (n : ℕ) : Type 0 where
-  pub ands : NoneFrom AND-KW ts n
-  pub ors : NoneFrom OR-KW ts n
+-- so for `and` and for `or`, each from its own place
+pub record NoOpsFrom (ts : List Token) (o : Ops) : Type 0 where
+  pub ands : NoneFrom AND-KW ts (o .ands)
+  pub ors : NoneFrom OR-KW ts (o .ors)

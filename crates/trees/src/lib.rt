@@ -18,3 +18,9 @@ pub struct Cursor {
     pub row: usize,
     pub error: usize,
 }
+
+// The places past the last `and` and past the last `or` of a rule.
+pub struct Ops {
+    pub ands: usize,
+    pub ors: usize,
+}

@@ -1,4 +1,4 @@
--- `has_binary_op_at_level` scans the tokens left up to `ops`, and going on from each token ends as the whole does. Assumes nothing.
+-- `has_binary_op_at_level` scans the tokens left up to `end`, and going on from each token ends as the whole does. Assumes nothing.
 use mathlib.Core.Path.{_≡_, refl, _∙_}
 use Prim.Native.Nat.{_-_, _≤_}
 use lib.ListN.{drop}
@@ -11,10 +11,10 @@ use Rattle.parser.proofs.has_binary_op_at_level.Statement.{statement}
 use Rattle.parser.proofs.has_binary_op_at_level.Tie as tie
 
 abbrev Inv-loop : tie.InvT-loop
-Inv-loop rule tokens op ops depth₀ found₀ i₀ depth found i = (depth ≤ i) × (opAhead op depth found (drop i (lex rule)) ≡ hasBinaryOpAtLevel op (drop i₀ (lex rule)))
+Inv-loop rule tokens op end depth₀ found₀ i₀ depth found i = (depth ≤ i) × (opAhead op depth found (drop i (lex rule)) ≡ hasBinaryOpAtLevel op (drop i₀ (lex rule)))
 
 abbrev μ-loop : tie.MeasureT-loop
-μ-loop rule tokens op ops depth₀ found₀ i₀ depth found i = ops - i
+μ-loop rule tokens op end depth₀ found₀ i₀ depth found i = end - i
 
 loop-holds : tie.Need-loop-holds Inv-loop μ-loop
 unfolding hasBinaryOpAtLevel
