@@ -234,12 +234,14 @@ fn parse_calls(
     requires { ⌜ NoOpsFrom (lex (now rule)) ops ⌝ }
     ensures { λ r. ⌜ Did (lex (now (rule .entry))) (now (tree .entry)) (now (tree .exit)) (now (errors .entry)) (now (errors .exit)) level c r (parse Calls) ⌝ }
 {
-    let a = eat_ws(rule, tokens, tree, level, c);
-    if current_kind(rule, tokens, a) == kind::DOT {
-        let b = parse_dot_call(rule, tokens, tree, errors, level, a, ops);
-        return parse_calls(rule, tokens, tree, errors, level, b, ops);
+    let mut d = c;
+    loop {
+        let a = eat_ws(rule, tokens, tree, level, d);
+        if next_kind(rule, tokens, a) != kind::DOT {
+            return a;
+        }
+        d = parse_dot_call(rule, tokens, tree, errors, level, a, ops);
     }
-    a
 }
 
 // dot_call = '.' ident [ '(' args ')' ]
@@ -376,7 +378,7 @@ fn no_method(
     bump(rule, tokens, tree, level, a)
 }
 
-// or_expr = and_expr ( 'or' and_expr )*: a node only where an `or` stands ahead.
+// or_expr = and_expr ( 'or' and_expr )*: a node only where an `or` stands ahead. Past the last of both it is an atom.
 fn parse_or_expr(
     rule: &[u8],
     tokens: &[u32],
@@ -390,6 +392,9 @@ fn parse_or_expr(
     requires { ⌜ NoOpsFrom (lex (now rule)) ops ⌝ }
     ensures { λ r. ⌜ Did (lex (now (rule .entry))) (now (tree .entry)) (now (tree .exit)) (now (errors .entry)) (now (errors .exit)) level c r (parse OrExpr) ⌝ }
 {
+    if ops.ors <= c.token && ops.ands <= c.token {
+        return parse_atom(rule, tokens, tree, errors, level, c, ops);
+    }
     if has_binary_op_at_level(rule, tokens, kind::OR_KW, c, ops.ors) {
         let o = start_node(tree, kind::BINARY_EXPR, level, c);
         let a = parse_and_expr(rule, tokens, tree, errors, level + 1, o, ops);
@@ -413,12 +418,12 @@ fn or_rest(
     requires { ⌜ NoOpsFrom (lex (now rule)) ops ⌝ }
     ensures { λ r. ⌜ Did (lex (now (rule .entry))) (now (tree .entry)) (now (tree .exit)) (now (errors .entry)) (now (errors .exit)) level c r (parse OrRest) ⌝ }
 {
-    if current_kind(rule, tokens, c) == kind::OR_KW {
-        let a = bump(rule, tokens, tree, level, c);
-        let b = parse_and_expr(rule, tokens, tree, errors, level, a, ops);
-        return or_rest(rule, tokens, tree, errors, level, b, ops);
+    let mut d = c;
+    while current_kind(rule, tokens, d) == kind::OR_KW {
+        let a = bump(rule, tokens, tree, level, d);
+        d = parse_and_expr(rule, tokens, tree, errors, level, a, ops);
     }
-    c
+    d
 }
 
 // and_expr = atom ( 'and' atom )*: a node only where an `and` stands ahead, even past an `or`.
@@ -458,12 +463,12 @@ fn and_rest(
     requires { ⌜ NoOpsFrom (lex (now rule)) ops ⌝ }
     ensures { λ r. ⌜ Did (lex (now (rule .entry))) (now (tree .entry)) (now (tree .exit)) (now (errors .entry)) (now (errors .exit)) level c r (parse AndRest) ⌝ }
 {
-    if current_kind(rule, tokens, c) == kind::AND_KW {
-        let a = bump(rule, tokens, tree, level, c);
-        let b = parse_atom(rule, tokens, tree, errors, level, a, ops);
-        return and_rest(rule, tokens, tree, errors, level, b, ops);
+    let mut d = c;
+    while current_kind(rule, tokens, d) == kind::AND_KW {
+        let a = bump(rule, tokens, tree, level, d);
+        d = parse_atom(rule, tokens, tree, errors, level, a, ops);
     }
-    c
+    d
 }
 
 // Whether `op` stands ahead outside brackets, before the bracket that closes this place and after something that is no blank. From the token at `end` on there is none.
@@ -515,7 +520,7 @@ fn parse_atom(
     ensures { λ r. ⌜ Did (lex (now (rule .entry))) (now (tree .entry)) (now (tree .exit)) (now (errors .entry)) (now (errors .exit)) level c r (parse Atom) ⌝ }
 {
     let a = eat_ws(rule, tokens, tree, level, c);
-    let k = current_kind(rule, tokens, a);
+    let k = next_kind(rule, tokens, a);
     if k == kind::NOT_KW {
         let o = start_node(tree, kind::UNARY_EXPR, level, a);
         let b = bump(rule, tokens, tree, level + 1, o);

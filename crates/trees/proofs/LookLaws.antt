@@ -13,7 +13,7 @@ use Rattle.syntax.proofs.BoolLaws.{whether}
 use Rattle.lexer.specs.Lex.{Token, tokenRows}
 use Rattle.reader.specs.Reader as reader
 use Rattle.reader.proofs.ReaderLaws.{current-later, current-blank, current-solid}
-use Rattle.trees.specs.Look.{skipWs, headKind, tailOf, currentKind, atKind, isComparison, endsInComparison, opAhead}
+use Rattle.trees.specs.Look.{skipWs, headKind, tailOf, currentKind, atKind, isComparison, endsInComparison, opAhead, hasBinaryOpAtLevel}
 use Rattle.trees.specs.Green.{size}
 use Rattle.trees.specs.Parse.{Parser, done, next, fails, failsAhead, _▹_, eatWs, nextIs, remaining}
 use Rattle.trees.specs.Writing.{Ready, Past, Skipped, Fits, Asks, Did, Without, none, more, NoneFrom}
@@ -248,6 +248,10 @@ pub op-end : {op n : ℕ} (depth : ℕ) (found : Bool) {ts : List Token} → Non
 op-end {op} {n} depth found {ts} b i h =
     let e : n + (i - n) ≡ i = omega arith in
     sym (op-without op depth found (rw (drop-drop, e) at (without-drop (i - n) (b .rest))))
+
+pub none-ahead : {op n : ℕ} {ts : List Token} → NoneFrom op ts n → (i : ℕ) → n ≤ i → hasBinaryOpAtLevel op (drop i ts) ≡ false
+unfolding hasBinaryOpAtLevel
+none-ahead b i h = sym (op-end 0 false b i h)
 
 -- such places are the end, and that of a token of another kind where the place past it is one
 pub none-end : (k : ℕ) (ts : List Token) → NoneFrom k ts (length ts)

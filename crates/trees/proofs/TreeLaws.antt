@@ -164,7 +164,7 @@ eat-rest (t ∷ ts) =
     let ih = eat-rest ts in
     whether (isBlank t) (λ e. rw (e, eatWs, skipWs) ih) (λ e. rw (e, eatWs, skipWs))
 
-skip-twice : (ts : List Token) → skipWs (skipWs ts) ≡ skipWs ts
+pub skip-twice : (ts : List Token) → skipWs (skipWs ts) ≡ skipWs ts
 unfolding skipWs
 skip-twice [] = refl
 skip-twice (t ∷ ts) =

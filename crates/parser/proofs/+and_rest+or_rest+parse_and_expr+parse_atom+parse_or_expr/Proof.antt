@@ -1,16 +1,18 @@
--- The functions that call each other follow their definitions, one step each; tokens left fall around the cycle. Assumes nothing.
+-- The functions that call each other follow their definitions, one step each, and the two loops from each of their steps on; tokens left fall around the cycle. Assumes nothing.
 use denote.Ref.{now}
 use mathlib.Core.Path.{sym, _∙_}
 use mathlib.Core.List.{[]}
 use native.Mathlib.Omega.{arith}
+use borrow.Author.Tests.{leb-true}
 use lib.ListN.{length}
-use Rattle.trees.specs.Parse.{OrExpr, OrRest, AndExpr, AndRest, Atom}
+use Rattle.lexer.specs.Lex.{lex}
+use Rattle.trees.specs.Parse.{parse, OrExpr, OrRest, AndExpr, AndRest, Atom}
 use Rattle.trees.proofs.TokenLaws.{table-length}
-use Rattle.trees.proofs.WritingLaws.{did-done, did-then, asks-first, asks-then, tree-long, errors-long, ready-then, node-room, node-level, asks-node, did-node, started-long, finished-long, finish-room, asks-true, asks-false, did-true, did-false, asks-is, did-is}
-use Rattle.trees.proofs.ParseLaws.{step-or-is, step-or-rest-is, step-and-is, step-and-rest-is, step-atom-is, atom-here-is}
+use Rattle.trees.proofs.WritingLaws.{did-then, asks-first, asks-then, tree-long, errors-long, ready-then, node-room, node-level, asks-node, did-node, started-long, finished-long, finish-room, asks-true, asks-false, did-true, did-false, asks-is, did-is}
+use Rattle.trees.proofs.ParseLaws.{step-or-is, step-and-is, step-atom-is, atom-here-is}
 use Rattle.trees.proofs.LookLaws.{at-yes, at-no}
 use Rattle.trees.proofs.StepLaws.{asks-step, did-step, bump-ahead}
-use Rattle.trees.proofs.CycleLaws.{started-token, bump-inside}
+use Rattle.trees.proofs.CycleLaws.{started-token, bump-inside, eaten, asks-alone, did-alone, Ongoing, ongoing-start, while-or, while-and, rest-end, rest-asks, rest-next}
 use Prim.Native.Nat.{ℕ, _+_, _*_, _-_, _<_}
 use borrow.Fn.Kinds.{In}
 use borrow.Fn.PlainCycle.{Measures, is, falls, and}
@@ -35,6 +37,7 @@ use Rattle.parser.proofs.eat_ws.Reads as eat-ws-reads
 use Rattle.parser.proofs.expect.Reads as expect-reads
 use Rattle.parser.proofs.finish_node.Reads as finish-node-reads
 use Rattle.parser.proofs.has_binary_op_at_level.Reads as has-binary-op-at-level-reads
+use Rattle.parser.proofs.next_kind.Reads as next-kind-reads
 use Rattle.parser.proofs.simple_atom.Reads as simple-atom-reads
 use Rattle.parser.proofs.start_node.Reads as start-node-reads
 use Rattle.parser.proofs.+and_rest+or_rest+parse_and_expr+parse_atom+parse_or_expr.{
@@ -109,67 +112,85 @@ parse-or-expr-below t =
     parse-or-expr.Pre
 
 abbrev and-rest-calls : ℕ → and-rest-lts.Claims
-and-rest-calls t = (current-kind-reads.Asked, current-kind-reads.Learnt, bump-reads.Asked, bump-reads.Learnt, parse-atom-below t, parse-atom.Post, and-rest-below t, and-rest.Post)
+and-rest-calls t = (current-kind-reads.Asked, current-kind-reads.Learnt, bump-reads.Asked, bump-reads.Learnt, parse-atom-below t, parse-atom.Post)
 
 abbrev or-rest-calls : ℕ → or-rest-lts.Claims
-or-rest-calls t = (current-kind-reads.Asked, current-kind-reads.Learnt, bump-reads.Asked, bump-reads.Learnt, parse-and-expr-below t, parse-and-expr.Post, or-rest-below t, or-rest.Post)
+or-rest-calls t = (current-kind-reads.Asked, current-kind-reads.Learnt, bump-reads.Asked, bump-reads.Learnt, parse-and-expr-below t, parse-and-expr.Post)
 
 abbrev parse-and-expr-calls : ℕ → parse-and-expr-lts.Claims
 parse-and-expr-calls t = (has-binary-op-at-level-reads.Asked, has-binary-op-at-level-reads.Learnt, start-node-reads.Asked, start-node-reads.Learnt, parse-atom-below t, parse-atom.Post, and-rest-below t, and-rest.Post, finish-node-reads.Asked, finish-node-reads.Learnt)
 
 abbrev parse-atom-calls : ℕ → parse-atom-lts.Claims
-parse-atom-calls t = (eat-ws-reads.Asked, eat-ws-reads.Learnt, current-kind-reads.Asked, current-kind-reads.Learnt, start-node-reads.Asked, start-node-reads.Learnt, bump-reads.Asked, bump-reads.Learnt, parse-atom-below t, parse-atom.Post, finish-node-reads.Asked, finish-node-reads.Learnt, parse-or-expr-below t, parse-or-expr.Post, expect-reads.Asked, expect-reads.Learnt, simple-atom-reads.Asked, simple-atom-reads.Learnt)
+parse-atom-calls t = (eat-ws-reads.Asked, eat-ws-reads.Learnt, next-kind-reads.Asked, next-kind-reads.Learnt, start-node-reads.Asked, start-node-reads.Learnt, bump-reads.Asked, bump-reads.Learnt, parse-atom-below t, parse-atom.Post, finish-node-reads.Asked, finish-node-reads.Learnt, parse-or-expr-below t, parse-or-expr.Post, expect-reads.Asked, expect-reads.Learnt, simple-atom-reads.Asked, simple-atom-reads.Learnt)
 
 abbrev parse-or-expr-calls : ℕ → parse-or-expr-lts.Claims
-parse-or-expr-calls t = (has-binary-op-at-level-reads.Asked, has-binary-op-at-level-reads.Learnt, start-node-reads.Asked, start-node-reads.Learnt, parse-and-expr-below t, parse-and-expr.Post, or-rest-below t, or-rest.Post, finish-node-reads.Asked, finish-node-reads.Learnt)
+parse-or-expr-calls t = (parse-atom-below t, parse-atom.Post, has-binary-op-at-level-reads.Asked, has-binary-op-at-level-reads.Learnt, start-node-reads.Asked, start-node-reads.Learnt, parse-and-expr-below t, parse-and-expr.Post, or-rest-below t, or-rest.Post, finish-node-reads.Asked, finish-node-reads.Learnt)
 
-and-rest-current-kind-requires : (t : ℕ) → and-rest-lts.Need-current-kind-requires (and-rest-calls t) (and-rest-at t) and-rest.Post
-and-rest-current-kind-requires t c κs = c .before .before .before .before .pre .1 .0 .fits .ready
+abbrev and-rest-Inv-loop : and-rest-lts.InvT-loop
+and-rest-Inv-loop rule tokens tree₀ errors₀ level ops d₀ tree errors d = Ongoing (lex rule) tokens tree₀ tree errors₀ errors level d₀ d (parse AndRest)
 
-and-rest-bump-requires : (t : ℕ) → and-rest-lts.Need-bump-requires (and-rest-calls t) (and-rest-at t) and-rest.Post
-and-rest-bump-requires t c κs = (asks-first _ _ (asks-first _ _ (asks-true _ _ _ (at-yes _ (c .before .before .current-kind .ensures) (c .before .if1 .taken)) (asks-is step-and-rest-is (asks-step AndRest (c .before .before .before .before .before .before .before .pre .1 .0)))))) .fits
+abbrev and-rest-μ-loop : and-rest-lts.MeasureT-loop
+and-rest-μ-loop rule tokens tree₀ errors₀ level ops d₀ tree errors d = length (lex rule) - d .token
 
-and-rest-parse-atom-requires : (t : ℕ) → and-rest-lts.Need-parse-atom-requires (and-rest-calls t) (and-rest-at t) and-rest.Post
-and-rest-parse-atom-requires t c κs = (omega (arith, c .before .before .before .before .before .before .before .before .before .before .before .before .pre .0, c .before .before .before .before .before .before .before .before .before .before .before .before .pre .1 .0 .fits .ready .within, table-length (c .before .before .before .before .before .before .before .before .before .before .before .before .pre .1 .0 .fits .ready), bump-ahead 14 (λ e. omega arith) (sym (c .before .before .before .before .before .before .before .current-kind .ensures) ∙ c .before .before .before .before .before .before .if1 .taken) (c .before .before .before .before .bump .ensures []), c .before .before .before .before .bump .ensures [] .wrote .within), (asks-then _ _ (asks-first _ _ (asks-true _ _ _ (at-yes _ (c .before .before .before .before .before .before .before .current-kind .ensures) (c .before .before .before .before .before .before .if1 .taken)) (asks-is step-and-rest-is (asks-step AndRest (c .before .before .before .before .before .before .before .before .before .before .before .before .pre .1 .0))))) (c .before .before .before .before .bump .ensures _), c .before .before .before .before .before .before .before .before .before .before .before .before .pre .1 .1))
+and-rest-loop-holds : (t : ℕ) → and-rest-lts.Need-loop-holds (and-rest-calls t) (and-rest-at t) and-rest.Post and-rest-Inv-loop and-rest-μ-loop
+and-rest-loop-holds t c = ongoing-start (c .before .before .before .before .pre .1 .0)
 
-and-rest-and-rest-requires : (t : ℕ) → and-rest-lts.Need-and-rest-requires (and-rest-calls t) (and-rest-at t) and-rest.Post
-and-rest-and-rest-requires t c κs = (omega (arith, c .before .before .before .before .before .before .before .before .before .before .before .before .before .before .before .before .before .before .before .pre .0, c .before .before .before .before .before .before .before .before .before .before .before .before .before .before .before .before .before .before .before .pre .1 .0 .fits .ready .within, table-length (c .before .before .before .before .before .before .before .before .before .before .before .before .before .before .before .before .before .before .before .pre .1 .0 .fits .ready), bump-ahead 14 (λ e. omega arith) (sym (c .before .before .before .before .before .before .before .before .before .before .before .before .before .before .current-kind .ensures) ∙ c .before .before .before .before .before .before .before .before .before .before .before .before .before .if1 .taken) (c .before .before .before .before .before .before .before .before .before .before .before .bump .ensures []), c .before .before .before .before .before .before .before .before .before .before .before .bump .ensures [] .wrote .within, c .before .before .before .before .before .before .parse-atom .ensures .wrote .ahead, c .before .before .before .before .before .before .parse-atom .ensures .wrote .within), (asks-then _ _ (asks-true _ _ _ (at-yes _ (c .before .before .before .before .before .before .before .before .before .before .before .before .before .before .current-kind .ensures) (c .before .before .before .before .before .before .before .before .before .before .before .before .before .if1 .taken)) (asks-is step-and-rest-is (asks-step AndRest (c .before .before .before .before .before .before .before .before .before .before .before .before .before .before .before .before .before .before .before .pre .1 .0)))) (did-then (c .before .before .before .before .before .before .before .before .before .before .before .bump .ensures _) (c .before .before .before .before .before .before .parse-atom .ensures)), c .before .before .before .before .before .before .before .before .before .before .before .before .before .before .before .before .before .before .before .pre .1 .1))
+and-rest-current-kind-requires : (t : ℕ) → and-rest-lts.Need-current-kind-requires (and-rest-calls t) (and-rest-at t) and-rest.Post and-rest-Inv-loop and-rest-μ-loop
+and-rest-current-kind-requires t c κs = c .loop .inv .asks .fits .ready
 
-and-rest-same-length : (t : ℕ) → and-rest-lts.Need-same-length (and-rest-calls t) (and-rest-at t) and-rest.Post
-and-rest-same-length t c = tree-long (did-then (did-then (c .before .before .before .before .before .before .before .before .before .before .before .before .before .before .before .before .bump .ensures _) (c .before .before .before .before .before .before .before .before .before .before .before .parse-atom .ensures)) (c .before .before .before .before .and-rest .ensures))
+and-rest-bump-requires : (t : ℕ) → and-rest-lts.Need-bump-requires (and-rest-calls t) (and-rest-at t) and-rest.Post and-rest-Inv-loop and-rest-μ-loop
+and-rest-bump-requires t c κs = asks-first _ _ (rest-asks while-and (c .before .before .before .loop .inv) (at-yes _ (c .before .before .current-kind .ensures) (c .before .if1 .taken))) .fits
 
-and-rest-same-length-2 : (t : ℕ) → and-rest-lts.Need-same-length-2 (and-rest-calls t) (and-rest-at t) and-rest.Post
-and-rest-same-length-2 t c = errors-long (did-then (did-then (c .before .before .before .before .before .before .before .before .before .before .before .before .before .before .before .before .bump .ensures _) (c .before .before .before .before .before .before .before .before .before .before .before .parse-atom .ensures)) (c .before .before .before .before .and-rest .ensures))
+and-rest-parse-atom-requires : (t : ℕ) → and-rest-lts.Need-parse-atom-requires (and-rest-calls t) (and-rest-at t) and-rest.Post and-rest-Inv-loop and-rest-μ-loop
+and-rest-parse-atom-requires t c κs = (omega (arith, c .before .before .before .before .before .before .before .before .before .before .before .before .before .pre .0, c .before .before .before .before .before .before .before .before .loop .inv .ahead, c .before .before .before .before .before .before .before .before .loop .inv .asks .fits .ready .within, table-length (c .before .before .before .before .before .before .before .before .loop .inv .asks .fits .ready), bump-ahead 14 (λ e. omega arith) (sym (c .before .before .before .before .before .before .before .current-kind .ensures) ∙ c .before .before .before .before .before .before .if1 .taken) (c .before .before .before .before .bump .ensures []), c .before .before .before .before .bump .ensures [] .wrote .within), (asks-then _ _ (rest-asks while-and (c .before .before .before .before .before .before .before .before .loop .inv) (at-yes _ (c .before .before .before .before .before .before .before .current-kind .ensures) (c .before .before .before .before .before .before .if1 .taken))) (c .before .before .before .before .bump .ensures _), c .before .before .before .before .before .before .before .before .before .before .before .before .before .pre .1 .1))
 
-and-rest-returns : (t : ℕ) → and-rest-lts.Need-returns (and-rest-calls t) (and-rest-at t) and-rest.Post
-and-rest-returns t c = did-step AndRest (did-is step-and-rest-is (did-true _ _ _ (at-yes _ (c .before .before .before .before .before .before .before .before .before .before .before .before .before .before .before .before .before .before .before .current-kind .ensures) (c .before .before .before .before .before .before .before .before .before .before .before .before .before .before .before .before .before .before .if1 .taken)) (did-then (did-then (c .before .before .before .before .before .before .before .before .before .before .before .before .before .before .before .before .bump .ensures _) (c .before .before .before .before .before .before .before .before .before .before .before .parse-atom .ensures)) (c .before .before .before .before .and-rest .ensures))))
+and-rest-loop-less : (t : ℕ) → and-rest-lts.Need-loop-less (and-rest-calls t) (and-rest-at t) and-rest.Post and-rest-Inv-loop and-rest-μ-loop
+and-rest-loop-less t c = omega (arith, bump-ahead 14 (λ e. omega arith) (sym (c .before .before .before .before .before .before .before .before .before .before .before .before .current-kind .ensures) ∙ c .before .before .before .before .before .before .before .before .before .before .before .if1 .taken) (c .before .before .before .before .before .before .before .before .before .bump .ensures []), c .before .before .before .before .parse-atom .ensures .wrote .ahead, c .before .before .before .before .parse-atom .ensures .wrote .within)
 
-and-rest-returns-2 : (t : ℕ) → and-rest-lts.Need-returns-2 (and-rest-calls t) (and-rest-at t) and-rest.Post
-and-rest-returns-2 t c = did-step AndRest (did-is step-and-rest-is (did-false _ _ _ (at-no _ (c .before .current-kind .ensures) (c .if1 .left)) (did-done (c .before .before .before .before .before .before .pre .1 .0 .fits .ready))))
+and-rest-loop-again : (t : ℕ) → and-rest-lts.Need-loop-again (and-rest-calls t) (and-rest-at t) and-rest.Post and-rest-Inv-loop and-rest-μ-loop
+and-rest-loop-again t c = rest-next while-and (c .before .before .before .before .before .before .before .before .before .before .before .before .before .loop .inv) (at-yes _ (c .before .before .before .before .before .before .before .before .before .before .before .before .current-kind .ensures) (c .before .before .before .before .before .before .before .before .before .before .before .if1 .taken)) (did-then (c .before .before .before .before .before .before .before .before .before .bump .ensures _) (c .before .before .before .before .parse-atom .ensures))
 
-or-rest-current-kind-requires : (t : ℕ) → or-rest-lts.Need-current-kind-requires (or-rest-calls t) (or-rest-at t) or-rest.Post
-or-rest-current-kind-requires t c κs = c .before .before .before .before .pre .1 .0 .fits .ready
+and-rest-same-length : (t : ℕ) → and-rest-lts.Need-same-length (and-rest-calls t) (and-rest-at t) and-rest.Post and-rest-Inv-loop and-rest-μ-loop
+and-rest-same-length t c = c .before .before .loop .inv .tree
 
-or-rest-bump-requires : (t : ℕ) → or-rest-lts.Need-bump-requires (or-rest-calls t) (or-rest-at t) or-rest.Post
-or-rest-bump-requires t c κs = (asks-first _ _ (asks-first _ _ (asks-true _ _ _ (at-yes _ (c .before .before .current-kind .ensures) (c .before .if1 .taken)) (asks-is step-or-rest-is (asks-step OrRest (c .before .before .before .before .before .before .before .pre .1 .0)))))) .fits
+and-rest-same-length-2 : (t : ℕ) → and-rest-lts.Need-same-length-2 (and-rest-calls t) (and-rest-at t) and-rest.Post and-rest-Inv-loop and-rest-μ-loop
+and-rest-same-length-2 t c = c .before .before .loop .inv .errors
 
-or-rest-parse-and-expr-requires : (t : ℕ) → or-rest-lts.Need-parse-and-expr-requires (or-rest-calls t) (or-rest-at t) or-rest.Post
-or-rest-parse-and-expr-requires t c κs = (omega (arith, c .before .before .before .before .before .before .before .before .before .before .before .before .pre .0, c .before .before .before .before .before .before .before .before .before .before .before .before .pre .1 .0 .fits .ready .within, table-length (c .before .before .before .before .before .before .before .before .before .before .before .before .pre .1 .0 .fits .ready), bump-ahead 15 (λ e. omega arith) (sym (c .before .before .before .before .before .before .before .current-kind .ensures) ∙ c .before .before .before .before .before .before .if1 .taken) (c .before .before .before .before .bump .ensures []), c .before .before .before .before .bump .ensures [] .wrote .within), (asks-then _ _ (asks-first _ _ (asks-true _ _ _ (at-yes _ (c .before .before .before .before .before .before .before .current-kind .ensures) (c .before .before .before .before .before .before .if1 .taken)) (asks-is step-or-rest-is (asks-step OrRest (c .before .before .before .before .before .before .before .before .before .before .before .before .pre .1 .0))))) (c .before .before .before .before .bump .ensures _), c .before .before .before .before .before .before .before .before .before .before .before .before .pre .1 .1))
+and-rest-returns : (t : ℕ) → and-rest-lts.Need-returns (and-rest-calls t) (and-rest-at t) and-rest.Post and-rest-Inv-loop and-rest-μ-loop
+and-rest-returns t c = rest-end while-and (c .before .before .loop .inv) (at-no _ (c .before .current-kind .ensures) (c .if1 .left))
 
-or-rest-or-rest-requires : (t : ℕ) → or-rest-lts.Need-or-rest-requires (or-rest-calls t) (or-rest-at t) or-rest.Post
-or-rest-or-rest-requires t c κs = (omega (arith, c .before .before .before .before .before .before .before .before .before .before .before .before .before .before .before .before .before .before .before .pre .0, c .before .before .before .before .before .before .before .before .before .before .before .before .before .before .before .before .before .before .before .pre .1 .0 .fits .ready .within, table-length (c .before .before .before .before .before .before .before .before .before .before .before .before .before .before .before .before .before .before .before .pre .1 .0 .fits .ready), bump-ahead 15 (λ e. omega arith) (sym (c .before .before .before .before .before .before .before .before .before .before .before .before .before .before .current-kind .ensures) ∙ c .before .before .before .before .before .before .before .before .before .before .before .before .before .if1 .taken) (c .before .before .before .before .before .before .before .before .before .before .before .bump .ensures []), c .before .before .before .before .before .before .before .before .before .before .before .bump .ensures [] .wrote .within, c .before .before .before .before .before .before .parse-and-expr .ensures .wrote .ahead, c .before .before .before .before .before .before .parse-and-expr .ensures .wrote .within), (asks-then _ _ (asks-true _ _ _ (at-yes _ (c .before .before .before .before .before .before .before .before .before .before .before .before .before .before .current-kind .ensures) (c .before .before .before .before .before .before .before .before .before .before .before .before .before .if1 .taken)) (asks-is step-or-rest-is (asks-step OrRest (c .before .before .before .before .before .before .before .before .before .before .before .before .before .before .before .before .before .before .before .pre .1 .0)))) (did-then (c .before .before .before .before .before .before .before .before .before .before .before .bump .ensures _) (c .before .before .before .before .before .before .parse-and-expr .ensures)), c .before .before .before .before .before .before .before .before .before .before .before .before .before .before .before .before .before .before .before .pre .1 .1))
+abbrev or-rest-Inv-loop : or-rest-lts.InvT-loop
+or-rest-Inv-loop rule tokens tree₀ errors₀ level ops d₀ tree errors d = Ongoing (lex rule) tokens tree₀ tree errors₀ errors level d₀ d (parse OrRest)
 
-or-rest-same-length : (t : ℕ) → or-rest-lts.Need-same-length (or-rest-calls t) (or-rest-at t) or-rest.Post
-or-rest-same-length t c = tree-long (did-then (did-then (c .before .before .before .before .before .before .before .before .before .before .before .before .before .before .before .before .bump .ensures _) (c .before .before .before .before .before .before .before .before .before .before .before .parse-and-expr .ensures)) (c .before .before .before .before .or-rest .ensures))
+abbrev or-rest-μ-loop : or-rest-lts.MeasureT-loop
+or-rest-μ-loop rule tokens tree₀ errors₀ level ops d₀ tree errors d = length (lex rule) - d .token
 
-or-rest-same-length-2 : (t : ℕ) → or-rest-lts.Need-same-length-2 (or-rest-calls t) (or-rest-at t) or-rest.Post
-or-rest-same-length-2 t c = errors-long (did-then (did-then (c .before .before .before .before .before .before .before .before .before .before .before .before .before .before .before .before .bump .ensures _) (c .before .before .before .before .before .before .before .before .before .before .before .parse-and-expr .ensures)) (c .before .before .before .before .or-rest .ensures))
+or-rest-loop-holds : (t : ℕ) → or-rest-lts.Need-loop-holds (or-rest-calls t) (or-rest-at t) or-rest.Post or-rest-Inv-loop or-rest-μ-loop
+or-rest-loop-holds t c = ongoing-start (c .before .before .before .before .pre .1 .0)
 
-or-rest-returns : (t : ℕ) → or-rest-lts.Need-returns (or-rest-calls t) (or-rest-at t) or-rest.Post
-or-rest-returns t c = did-step OrRest (did-is step-or-rest-is (did-true _ _ _ (at-yes _ (c .before .before .before .before .before .before .before .before .before .before .before .before .before .before .before .before .before .before .before .current-kind .ensures) (c .before .before .before .before .before .before .before .before .before .before .before .before .before .before .before .before .before .before .if1 .taken)) (did-then (did-then (c .before .before .before .before .before .before .before .before .before .before .before .before .before .before .before .before .bump .ensures _) (c .before .before .before .before .before .before .before .before .before .before .before .parse-and-expr .ensures)) (c .before .before .before .before .or-rest .ensures))))
+or-rest-current-kind-requires : (t : ℕ) → or-rest-lts.Need-current-kind-requires (or-rest-calls t) (or-rest-at t) or-rest.Post or-rest-Inv-loop or-rest-μ-loop
+or-rest-current-kind-requires t c κs = c .loop .inv .asks .fits .ready
 
-or-rest-returns-2 : (t : ℕ) → or-rest-lts.Need-returns-2 (or-rest-calls t) (or-rest-at t) or-rest.Post
-or-rest-returns-2 t c = did-step OrRest (did-is step-or-rest-is (did-false _ _ _ (at-no _ (c .before .current-kind .ensures) (c .if1 .left)) (did-done (c .before .before .before .before .before .before .pre .1 .0 .fits .ready))))
+or-rest-bump-requires : (t : ℕ) → or-rest-lts.Need-bump-requires (or-rest-calls t) (or-rest-at t) or-rest.Post or-rest-Inv-loop or-rest-μ-loop
+or-rest-bump-requires t c κs = asks-first _ _ (rest-asks while-or (c .before .before .before .loop .inv) (at-yes _ (c .before .before .current-kind .ensures) (c .before .if1 .taken))) .fits
+
+or-rest-parse-and-expr-requires : (t : ℕ) → or-rest-lts.Need-parse-and-expr-requires (or-rest-calls t) (or-rest-at t) or-rest.Post or-rest-Inv-loop or-rest-μ-loop
+or-rest-parse-and-expr-requires t c κs = (omega (arith, c .before .before .before .before .before .before .before .before .before .before .before .before .before .pre .0, c .before .before .before .before .before .before .before .before .loop .inv .ahead, c .before .before .before .before .before .before .before .before .loop .inv .asks .fits .ready .within, table-length (c .before .before .before .before .before .before .before .before .loop .inv .asks .fits .ready), bump-ahead 15 (λ e. omega arith) (sym (c .before .before .before .before .before .before .before .current-kind .ensures) ∙ c .before .before .before .before .before .before .if1 .taken) (c .before .before .before .before .bump .ensures []), c .before .before .before .before .bump .ensures [] .wrote .within), (asks-then _ _ (rest-asks while-or (c .before .before .before .before .before .before .before .before .loop .inv) (at-yes _ (c .before .before .before .before .before .before .before .current-kind .ensures) (c .before .before .before .before .before .before .if1 .taken))) (c .before .before .before .before .bump .ensures _), c .before .before .before .before .before .before .before .before .before .before .before .before .before .pre .1 .1))
+
+or-rest-loop-less : (t : ℕ) → or-rest-lts.Need-loop-less (or-rest-calls t) (or-rest-at t) or-rest.Post or-rest-Inv-loop or-rest-μ-loop
+or-rest-loop-less t c = omega (arith, bump-ahead 15 (λ e. omega arith) (sym (c .before .before .before .before .before .before .before .before .before .before .before .before .current-kind .ensures) ∙ c .before .before .before .before .before .before .before .before .before .before .before .if1 .taken) (c .before .before .before .before .before .before .before .before .before .bump .ensures []), c .before .before .before .before .parse-and-expr .ensures .wrote .ahead, c .before .before .before .before .parse-and-expr .ensures .wrote .within)
+
+or-rest-loop-again : (t : ℕ) → or-rest-lts.Need-loop-again (or-rest-calls t) (or-rest-at t) or-rest.Post or-rest-Inv-loop or-rest-μ-loop
+or-rest-loop-again t c = rest-next while-or (c .before .before .before .before .before .before .before .before .before .before .before .before .before .loop .inv) (at-yes _ (c .before .before .before .before .before .before .before .before .before .before .before .before .current-kind .ensures) (c .before .before .before .before .before .before .before .before .before .before .before .if1 .taken)) (did-then (c .before .before .before .before .before .before .before .before .before .bump .ensures _) (c .before .before .before .before .parse-and-expr .ensures))
+
+or-rest-same-length : (t : ℕ) → or-rest-lts.Need-same-length (or-rest-calls t) (or-rest-at t) or-rest.Post or-rest-Inv-loop or-rest-μ-loop
+or-rest-same-length t c = c .before .before .loop .inv .tree
+
+or-rest-same-length-2 : (t : ℕ) → or-rest-lts.Need-same-length-2 (or-rest-calls t) (or-rest-at t) or-rest.Post or-rest-Inv-loop or-rest-μ-loop
+or-rest-same-length-2 t c = c .before .before .loop .inv .errors
+
+or-rest-returns : (t : ℕ) → or-rest-lts.Need-returns (or-rest-calls t) (or-rest-at t) or-rest.Post or-rest-Inv-loop or-rest-μ-loop
+or-rest-returns t c = rest-end while-or (c .before .before .loop .inv) (at-no _ (c .before .current-kind .ensures) (c .if1 .left))
 
 parse-and-expr-has-binary-op-at-level-requires : (t : ℕ) → parse-and-expr-lts.Need-has-binary-op-at-level-requires (parse-and-expr-calls t) (parse-and-expr-at t) parse-and-expr.Post
 parse-and-expr-has-binary-op-at-level-requires t c κs = (c .before .before .before .before .pre .1 .0 .fits .ready, c .before .before .before .before .pre .1 .1 .ands)
@@ -216,26 +237,26 @@ parse-and-expr-returns-2 t c = did-step AndExpr (did-is step-and-is (did-false _
 parse-atom-eat-ws-requires : (t : ℕ) → parse-atom-lts.Need-eat-ws-requires (parse-atom-calls t) (parse-atom-at t) parse-atom.Post
 parse-atom-eat-ws-requires t c κs = asks-first _ _ (asks-is step-atom-is (asks-step Atom (c .before .before .before .before .before .pre .1 .0))) .fits
 
-parse-atom-current-kind-requires : (t : ℕ) → parse-atom-lts.Need-current-kind-requires (parse-atom-calls t) (parse-atom-at t) parse-atom.Post
-parse-atom-current-kind-requires t c κs = (ready-then (c .before .before .eat-ws .ensures []) (c .before .before .before .before .before .before .before .before .pre .1 .0 .fits .ready))
+parse-atom-next-kind-requires : (t : ℕ) → parse-atom-lts.Need-next-kind-requires (parse-atom-calls t) (parse-atom-at t) parse-atom.Post
+parse-atom-next-kind-requires t c κs = (ready-then (c .before .before .eat-ws .ensures []) (c .before .before .before .before .before .before .before .before .pre .1 .0 .fits .ready))
 
 parse-atom-start-node-requires : (t : ℕ) → parse-atom-lts.Need-start-node-requires (parse-atom-calls t) (parse-atom-at t) parse-atom.Post
-parse-atom-start-node-requires t c κs = node-room _ _ (asks-true _ _ _ (at-yes _ (c .before .before .current-kind .ensures) (c .before .if1 .taken)) (asks-is atom-here-is (asks-then _ _ (asks-is step-atom-is (asks-step Atom (c .before .before .before .before .before .before .before .before .before .before .before .pre .1 .0))) (c .before .before .before .before .before .eat-ws .ensures _))))
+parse-atom-start-node-requires t c κs = node-room _ _ (asks-true _ _ _ (at-yes _ (eaten (c .before .before .before .before .before .eat-ws .ensures []) (c .before .before .next-kind .ensures)) (c .before .if1 .taken)) (asks-is atom-here-is (asks-then _ _ (asks-is step-atom-is (asks-step Atom (c .before .before .before .before .before .before .before .before .before .before .before .pre .1 .0))) (c .before .before .before .before .before .eat-ws .ensures _))))
 
 parse-atom-add-bump : (t : ℕ) → parse-atom-lts.Need-add-bump (parse-atom-calls t) (parse-atom-at t) parse-atom.Post
-parse-atom-add-bump t c = record { fits = node-level _ _ (asks-true _ _ _ (at-yes _ (c .before .before .before .before .before .before .current-kind .ensures) (c .before .before .before .before .before .if1 .taken)) (asks-is atom-here-is (asks-then _ _ (asks-is step-atom-is (asks-step Atom (c .before .before .before .before .before .before .before .before .before .before .before .before .before .before .before .pre .1 .0))) (c .before .before .before .before .before .before .before .before .before .eat-ws .ensures _)))) }
+parse-atom-add-bump t c = record { fits = node-level _ _ (asks-true _ _ _ (at-yes _ (eaten (c .before .before .before .before .before .before .before .before .before .eat-ws .ensures []) (c .before .before .before .before .before .before .next-kind .ensures)) (c .before .before .before .before .before .if1 .taken)) (asks-is atom-here-is (asks-then _ _ (asks-is step-atom-is (asks-step Atom (c .before .before .before .before .before .before .before .before .before .before .before .before .before .before .before .pre .1 .0))) (c .before .before .before .before .before .before .before .before .before .eat-ws .ensures _)))) }
 
 parse-atom-bump-requires : (t : ℕ) → parse-atom-lts.Need-bump-requires (parse-atom-calls t) (parse-atom-at t) parse-atom.Post
-parse-atom-bump-requires t c κs = (asks-first _ _ (asks-node _ _ (asks-true _ _ _ (at-yes _ (c .before .before .before .before .before .before .current-kind .ensures) (c .before .before .before .before .before .if1 .taken)) (asks-is atom-here-is (asks-then _ _ (asks-is step-atom-is (asks-step Atom (c .before .before .before .before .before .before .before .before .before .before .before .before .before .before .before .pre .1 .0))) (c .before .before .before .before .before .before .before .before .before .eat-ws .ensures _)))) (c .before .before .before .start-node .ensures))) .fits
+parse-atom-bump-requires t c κs = (asks-first _ _ (asks-node _ _ (asks-true _ _ _ (at-yes _ (eaten (c .before .before .before .before .before .before .before .before .before .eat-ws .ensures []) (c .before .before .before .before .before .before .next-kind .ensures)) (c .before .before .before .before .before .if1 .taken)) (asks-is atom-here-is (asks-then _ _ (asks-is step-atom-is (asks-step Atom (c .before .before .before .before .before .before .before .before .before .before .before .before .before .before .before .pre .1 .0))) (c .before .before .before .before .before .before .before .before .before .eat-ws .ensures _)))) (c .before .before .before .start-node .ensures))) .fits
 
 parse-atom-add-parse-atom : (t : ℕ) → parse-atom-lts.Need-add-parse-atom (parse-atom-calls t) (parse-atom-at t) parse-atom.Post
-parse-atom-add-parse-atom t c = record { fits = node-level _ _ (asks-true _ _ _ (at-yes _ (c .before .before .before .before .before .before .before .before .before .before .before .current-kind .ensures) (c .before .before .before .before .before .before .before .before .before .before .if1 .taken)) (asks-is atom-here-is (asks-then _ _ (asks-is step-atom-is (asks-step Atom (c .before .before .before .before .before .before .before .before .before .before .before .before .before .before .before .before .before .before .before .before .pre .1 .0))) (c .before .before .before .before .before .before .before .before .before .before .before .before .before .before .eat-ws .ensures _)))) }
+parse-atom-add-parse-atom t c = record { fits = node-level _ _ (asks-true _ _ _ (at-yes _ (eaten (c .before .before .before .before .before .before .before .before .before .before .before .before .before .before .eat-ws .ensures []) (c .before .before .before .before .before .before .before .before .before .before .before .next-kind .ensures)) (c .before .before .before .before .before .before .before .before .before .before .if1 .taken)) (asks-is atom-here-is (asks-then _ _ (asks-is step-atom-is (asks-step Atom (c .before .before .before .before .before .before .before .before .before .before .before .before .before .before .before .before .before .before .before .before .pre .1 .0))) (c .before .before .before .before .before .before .before .before .before .before .before .before .before .before .eat-ws .ensures _)))) }
 
 parse-atom-parse-atom-requires : (t : ℕ) → parse-atom-lts.Need-parse-atom-requires (parse-atom-calls t) (parse-atom-at t) parse-atom.Post
-parse-atom-parse-atom-requires t c κs = (omega (arith, c .before .before .before .before .before .before .before .before .before .before .before .before .before .before .before .before .before .before .before .before .pre .0, c .before .before .before .before .before .before .before .before .before .before .before .before .before .before .before .before .before .before .before .before .pre .1 .0 .fits .ready .within, table-length (c .before .before .before .before .before .before .before .before .before .before .before .before .before .before .before .before .before .before .before .before .pre .1 .0 .fits .ready), bump-inside 16 (λ e. omega arith) (sym (c .before .before .before .before .before .before .before .before .before .before .before .current-kind .ensures) ∙ c .before .before .before .before .before .before .before .before .before .before .if1 .taken) (c .before .before .before .before .before .before .before .before .start-node .ensures) (c .before .before .before .before .bump .ensures []), c .before .before .before .before .bump .ensures [] .wrote .within, c .before .before .before .before .before .before .before .before .before .before .before .before .before .before .eat-ws .ensures [] .wrote .ahead), (asks-then _ _ (asks-node _ _ (asks-true _ _ _ (at-yes _ (c .before .before .before .before .before .before .before .before .before .before .before .current-kind .ensures) (c .before .before .before .before .before .before .before .before .before .before .if1 .taken)) (asks-is atom-here-is (asks-then _ _ (asks-is step-atom-is (asks-step Atom (c .before .before .before .before .before .before .before .before .before .before .before .before .before .before .before .before .before .before .before .before .pre .1 .0))) (c .before .before .before .before .before .before .before .before .before .before .before .before .before .before .eat-ws .ensures _)))) (c .before .before .before .before .before .before .before .before .start-node .ensures)) (c .before .before .before .before .bump .ensures _), c .before .before .before .before .before .before .before .before .before .before .before .before .before .before .before .before .before .before .before .before .pre .1 .1))
+parse-atom-parse-atom-requires t c κs = (omega (arith, c .before .before .before .before .before .before .before .before .before .before .before .before .before .before .before .before .before .before .before .before .pre .0, c .before .before .before .before .before .before .before .before .before .before .before .before .before .before .before .before .before .before .before .before .pre .1 .0 .fits .ready .within, table-length (c .before .before .before .before .before .before .before .before .before .before .before .before .before .before .before .before .before .before .before .before .pre .1 .0 .fits .ready), bump-inside 16 (λ e. omega arith) (sym (eaten (c .before .before .before .before .before .before .before .before .before .before .before .before .before .before .eat-ws .ensures []) (c .before .before .before .before .before .before .before .before .before .before .before .next-kind .ensures)) ∙ c .before .before .before .before .before .before .before .before .before .before .if1 .taken) (c .before .before .before .before .before .before .before .before .start-node .ensures) (c .before .before .before .before .bump .ensures []), c .before .before .before .before .bump .ensures [] .wrote .within, c .before .before .before .before .before .before .before .before .before .before .before .before .before .before .eat-ws .ensures [] .wrote .ahead), (asks-then _ _ (asks-node _ _ (asks-true _ _ _ (at-yes _ (eaten (c .before .before .before .before .before .before .before .before .before .before .before .before .before .before .eat-ws .ensures []) (c .before .before .before .before .before .before .before .before .before .before .before .next-kind .ensures)) (c .before .before .before .before .before .before .before .before .before .before .if1 .taken)) (asks-is atom-here-is (asks-then _ _ (asks-is step-atom-is (asks-step Atom (c .before .before .before .before .before .before .before .before .before .before .before .before .before .before .before .before .before .before .before .before .pre .1 .0))) (c .before .before .before .before .before .before .before .before .before .before .before .before .before .before .eat-ws .ensures _)))) (c .before .before .before .before .before .before .before .before .start-node .ensures)) (c .before .before .before .before .bump .ensures _), c .before .before .before .before .before .before .before .before .before .before .before .before .before .before .before .before .before .before .before .before .pre .1 .1))
 
 parse-atom-finish-node-requires : (t : ℕ) → parse-atom-lts.Need-finish-node-requires (parse-atom-calls t) (parse-atom-at t) parse-atom.Post
-parse-atom-finish-node-requires t c κs = finish-room (node-room _ _ (asks-true _ _ _ (at-yes _ (c .before .before .before .before .before .before .before .before .before .before .before .before .before .before .before .before .before .current-kind .ensures) (c .before .before .before .before .before .before .before .before .before .before .before .before .before .before .before .before .if1 .taken)) (asks-is atom-here-is (asks-then _ _ (asks-is step-atom-is (asks-step Atom (c .before .before .before .before .before .before .before .before .before .before .before .before .before .before .before .before .before .before .before .before .before .before .before .before .before .before .pre .1 .0))) (c .before .before .before .before .before .before .before .before .before .before .before .before .before .before .before .before .before .before .before .before .eat-ws .ensures _))))) (c .before .before .before .before .before .before .before .before .before .before .before .before .before .before .start-node .ensures) (did-then (c .before .before .before .before .before .before .before .before .before .before .bump .ensures _) (c .before .before .before .before .before .parse-atom .ensures))
+parse-atom-finish-node-requires t c κs = finish-room (node-room _ _ (asks-true _ _ _ (at-yes _ (eaten (c .before .before .before .before .before .before .before .before .before .before .before .before .before .before .before .before .before .before .before .before .eat-ws .ensures []) (c .before .before .before .before .before .before .before .before .before .before .before .before .before .before .before .before .before .next-kind .ensures)) (c .before .before .before .before .before .before .before .before .before .before .before .before .before .before .before .before .if1 .taken)) (asks-is atom-here-is (asks-then _ _ (asks-is step-atom-is (asks-step Atom (c .before .before .before .before .before .before .before .before .before .before .before .before .before .before .before .before .before .before .before .before .before .before .before .before .before .before .pre .1 .0))) (c .before .before .before .before .before .before .before .before .before .before .before .before .before .before .before .before .before .before .before .before .eat-ws .ensures _))))) (c .before .before .before .before .before .before .before .before .before .before .before .before .before .before .start-node .ensures) (did-then (c .before .before .before .before .before .before .before .before .before .before .bump .ensures _) (c .before .before .before .before .before .parse-atom .ensures))
 
 parse-atom-same-length : (t : ℕ) → parse-atom-lts.Need-same-length (parse-atom-calls t) (parse-atom-at t) parse-atom.Post
 parse-atom-same-length t c = finished-long (c .before .before .finish-node .ensures) ∙ tree-long (did-then (c .before .before .before .before .before .before .before .before .before .before .before .before .before .bump .ensures _) (c .before .before .before .before .before .before .before .before .parse-atom .ensures)) ∙ started-long (c .before .before .before .before .before .before .before .before .before .before .before .before .before .before .before .before .before .start-node .ensures) ∙ tree-long (c .before .before .before .before .before .before .before .before .before .before .before .before .before .before .before .before .before .before .before .before .before .before .before .eat-ws .ensures [])
@@ -244,31 +265,31 @@ parse-atom-same-length-2 : (t : ℕ) → parse-atom-lts.Need-same-length-2 (pars
 parse-atom-same-length-2 t c = errors-long (did-then (c .before .before .before .before .before .before .before .before .before .before .before .before .before .bump .ensures _) (c .before .before .before .before .before .before .before .before .parse-atom .ensures))
 
 parse-atom-returns : (t : ℕ) → parse-atom-lts.Need-returns (parse-atom-calls t) (parse-atom-at t) parse-atom.Post
-parse-atom-returns t c = did-step Atom (did-is step-atom-is (did-then (c .before .before .before .before .before .before .before .before .before .before .before .before .before .before .before .before .before .before .before .before .before .before .before .eat-ws .ensures _) (did-is atom-here-is (did-true _ _ _ (at-yes _ (c .before .before .before .before .before .before .before .before .before .before .before .before .before .before .before .before .before .before .before .before .current-kind .ensures) (c .before .before .before .before .before .before .before .before .before .before .before .before .before .before .before .before .before .before .before .if1 .taken)) (did-node (c .before .before .before .before .before .before .before .before .before .before .before .before .before .before .before .before .before .start-node .ensures) (did-then (c .before .before .before .before .before .before .before .before .before .before .before .before .before .bump .ensures _) (c .before .before .before .before .before .before .before .before .parse-atom .ensures)) (c .before .before .finish-node .ensures))))))
+parse-atom-returns t c = did-step Atom (did-is step-atom-is (did-then (c .before .before .before .before .before .before .before .before .before .before .before .before .before .before .before .before .before .before .before .before .before .before .before .eat-ws .ensures _) (did-is atom-here-is (did-true _ _ _ (at-yes _ (eaten (c .before .before .before .before .before .before .before .before .before .before .before .before .before .before .before .before .before .before .before .before .before .before .before .eat-ws .ensures []) (c .before .before .before .before .before .before .before .before .before .before .before .before .before .before .before .before .before .before .before .before .next-kind .ensures)) (c .before .before .before .before .before .before .before .before .before .before .before .before .before .before .before .before .before .before .before .if1 .taken)) (did-node (c .before .before .before .before .before .before .before .before .before .before .before .before .before .before .before .before .before .start-node .ensures) (did-then (c .before .before .before .before .before .before .before .before .before .before .before .before .before .bump .ensures _) (c .before .before .before .before .before .before .before .before .parse-atom .ensures)) (c .before .before .finish-node .ensures))))))
 
 parse-atom-start-node-requires-2 : (t : ℕ) → parse-atom-lts.Need-start-node-requires-2 (parse-atom-calls t) (parse-atom-at t) parse-atom.Post
-parse-atom-start-node-requires-2 t c κs = node-room _ _ (asks-true _ _ _ (at-yes _ (c .before .before .before .current-kind .ensures) (c .before .if2 .taken)) (asks-false _ _ _ (at-no _ (c .before .before .before .current-kind .ensures) (c .before .before .if1 .left)) (asks-is atom-here-is (asks-then _ _ (asks-is step-atom-is (asks-step Atom (c .before .before .before .before .before .before .before .before .before .before .before .before .pre .1 .0))) (c .before .before .before .before .before .before .eat-ws .ensures _)))))
+parse-atom-start-node-requires-2 t c κs = node-room _ _ (asks-true _ _ _ (at-yes _ (eaten (c .before .before .before .before .before .before .eat-ws .ensures []) (c .before .before .before .next-kind .ensures)) (c .before .if2 .taken)) (asks-false _ _ _ (at-no _ (eaten (c .before .before .before .before .before .before .eat-ws .ensures []) (c .before .before .before .next-kind .ensures)) (c .before .before .if1 .left)) (asks-is atom-here-is (asks-then _ _ (asks-is step-atom-is (asks-step Atom (c .before .before .before .before .before .before .before .before .before .before .before .before .pre .1 .0))) (c .before .before .before .before .before .before .eat-ws .ensures _)))))
 
 parse-atom-add-bump-2 : (t : ℕ) → parse-atom-lts.Need-add-bump-2 (parse-atom-calls t) (parse-atom-at t) parse-atom.Post
-parse-atom-add-bump-2 t c = record { fits = node-level _ _ (asks-true _ _ _ (at-yes _ (c .before .before .before .before .before .before .before .current-kind .ensures) (c .before .before .before .before .before .if2 .taken)) (asks-false _ _ _ (at-no _ (c .before .before .before .before .before .before .before .current-kind .ensures) (c .before .before .before .before .before .before .if1 .left)) (asks-is atom-here-is (asks-then _ _ (asks-is step-atom-is (asks-step Atom (c .before .before .before .before .before .before .before .before .before .before .before .before .before .before .before .before .pre .1 .0))) (c .before .before .before .before .before .before .before .before .before .before .eat-ws .ensures _))))) }
+parse-atom-add-bump-2 t c = record { fits = node-level _ _ (asks-true _ _ _ (at-yes _ (eaten (c .before .before .before .before .before .before .before .before .before .before .eat-ws .ensures []) (c .before .before .before .before .before .before .before .next-kind .ensures)) (c .before .before .before .before .before .if2 .taken)) (asks-false _ _ _ (at-no _ (eaten (c .before .before .before .before .before .before .before .before .before .before .eat-ws .ensures []) (c .before .before .before .before .before .before .before .next-kind .ensures)) (c .before .before .before .before .before .before .if1 .left)) (asks-is atom-here-is (asks-then _ _ (asks-is step-atom-is (asks-step Atom (c .before .before .before .before .before .before .before .before .before .before .before .before .before .before .before .before .pre .1 .0))) (c .before .before .before .before .before .before .before .before .before .before .eat-ws .ensures _))))) }
 
 parse-atom-bump-requires-2 : (t : ℕ) → parse-atom-lts.Need-bump-requires-2 (parse-atom-calls t) (parse-atom-at t) parse-atom.Post
-parse-atom-bump-requires-2 t c κs = (asks-first _ _ (asks-first _ _ (asks-node _ _ (asks-true _ _ _ (at-yes _ (c .before .before .before .before .before .before .before .current-kind .ensures) (c .before .before .before .before .before .if2 .taken)) (asks-false _ _ _ (at-no _ (c .before .before .before .before .before .before .before .current-kind .ensures) (c .before .before .before .before .before .before .if1 .left)) (asks-is atom-here-is (asks-then _ _ (asks-is step-atom-is (asks-step Atom (c .before .before .before .before .before .before .before .before .before .before .before .before .before .before .before .before .pre .1 .0))) (c .before .before .before .before .before .before .before .before .before .before .eat-ws .ensures _))))) (c .before .before .before .start-node2 .ensures)))) .fits
+parse-atom-bump-requires-2 t c κs = (asks-first _ _ (asks-first _ _ (asks-node _ _ (asks-true _ _ _ (at-yes _ (eaten (c .before .before .before .before .before .before .before .before .before .before .eat-ws .ensures []) (c .before .before .before .before .before .before .before .next-kind .ensures)) (c .before .before .before .before .before .if2 .taken)) (asks-false _ _ _ (at-no _ (eaten (c .before .before .before .before .before .before .before .before .before .before .eat-ws .ensures []) (c .before .before .before .before .before .before .before .next-kind .ensures)) (c .before .before .before .before .before .before .if1 .left)) (asks-is atom-here-is (asks-then _ _ (asks-is step-atom-is (asks-step Atom (c .before .before .before .before .before .before .before .before .before .before .before .before .before .before .before .before .pre .1 .0))) (c .before .before .before .before .before .before .before .before .before .before .eat-ws .ensures _))))) (c .before .before .before .start-node2 .ensures)))) .fits
 
 parse-atom-add-parse-or-expr : (t : ℕ) → parse-atom-lts.Need-add-parse-or-expr (parse-atom-calls t) (parse-atom-at t) parse-atom.Post
-parse-atom-add-parse-or-expr t c = record { fits = node-level _ _ (asks-true _ _ _ (at-yes _ (c .before .before .before .before .before .before .before .before .before .before .before .before .current-kind .ensures) (c .before .before .before .before .before .before .before .before .before .before .if2 .taken)) (asks-false _ _ _ (at-no _ (c .before .before .before .before .before .before .before .before .before .before .before .before .current-kind .ensures) (c .before .before .before .before .before .before .before .before .before .before .before .if1 .left)) (asks-is atom-here-is (asks-then _ _ (asks-is step-atom-is (asks-step Atom (c .before .before .before .before .before .before .before .before .before .before .before .before .before .before .before .before .before .before .before .before .before .pre .1 .0))) (c .before .before .before .before .before .before .before .before .before .before .before .before .before .before .before .eat-ws .ensures _))))) }
+parse-atom-add-parse-or-expr t c = record { fits = node-level _ _ (asks-true _ _ _ (at-yes _ (eaten (c .before .before .before .before .before .before .before .before .before .before .before .before .before .before .before .eat-ws .ensures []) (c .before .before .before .before .before .before .before .before .before .before .before .before .next-kind .ensures)) (c .before .before .before .before .before .before .before .before .before .before .if2 .taken)) (asks-false _ _ _ (at-no _ (eaten (c .before .before .before .before .before .before .before .before .before .before .before .before .before .before .before .eat-ws .ensures []) (c .before .before .before .before .before .before .before .before .before .before .before .before .next-kind .ensures)) (c .before .before .before .before .before .before .before .before .before .before .before .if1 .left)) (asks-is atom-here-is (asks-then _ _ (asks-is step-atom-is (asks-step Atom (c .before .before .before .before .before .before .before .before .before .before .before .before .before .before .before .before .before .before .before .before .before .pre .1 .0))) (c .before .before .before .before .before .before .before .before .before .before .before .before .before .before .before .eat-ws .ensures _))))) }
 
 parse-atom-parse-or-expr-requires : (t : ℕ) → parse-atom-lts.Need-parse-or-expr-requires (parse-atom-calls t) (parse-atom-at t) parse-atom.Post
-parse-atom-parse-or-expr-requires t c κs = (omega (arith, c .before .before .before .before .before .before .before .before .before .before .before .before .before .before .before .before .before .before .before .before .before .pre .0, c .before .before .before .before .before .before .before .before .before .before .before .before .before .before .before .before .before .before .before .before .before .pre .1 .0 .fits .ready .within, table-length (c .before .before .before .before .before .before .before .before .before .before .before .before .before .before .before .before .before .before .before .before .before .pre .1 .0 .fits .ready), bump-inside 4 (λ e. omega arith) (sym (c .before .before .before .before .before .before .before .before .before .before .before .before .current-kind .ensures) ∙ c .before .before .before .before .before .before .before .before .before .before .if2 .taken) (c .before .before .before .before .before .before .before .before .start-node2 .ensures) (c .before .before .before .before .bump2 .ensures []), c .before .before .before .before .bump2 .ensures [] .wrote .within, c .before .before .before .before .before .before .before .before .before .before .before .before .before .before .before .eat-ws .ensures [] .wrote .ahead), (asks-then _ _ (asks-first _ _ (asks-node _ _ (asks-true _ _ _ (at-yes _ (c .before .before .before .before .before .before .before .before .before .before .before .before .current-kind .ensures) (c .before .before .before .before .before .before .before .before .before .before .if2 .taken)) (asks-false _ _ _ (at-no _ (c .before .before .before .before .before .before .before .before .before .before .before .before .current-kind .ensures) (c .before .before .before .before .before .before .before .before .before .before .before .if1 .left)) (asks-is atom-here-is (asks-then _ _ (asks-is step-atom-is (asks-step Atom (c .before .before .before .before .before .before .before .before .before .before .before .before .before .before .before .before .before .before .before .before .before .pre .1 .0))) (c .before .before .before .before .before .before .before .before .before .before .before .before .before .before .before .eat-ws .ensures _))))) (c .before .before .before .before .before .before .before .before .start-node2 .ensures))) (c .before .before .before .before .bump2 .ensures _), c .before .before .before .before .before .before .before .before .before .before .before .before .before .before .before .before .before .before .before .before .before .pre .1 .1))
+parse-atom-parse-or-expr-requires t c κs = (omega (arith, c .before .before .before .before .before .before .before .before .before .before .before .before .before .before .before .before .before .before .before .before .before .pre .0, c .before .before .before .before .before .before .before .before .before .before .before .before .before .before .before .before .before .before .before .before .before .pre .1 .0 .fits .ready .within, table-length (c .before .before .before .before .before .before .before .before .before .before .before .before .before .before .before .before .before .before .before .before .before .pre .1 .0 .fits .ready), bump-inside 4 (λ e. omega arith) (sym (eaten (c .before .before .before .before .before .before .before .before .before .before .before .before .before .before .before .eat-ws .ensures []) (c .before .before .before .before .before .before .before .before .before .before .before .before .next-kind .ensures)) ∙ c .before .before .before .before .before .before .before .before .before .before .if2 .taken) (c .before .before .before .before .before .before .before .before .start-node2 .ensures) (c .before .before .before .before .bump2 .ensures []), c .before .before .before .before .bump2 .ensures [] .wrote .within, c .before .before .before .before .before .before .before .before .before .before .before .before .before .before .before .eat-ws .ensures [] .wrote .ahead), (asks-then _ _ (asks-first _ _ (asks-node _ _ (asks-true _ _ _ (at-yes _ (eaten (c .before .before .before .before .before .before .before .before .before .before .before .before .before .before .before .eat-ws .ensures []) (c .before .before .before .before .before .before .before .before .before .before .before .before .next-kind .ensures)) (c .before .before .before .before .before .before .before .before .before .before .if2 .taken)) (asks-false _ _ _ (at-no _ (eaten (c .before .before .before .before .before .before .before .before .before .before .before .before .before .before .before .eat-ws .ensures []) (c .before .before .before .before .before .before .before .before .before .before .before .before .next-kind .ensures)) (c .before .before .before .before .before .before .before .before .before .before .before .if1 .left)) (asks-is atom-here-is (asks-then _ _ (asks-is step-atom-is (asks-step Atom (c .before .before .before .before .before .before .before .before .before .before .before .before .before .before .before .before .before .before .before .before .before .pre .1 .0))) (c .before .before .before .before .before .before .before .before .before .before .before .before .before .before .before .eat-ws .ensures _))))) (c .before .before .before .before .before .before .before .before .start-node2 .ensures))) (c .before .before .before .before .bump2 .ensures _), c .before .before .before .before .before .before .before .before .before .before .before .before .before .before .before .before .before .before .before .before .before .pre .1 .1))
 
 parse-atom-add-expect : (t : ℕ) → parse-atom-lts.Need-add-expect (parse-atom-calls t) (parse-atom-at t) parse-atom.Post
-parse-atom-add-expect t c = record { fits = node-level _ _ (asks-true _ _ _ (at-yes _ (c .before .before .before .before .before .before .before .before .before .before .before .before .before .before .before .before .before .before .before .current-kind .ensures) (c .before .before .before .before .before .before .before .before .before .before .before .before .before .before .before .before .before .if2 .taken)) (asks-false _ _ _ (at-no _ (c .before .before .before .before .before .before .before .before .before .before .before .before .before .before .before .before .before .before .before .current-kind .ensures) (c .before .before .before .before .before .before .before .before .before .before .before .before .before .before .before .before .before .before .if1 .left)) (asks-is atom-here-is (asks-then _ _ (asks-is step-atom-is (asks-step Atom (c .before .before .before .before .before .before .before .before .before .before .before .before .before .before .before .before .before .before .before .before .before .before .before .before .before .before .before .before .pre .1 .0))) (c .before .before .before .before .before .before .before .before .before .before .before .before .before .before .before .before .before .before .before .before .before .before .eat-ws .ensures _))))) }
+parse-atom-add-expect t c = record { fits = node-level _ _ (asks-true _ _ _ (at-yes _ (eaten (c .before .before .before .before .before .before .before .before .before .before .before .before .before .before .before .before .before .before .before .before .before .before .eat-ws .ensures []) (c .before .before .before .before .before .before .before .before .before .before .before .before .before .before .before .before .before .before .before .next-kind .ensures)) (c .before .before .before .before .before .before .before .before .before .before .before .before .before .before .before .before .before .if2 .taken)) (asks-false _ _ _ (at-no _ (eaten (c .before .before .before .before .before .before .before .before .before .before .before .before .before .before .before .before .before .before .before .before .before .before .eat-ws .ensures []) (c .before .before .before .before .before .before .before .before .before .before .before .before .before .before .before .before .before .before .before .next-kind .ensures)) (c .before .before .before .before .before .before .before .before .before .before .before .before .before .before .before .before .before .before .if1 .left)) (asks-is atom-here-is (asks-then _ _ (asks-is step-atom-is (asks-step Atom (c .before .before .before .before .before .before .before .before .before .before .before .before .before .before .before .before .before .before .before .before .before .before .before .before .before .before .before .before .pre .1 .0))) (c .before .before .before .before .before .before .before .before .before .before .before .before .before .before .before .before .before .before .before .before .before .before .eat-ws .ensures _))))) }
 
 parse-atom-expect-requires : (t : ℕ) → parse-atom-lts.Need-expect-requires (parse-atom-calls t) (parse-atom-at t) parse-atom.Post
-parse-atom-expect-requires t c κs = (asks-then _ _ (asks-node _ _ (asks-true _ _ _ (at-yes _ (c .before .before .before .before .before .before .before .before .before .before .before .before .before .before .before .before .before .before .before .current-kind .ensures) (c .before .before .before .before .before .before .before .before .before .before .before .before .before .before .before .before .before .if2 .taken)) (asks-false _ _ _ (at-no _ (c .before .before .before .before .before .before .before .before .before .before .before .before .before .before .before .before .before .before .before .current-kind .ensures) (c .before .before .before .before .before .before .before .before .before .before .before .before .before .before .before .before .before .before .if1 .left)) (asks-is atom-here-is (asks-then _ _ (asks-is step-atom-is (asks-step Atom (c .before .before .before .before .before .before .before .before .before .before .before .before .before .before .before .before .before .before .before .before .before .before .before .before .before .before .before .before .pre .1 .0))) (c .before .before .before .before .before .before .before .before .before .before .before .before .before .before .before .before .before .before .before .before .before .before .eat-ws .ensures _))))) (c .before .before .before .before .before .before .before .before .before .before .before .before .before .before .before .start-node2 .ensures)) (did-then (c .before .before .before .before .before .before .before .before .before .before .before .bump2 .ensures _) (c .before .before .before .before .before .before .parse-or-expr .ensures)))
+parse-atom-expect-requires t c κs = (asks-then _ _ (asks-node _ _ (asks-true _ _ _ (at-yes _ (eaten (c .before .before .before .before .before .before .before .before .before .before .before .before .before .before .before .before .before .before .before .before .before .before .eat-ws .ensures []) (c .before .before .before .before .before .before .before .before .before .before .before .before .before .before .before .before .before .before .before .next-kind .ensures)) (c .before .before .before .before .before .before .before .before .before .before .before .before .before .before .before .before .before .if2 .taken)) (asks-false _ _ _ (at-no _ (eaten (c .before .before .before .before .before .before .before .before .before .before .before .before .before .before .before .before .before .before .before .before .before .before .eat-ws .ensures []) (c .before .before .before .before .before .before .before .before .before .before .before .before .before .before .before .before .before .before .before .next-kind .ensures)) (c .before .before .before .before .before .before .before .before .before .before .before .before .before .before .before .before .before .before .if1 .left)) (asks-is atom-here-is (asks-then _ _ (asks-is step-atom-is (asks-step Atom (c .before .before .before .before .before .before .before .before .before .before .before .before .before .before .before .before .before .before .before .before .before .before .before .before .before .before .before .before .pre .1 .0))) (c .before .before .before .before .before .before .before .before .before .before .before .before .before .before .before .before .before .before .before .before .before .before .eat-ws .ensures _))))) (c .before .before .before .before .before .before .before .before .before .before .before .before .before .before .before .start-node2 .ensures)) (did-then (c .before .before .before .before .before .before .before .before .before .before .before .bump2 .ensures _) (c .before .before .before .before .before .before .parse-or-expr .ensures)))
 
 parse-atom-finish-node-requires-2 : (t : ℕ) → parse-atom-lts.Need-finish-node-requires-2 (parse-atom-calls t) (parse-atom-at t) parse-atom.Post
-parse-atom-finish-node-requires-2 t c κs = finish-room (node-room _ _ (asks-true _ _ _ (at-yes _ (c .before .before .before .before .before .before .before .before .before .before .before .before .before .before .before .before .before .before .before .before .before .before .before .before .before .current-kind .ensures) (c .before .before .before .before .before .before .before .before .before .before .before .before .before .before .before .before .before .before .before .before .before .before .before .if2 .taken)) (asks-false _ _ _ (at-no _ (c .before .before .before .before .before .before .before .before .before .before .before .before .before .before .before .before .before .before .before .before .before .before .before .before .before .current-kind .ensures) (c .before .before .before .before .before .before .before .before .before .before .before .before .before .before .before .before .before .before .before .before .before .before .before .before .if1 .left)) (asks-is atom-here-is (asks-then _ _ (asks-is step-atom-is (asks-step Atom (c .before .before .before .before .before .before .before .before .before .before .before .before .before .before .before .before .before .before .before .before .before .before .before .before .before .before .before .before .before .before .before .before .before .before .pre .1 .0))) (c .before .before .before .before .before .before .before .before .before .before .before .before .before .before .before .before .before .before .before .before .before .before .before .before .before .before .before .before .eat-ws .ensures _)))))) (c .before .before .before .before .before .before .before .before .before .before .before .before .before .before .before .before .before .before .before .before .before .start-node2 .ensures) (did-then (did-then (c .before .before .before .before .before .before .before .before .before .before .before .before .before .before .before .before .before .bump2 .ensures _) (c .before .before .before .before .before .before .before .before .before .before .before .before .parse-or-expr .ensures)) (c .before .before .before .before .before .expect .ensures))
+parse-atom-finish-node-requires-2 t c κs = finish-room (node-room _ _ (asks-true _ _ _ (at-yes _ (eaten (c .before .before .before .before .before .before .before .before .before .before .before .before .before .before .before .before .before .before .before .before .before .before .before .before .before .before .before .before .eat-ws .ensures []) (c .before .before .before .before .before .before .before .before .before .before .before .before .before .before .before .before .before .before .before .before .before .before .before .before .before .next-kind .ensures)) (c .before .before .before .before .before .before .before .before .before .before .before .before .before .before .before .before .before .before .before .before .before .before .before .if2 .taken)) (asks-false _ _ _ (at-no _ (eaten (c .before .before .before .before .before .before .before .before .before .before .before .before .before .before .before .before .before .before .before .before .before .before .before .before .before .before .before .before .eat-ws .ensures []) (c .before .before .before .before .before .before .before .before .before .before .before .before .before .before .before .before .before .before .before .before .before .before .before .before .before .next-kind .ensures)) (c .before .before .before .before .before .before .before .before .before .before .before .before .before .before .before .before .before .before .before .before .before .before .before .before .if1 .left)) (asks-is atom-here-is (asks-then _ _ (asks-is step-atom-is (asks-step Atom (c .before .before .before .before .before .before .before .before .before .before .before .before .before .before .before .before .before .before .before .before .before .before .before .before .before .before .before .before .before .before .before .before .before .before .pre .1 .0))) (c .before .before .before .before .before .before .before .before .before .before .before .before .before .before .before .before .before .before .before .before .before .before .before .before .before .before .before .before .eat-ws .ensures _)))))) (c .before .before .before .before .before .before .before .before .before .before .before .before .before .before .before .before .before .before .before .before .before .start-node2 .ensures) (did-then (did-then (c .before .before .before .before .before .before .before .before .before .before .before .before .before .before .before .before .before .bump2 .ensures _) (c .before .before .before .before .before .before .before .before .before .before .before .before .parse-or-expr .ensures)) (c .before .before .before .before .before .expect .ensures))
 
 parse-atom-same-length-3 : (t : ℕ) → parse-atom-lts.Need-same-length-3 (parse-atom-calls t) (parse-atom-at t) parse-atom.Post
 parse-atom-same-length-3 t c = finished-long (c .before .before .finish-node2 .ensures) ∙ tree-long (did-then (did-then (c .before .before .before .before .before .before .before .before .before .before .before .before .before .before .before .before .before .before .before .before .bump2 .ensures _) (c .before .before .before .before .before .before .before .before .before .before .before .before .before .before .before .parse-or-expr .ensures)) (c .before .before .before .before .before .before .before .before .expect .ensures)) ∙ started-long (c .before .before .before .before .before .before .before .before .before .before .before .before .before .before .before .before .before .before .before .before .before .before .before .before .start-node2 .ensures) ∙ tree-long (c .before .before .before .before .before .before .before .before .before .before .before .before .before .before .before .before .before .before .before .before .before .before .before .before .before .before .before .before .before .before .before .eat-ws .ensures [])
@@ -277,10 +298,10 @@ parse-atom-same-length-4 : (t : ℕ) → parse-atom-lts.Need-same-length-4 (pars
 parse-atom-same-length-4 t c = errors-long (did-then (did-then (c .before .before .before .before .before .before .before .before .before .before .before .before .before .before .before .before .before .before .before .before .bump2 .ensures _) (c .before .before .before .before .before .before .before .before .before .before .before .before .before .before .before .parse-or-expr .ensures)) (c .before .before .before .before .before .before .before .before .expect .ensures))
 
 parse-atom-returns-2 : (t : ℕ) → parse-atom-lts.Need-returns-2 (parse-atom-calls t) (parse-atom-at t) parse-atom.Post
-parse-atom-returns-2 t c = did-step Atom (did-is step-atom-is (did-then (c .before .before .before .before .before .before .before .before .before .before .before .before .before .before .before .before .before .before .before .before .before .before .before .before .before .before .before .before .before .before .before .eat-ws .ensures _) (did-is atom-here-is (did-false _ _ _ (at-no _ (c .before .before .before .before .before .before .before .before .before .before .before .before .before .before .before .before .before .before .before .before .before .before .before .before .before .before .before .before .current-kind .ensures) (c .before .before .before .before .before .before .before .before .before .before .before .before .before .before .before .before .before .before .before .before .before .before .before .before .before .before .before .if1 .left)) (did-true _ _ _ (at-yes _ (c .before .before .before .before .before .before .before .before .before .before .before .before .before .before .before .before .before .before .before .before .before .before .before .before .before .before .before .before .current-kind .ensures) (c .before .before .before .before .before .before .before .before .before .before .before .before .before .before .before .before .before .before .before .before .before .before .before .before .before .before .if2 .taken)) (did-node (c .before .before .before .before .before .before .before .before .before .before .before .before .before .before .before .before .before .before .before .before .before .before .before .before .start-node2 .ensures) (did-then (did-then (c .before .before .before .before .before .before .before .before .before .before .before .before .before .before .before .before .before .before .before .before .bump2 .ensures _) (c .before .before .before .before .before .before .before .before .before .before .before .before .before .before .before .parse-or-expr .ensures)) (c .before .before .before .before .before .before .before .before .expect .ensures)) (c .before .before .finish-node2 .ensures)))))))
+parse-atom-returns-2 t c = did-step Atom (did-is step-atom-is (did-then (c .before .before .before .before .before .before .before .before .before .before .before .before .before .before .before .before .before .before .before .before .before .before .before .before .before .before .before .before .before .before .before .eat-ws .ensures _) (did-is atom-here-is (did-false _ _ _ (at-no _ (eaten (c .before .before .before .before .before .before .before .before .before .before .before .before .before .before .before .before .before .before .before .before .before .before .before .before .before .before .before .before .before .before .before .eat-ws .ensures []) (c .before .before .before .before .before .before .before .before .before .before .before .before .before .before .before .before .before .before .before .before .before .before .before .before .before .before .before .before .next-kind .ensures)) (c .before .before .before .before .before .before .before .before .before .before .before .before .before .before .before .before .before .before .before .before .before .before .before .before .before .before .before .if1 .left)) (did-true _ _ _ (at-yes _ (eaten (c .before .before .before .before .before .before .before .before .before .before .before .before .before .before .before .before .before .before .before .before .before .before .before .before .before .before .before .before .before .before .before .eat-ws .ensures []) (c .before .before .before .before .before .before .before .before .before .before .before .before .before .before .before .before .before .before .before .before .before .before .before .before .before .before .before .before .next-kind .ensures)) (c .before .before .before .before .before .before .before .before .before .before .before .before .before .before .before .before .before .before .before .before .before .before .before .before .before .before .if2 .taken)) (did-node (c .before .before .before .before .before .before .before .before .before .before .before .before .before .before .before .before .before .before .before .before .before .before .before .before .start-node2 .ensures) (did-then (did-then (c .before .before .before .before .before .before .before .before .before .before .before .before .before .before .before .before .before .before .before .before .bump2 .ensures _) (c .before .before .before .before .before .before .before .before .before .before .before .before .before .before .before .parse-or-expr .ensures)) (c .before .before .before .before .before .before .before .before .expect .ensures)) (c .before .before .finish-node2 .ensures)))))))
 
 parse-atom-simple-atom-requires : (t : ℕ) → parse-atom-lts.Need-simple-atom-requires (parse-atom-calls t) (parse-atom-at t) parse-atom.Post
-parse-atom-simple-atom-requires t c κs = (asks-false _ _ _ (at-no _ (c .before .before .before .before .current-kind .ensures) (c .before .before .if2 .left)) (asks-false _ _ _ (at-no _ (c .before .before .before .before .current-kind .ensures) (c .before .before .before .if1 .left)) (asks-is atom-here-is (asks-then _ _ (asks-is step-atom-is (asks-step Atom (c .before .before .before .before .before .before .before .before .before .before .before .before .before .pre .1 .0))) (c .before .before .before .before .before .before .before .eat-ws .ensures _)))))
+parse-atom-simple-atom-requires t c κs = (asks-false _ _ _ (at-no _ (eaten (c .before .before .before .before .before .before .before .eat-ws .ensures []) (c .before .before .before .before .next-kind .ensures)) (c .before .before .if2 .left)) (asks-false _ _ _ (at-no _ (eaten (c .before .before .before .before .before .before .before .eat-ws .ensures []) (c .before .before .before .before .next-kind .ensures)) (c .before .before .before .if1 .left)) (asks-is atom-here-is (asks-then _ _ (asks-is step-atom-is (asks-step Atom (c .before .before .before .before .before .before .before .before .before .before .before .before .before .pre .1 .0))) (c .before .before .before .before .before .before .before .eat-ws .ensures _)))))
 
 parse-atom-same-length-5 : (t : ℕ) → parse-atom-lts.Need-same-length-5 (parse-atom-calls t) (parse-atom-at t) parse-atom.Post
 parse-atom-same-length-5 t c = tree-long (c .before .before .before .before .simple-atom .ensures) ∙ tree-long (c .before .before .before .before .before .before .before .before .before .before .before .before .eat-ws .ensures [])
@@ -289,49 +310,61 @@ parse-atom-same-length-6 : (t : ℕ) → parse-atom-lts.Need-same-length-6 (pars
 parse-atom-same-length-6 t c = errors-long (c .before .before .before .before .simple-atom .ensures)
 
 parse-atom-returns-3 : (t : ℕ) → parse-atom-lts.Need-returns-3 (parse-atom-calls t) (parse-atom-at t) parse-atom.Post
-parse-atom-returns-3 t c = did-step Atom (did-is step-atom-is (did-then (c .before .before .before .before .before .before .before .before .before .before .before .before .eat-ws .ensures _) (did-is atom-here-is (did-false _ _ _ (at-no _ (c .before .before .before .before .before .before .before .before .before .current-kind .ensures) (c .before .before .before .before .before .before .before .before .if1 .left)) (did-false _ _ _ (at-no _ (c .before .before .before .before .before .before .before .before .before .current-kind .ensures) (c .before .before .before .before .before .before .before .if2 .left)) (c .before .before .before .before .simple-atom .ensures))))))
+parse-atom-returns-3 t c = did-step Atom (did-is step-atom-is (did-then (c .before .before .before .before .before .before .before .before .before .before .before .before .eat-ws .ensures _) (did-is atom-here-is (did-false _ _ _ (at-no _ (eaten (c .before .before .before .before .before .before .before .before .before .before .before .before .eat-ws .ensures []) (c .before .before .before .before .before .before .before .before .before .next-kind .ensures)) (c .before .before .before .before .before .before .before .before .if1 .left)) (did-false _ _ _ (at-no _ (eaten (c .before .before .before .before .before .before .before .before .before .before .before .before .eat-ws .ensures []) (c .before .before .before .before .before .before .before .before .before .next-kind .ensures)) (c .before .before .before .before .before .before .before .if2 .left)) (c .before .before .before .before .simple-atom .ensures))))))
 
-parse-or-expr-has-binary-op-at-level-requires : (t : ℕ) → parse-or-expr-lts.Need-has-binary-op-at-level-requires (parse-or-expr-calls t) (parse-or-expr-at t) parse-or-expr.Post
-parse-or-expr-has-binary-op-at-level-requires t c κs = (c .before .before .before .before .pre .1 .0 .fits .ready, c .before .before .before .before .pre .1 .1 .ors)
-
-parse-or-expr-start-node-requires : (t : ℕ) → parse-or-expr-lts.Need-start-node-requires (parse-or-expr-calls t) (parse-or-expr-at t) parse-or-expr.Post
-parse-or-expr-start-node-requires t c κs = node-room _ _ (asks-true _ _ _ (sym (c .before .before .has-binary-op-at-level .ensures) ∙ c .before .if1 .taken) (asks-is step-or-is (asks-step OrExpr (c .before .before .before .before .before .before .before .pre .1 .0))))
-
-parse-or-expr-add-parse-and-expr : (t : ℕ) → parse-or-expr-lts.Need-add-parse-and-expr (parse-or-expr-calls t) (parse-or-expr-at t) parse-or-expr.Post
-parse-or-expr-add-parse-and-expr t c = record { fits = node-level _ _ (asks-true _ _ _ (sym (c .before .before .before .before .before .before .before .has-binary-op-at-level .ensures) ∙ c .before .before .before .before .before .before .if1 .taken) (asks-is step-or-is (asks-step OrExpr (c .before .before .before .before .before .before .before .before .before .before .before .before .pre .1 .0)))) }
-
-parse-or-expr-parse-and-expr-requires : (t : ℕ) → parse-or-expr-lts.Need-parse-and-expr-requires (parse-or-expr-calls t) (parse-or-expr-at t) parse-or-expr.Post
-parse-or-expr-parse-and-expr-requires t c κs = (omega (arith, c .before .before .before .before .before .before .before .before .before .before .before .before .pre .0, c .before .before .before .before .before .before .before .before .before .before .before .before .pre .1 .0 .fits .ready .within, table-length (c .before .before .before .before .before .before .before .before .before .before .before .before .pre .1 .0 .fits .ready), started-token (c .before .before .before .before .start-node .ensures)), (asks-first _ _ (asks-node _ _ (asks-true _ _ _ (sym (c .before .before .before .before .before .before .before .has-binary-op-at-level .ensures) ∙ c .before .before .before .before .before .before .if1 .taken) (asks-is step-or-is (asks-step OrExpr (c .before .before .before .before .before .before .before .before .before .before .before .before .pre .1 .0)))) (c .before .before .before .before .start-node .ensures)), c .before .before .before .before .before .before .before .before .before .before .before .before .pre .1 .1))
-
-parse-or-expr-add-or-rest : (t : ℕ) → parse-or-expr-lts.Need-add-or-rest (parse-or-expr-calls t) (parse-or-expr-at t) parse-or-expr.Post
-parse-or-expr-add-or-rest t c = record { fits = node-level _ _ (asks-true _ _ _ (sym (c .before .before .before .before .before .before .before .before .before .before .before .before .before .before .has-binary-op-at-level .ensures) ∙ c .before .before .before .before .before .before .before .before .before .before .before .before .before .if1 .taken) (asks-is step-or-is (asks-step OrExpr (c .before .before .before .before .before .before .before .before .before .before .before .before .before .before .before .before .before .before .before .pre .1 .0)))) }
-
-parse-or-expr-or-rest-requires : (t : ℕ) → parse-or-expr-lts.Need-or-rest-requires (parse-or-expr-calls t) (parse-or-expr-at t) parse-or-expr.Post
-parse-or-expr-or-rest-requires t c κs = (omega (arith, c .before .before .before .before .before .before .before .before .before .before .before .before .before .before .before .before .before .before .before .pre .0, c .before .before .before .before .before .before .before .before .before .before .before .before .before .before .before .before .before .before .before .pre .1 .0 .fits .ready .within, table-length (c .before .before .before .before .before .before .before .before .before .before .before .before .before .before .before .before .before .before .before .pre .1 .0 .fits .ready), started-token (c .before .before .before .before .before .before .before .before .before .before .before .start-node .ensures), c .before .before .before .before .before .before .parse-and-expr .ensures .wrote .ahead, c .before .before .before .before .before .before .parse-and-expr .ensures .wrote .within), (asks-then _ _ (asks-node _ _ (asks-true _ _ _ (sym (c .before .before .before .before .before .before .before .before .before .before .before .before .before .before .has-binary-op-at-level .ensures) ∙ c .before .before .before .before .before .before .before .before .before .before .before .before .before .if1 .taken) (asks-is step-or-is (asks-step OrExpr (c .before .before .before .before .before .before .before .before .before .before .before .before .before .before .before .before .before .before .before .pre .1 .0)))) (c .before .before .before .before .before .before .before .before .before .before .before .start-node .ensures)) (c .before .before .before .before .before .before .parse-and-expr .ensures), c .before .before .before .before .before .before .before .before .before .before .before .before .before .before .before .before .before .before .before .pre .1 .1))
-
-parse-or-expr-finish-node-requires : (t : ℕ) → parse-or-expr-lts.Need-finish-node-requires (parse-or-expr-calls t) (parse-or-expr-at t) parse-or-expr.Post
-parse-or-expr-finish-node-requires t c κs = finish-room (node-room _ _ (asks-true _ _ _ (sym (c .before .before .before .before .before .before .before .before .before .before .before .before .before .before .before .before .before .before .before .before .has-binary-op-at-level .ensures) ∙ c .before .before .before .before .before .before .before .before .before .before .before .before .before .before .before .before .before .before .before .if1 .taken) (asks-is step-or-is (asks-step OrExpr (c .before .before .before .before .before .before .before .before .before .before .before .before .before .before .before .before .before .before .before .before .before .before .before .before .before .pre .1 .0))))) (c .before .before .before .before .before .before .before .before .before .before .before .before .before .before .before .before .before .start-node .ensures) (did-then (c .before .before .before .before .before .before .before .before .before .before .before .before .parse-and-expr .ensures) (c .before .before .before .before .before .or-rest .ensures))
+parse-or-expr-parse-atom-requires : (t : ℕ) → parse-or-expr-lts.Need-parse-atom-requires (parse-or-expr-calls t) (parse-or-expr-at t) parse-or-expr.Post
+parse-or-expr-parse-atom-requires t c κs = (omega (arith, c .before .before .before .before .before .before .before .before .before .before .before .before .pre .0, c .before .before .before .before .before .before .before .before .before .before .before .before .pre .1 .0 .fits .ready .within, table-length (c .before .before .before .before .before .before .before .before .before .before .before .before .pre .1 .0 .fits .ready)), (asks-alone (c .before .before .before .before .before .before .before .before .before .before .before .before .pre .1 .1) (c .before .before .before .before .before .if1 .taken) (leb-true _ _ (c .before .before .if2 .taken)) (c .before .before .before .before .before .before .before .before .before .before .before .before .pre .1 .0), c .before .before .before .before .before .before .before .before .before .before .before .before .pre .1 .1))
 
 parse-or-expr-same-length : (t : ℕ) → parse-or-expr-lts.Need-same-length (parse-or-expr-calls t) (parse-or-expr-at t) parse-or-expr.Post
-parse-or-expr-same-length t c = finished-long (c .before .before .finish-node .ensures) ∙ tree-long (did-then (c .before .before .before .before .before .before .before .before .before .before .before .before .before .before .before .parse-and-expr .ensures) (c .before .before .before .before .before .before .before .before .or-rest .ensures)) ∙ started-long (c .before .before .before .before .before .before .before .before .before .before .before .before .before .before .before .before .before .before .before .before .start-node .ensures)
+parse-or-expr-same-length t c = tree-long (c .before .before .before .before .parse-atom .ensures)
 
 parse-or-expr-same-length-2 : (t : ℕ) → parse-or-expr-lts.Need-same-length-2 (parse-or-expr-calls t) (parse-or-expr-at t) parse-or-expr.Post
-parse-or-expr-same-length-2 t c = errors-long (did-then (c .before .before .before .before .before .before .before .before .before .before .before .before .before .before .before .parse-and-expr .ensures) (c .before .before .before .before .before .before .before .before .or-rest .ensures))
+parse-or-expr-same-length-2 t c = errors-long (c .before .before .before .before .parse-atom .ensures)
 
 parse-or-expr-returns : (t : ℕ) → parse-or-expr-lts.Need-returns (parse-or-expr-calls t) (parse-or-expr-at t) parse-or-expr.Post
-parse-or-expr-returns t c = did-step OrExpr (did-is step-or-is (did-true _ _ _ (sym (c .before .before .before .before .before .before .before .before .before .before .before .before .before .before .before .before .before .before .before .before .before .before .before .has-binary-op-at-level .ensures) ∙ c .before .before .before .before .before .before .before .before .before .before .before .before .before .before .before .before .before .before .before .before .before .before .if1 .taken) (did-node (c .before .before .before .before .before .before .before .before .before .before .before .before .before .before .before .before .before .before .before .before .start-node .ensures) (did-then (c .before .before .before .before .before .before .before .before .before .before .before .before .before .before .before .parse-and-expr .ensures) (c .before .before .before .before .before .before .before .before .or-rest .ensures)) (c .before .before .finish-node .ensures))))
+parse-or-expr-returns t c = did-alone (c .before .before .before .before .before .before .before .before .before .before .before .before .before .before .before .before .before .pre .1 .1) (c .before .before .before .before .before .before .before .before .before .before .if1 .taken) (leb-true _ _ (c .before .before .before .before .before .before .before .if2 .taken)) (c .before .before .before .before .parse-atom .ensures)
 
-parse-or-expr-parse-and-expr-requires-2 : (t : ℕ) → parse-or-expr-lts.Need-parse-and-expr-requires-2 (parse-or-expr-calls t) (parse-or-expr-at t) parse-or-expr.Post
-parse-or-expr-parse-and-expr-requires-2 t c κs = (omega (arith, c .before .before .before .before .before .before .before .before .pre .0, c .before .before .before .before .before .before .before .before .pre .1 .0 .fits .ready .within, table-length (c .before .before .before .before .before .before .before .before .pre .1 .0 .fits .ready), c .before .before .before .before .before .before .before .before .pre .1 .0 .fits .ready .within), (asks-false _ _ _ (sym (c .before .before .before .has-binary-op-at-level .ensures) ∙ c .before .before .if1 .left) (asks-is step-or-is (asks-step OrExpr (c .before .before .before .before .before .before .before .before .pre .1 .0))), c .before .before .before .before .before .before .before .before .pre .1 .1))
+parse-or-expr-has-binary-op-at-level-requires : (t : ℕ) → parse-or-expr-lts.Need-has-binary-op-at-level-requires (parse-or-expr-calls t) (parse-or-expr-at t) parse-or-expr.Post
+parse-or-expr-has-binary-op-at-level-requires t c κs = (c .before .before .before .before .before .before .before .pre .1 .0 .fits .ready, c .before .before .before .before .before .before .before .pre .1 .1 .ors)
+
+parse-or-expr-start-node-requires : (t : ℕ) → parse-or-expr-lts.Need-start-node-requires (parse-or-expr-calls t) (parse-or-expr-at t) parse-or-expr.Post
+parse-or-expr-start-node-requires t c κs = node-room _ _ (asks-true _ _ _ (sym (c .before .before .has-binary-op-at-level .ensures) ∙ c .before .if3 .taken) (asks-is step-or-is (asks-step OrExpr (c .before .before .before .before .before .before .before .before .before .before .pre .1 .0))))
+
+parse-or-expr-add-parse-and-expr : (t : ℕ) → parse-or-expr-lts.Need-add-parse-and-expr (parse-or-expr-calls t) (parse-or-expr-at t) parse-or-expr.Post
+parse-or-expr-add-parse-and-expr t c = record { fits = node-level _ _ (asks-true _ _ _ (sym (c .before .before .before .before .before .before .before .has-binary-op-at-level .ensures) ∙ c .before .before .before .before .before .before .if3 .taken) (asks-is step-or-is (asks-step OrExpr (c .before .before .before .before .before .before .before .before .before .before .before .before .before .before .before .pre .1 .0)))) }
+
+parse-or-expr-parse-and-expr-requires : (t : ℕ) → parse-or-expr-lts.Need-parse-and-expr-requires (parse-or-expr-calls t) (parse-or-expr-at t) parse-or-expr.Post
+parse-or-expr-parse-and-expr-requires t c κs = (omega (arith, c .before .before .before .before .before .before .before .before .before .before .before .before .before .before .before .pre .0, c .before .before .before .before .before .before .before .before .before .before .before .before .before .before .before .pre .1 .0 .fits .ready .within, table-length (c .before .before .before .before .before .before .before .before .before .before .before .before .before .before .before .pre .1 .0 .fits .ready), started-token (c .before .before .before .before .start-node .ensures)), (asks-first _ _ (asks-node _ _ (asks-true _ _ _ (sym (c .before .before .before .before .before .before .before .has-binary-op-at-level .ensures) ∙ c .before .before .before .before .before .before .if3 .taken) (asks-is step-or-is (asks-step OrExpr (c .before .before .before .before .before .before .before .before .before .before .before .before .before .before .before .pre .1 .0)))) (c .before .before .before .before .start-node .ensures)), c .before .before .before .before .before .before .before .before .before .before .before .before .before .before .before .pre .1 .1))
+
+parse-or-expr-add-or-rest : (t : ℕ) → parse-or-expr-lts.Need-add-or-rest (parse-or-expr-calls t) (parse-or-expr-at t) parse-or-expr.Post
+parse-or-expr-add-or-rest t c = record { fits = node-level _ _ (asks-true _ _ _ (sym (c .before .before .before .before .before .before .before .before .before .before .before .before .before .before .has-binary-op-at-level .ensures) ∙ c .before .before .before .before .before .before .before .before .before .before .before .before .before .if3 .taken) (asks-is step-or-is (asks-step OrExpr (c .before .before .before .before .before .before .before .before .before .before .before .before .before .before .before .before .before .before .before .before .before .before .pre .1 .0)))) }
+
+parse-or-expr-or-rest-requires : (t : ℕ) → parse-or-expr-lts.Need-or-rest-requires (parse-or-expr-calls t) (parse-or-expr-at t) parse-or-expr.Post
+parse-or-expr-or-rest-requires t c κs = (omega (arith, c .before .before .before .before .before .before .before .before .before .before .before .before .before .before .before .before .before .before .before .before .before .before .pre .0, c .before .before .before .before .before .before .before .before .before .before .before .before .before .before .before .before .before .before .before .before .before .before .pre .1 .0 .fits .ready .within, table-length (c .before .before .before .before .before .before .before .before .before .before .before .before .before .before .before .before .before .before .before .before .before .before .pre .1 .0 .fits .ready), started-token (c .before .before .before .before .before .before .before .before .before .before .before .start-node .ensures), c .before .before .before .before .before .before .parse-and-expr .ensures .wrote .ahead, c .before .before .before .before .before .before .parse-and-expr .ensures .wrote .within), (asks-then _ _ (asks-node _ _ (asks-true _ _ _ (sym (c .before .before .before .before .before .before .before .before .before .before .before .before .before .before .has-binary-op-at-level .ensures) ∙ c .before .before .before .before .before .before .before .before .before .before .before .before .before .if3 .taken) (asks-is step-or-is (asks-step OrExpr (c .before .before .before .before .before .before .before .before .before .before .before .before .before .before .before .before .before .before .before .before .before .before .pre .1 .0)))) (c .before .before .before .before .before .before .before .before .before .before .before .start-node .ensures)) (c .before .before .before .before .before .before .parse-and-expr .ensures), c .before .before .before .before .before .before .before .before .before .before .before .before .before .before .before .before .before .before .before .before .before .before .pre .1 .1))
+
+parse-or-expr-finish-node-requires : (t : ℕ) → parse-or-expr-lts.Need-finish-node-requires (parse-or-expr-calls t) (parse-or-expr-at t) parse-or-expr.Post
+parse-or-expr-finish-node-requires t c κs = finish-room (node-room _ _ (asks-true _ _ _ (sym (c .before .before .before .before .before .before .before .before .before .before .before .before .before .before .before .before .before .before .before .before .has-binary-op-at-level .ensures) ∙ c .before .before .before .before .before .before .before .before .before .before .before .before .before .before .before .before .before .before .before .if3 .taken) (asks-is step-or-is (asks-step OrExpr (c .before .before .before .before .before .before .before .before .before .before .before .before .before .before .before .before .before .before .before .before .before .before .before .before .before .before .before .before .pre .1 .0))))) (c .before .before .before .before .before .before .before .before .before .before .before .before .before .before .before .before .before .start-node .ensures) (did-then (c .before .before .before .before .before .before .before .before .before .before .before .before .parse-and-expr .ensures) (c .before .before .before .before .before .or-rest .ensures))
 
 parse-or-expr-same-length-3 : (t : ℕ) → parse-or-expr-lts.Need-same-length-3 (parse-or-expr-calls t) (parse-or-expr-at t) parse-or-expr.Post
-parse-or-expr-same-length-3 t c = tree-long (c .before .before .before .before .parse-and-expr2 .ensures)
+parse-or-expr-same-length-3 t c = finished-long (c .before .before .finish-node .ensures) ∙ tree-long (did-then (c .before .before .before .before .before .before .before .before .before .before .before .before .before .before .before .parse-and-expr .ensures) (c .before .before .before .before .before .before .before .before .or-rest .ensures)) ∙ started-long (c .before .before .before .before .before .before .before .before .before .before .before .before .before .before .before .before .before .before .before .before .start-node .ensures)
 
 parse-or-expr-same-length-4 : (t : ℕ) → parse-or-expr-lts.Need-same-length-4 (parse-or-expr-calls t) (parse-or-expr-at t) parse-or-expr.Post
-parse-or-expr-same-length-4 t c = errors-long (c .before .before .before .before .parse-and-expr2 .ensures)
+parse-or-expr-same-length-4 t c = errors-long (did-then (c .before .before .before .before .before .before .before .before .before .before .before .before .before .before .before .parse-and-expr .ensures) (c .before .before .before .before .before .before .before .before .or-rest .ensures))
 
 parse-or-expr-returns-2 : (t : ℕ) → parse-or-expr-lts.Need-returns-2 (parse-or-expr-calls t) (parse-or-expr-at t) parse-or-expr.Post
-parse-or-expr-returns-2 t c = did-step OrExpr (did-is step-or-is (did-false _ _ _ (sym (c .before .before .before .before .before .before .before .before .has-binary-op-at-level .ensures) ∙ c .before .before .before .before .before .before .before .if1 .left) (c .before .before .before .before .parse-and-expr2 .ensures)))
+parse-or-expr-returns-2 t c = did-step OrExpr (did-is step-or-is (did-true _ _ _ (sym (c .before .before .before .before .before .before .before .before .before .before .before .before .before .before .before .before .before .before .before .before .before .before .before .has-binary-op-at-level .ensures) ∙ c .before .before .before .before .before .before .before .before .before .before .before .before .before .before .before .before .before .before .before .before .before .before .if3 .taken) (did-node (c .before .before .before .before .before .before .before .before .before .before .before .before .before .before .before .before .before .before .before .before .start-node .ensures) (did-then (c .before .before .before .before .before .before .before .before .before .before .before .before .before .before .before .parse-and-expr .ensures) (c .before .before .before .before .before .before .before .before .or-rest .ensures)) (c .before .before .finish-node .ensures))))
+
+parse-or-expr-parse-and-expr-requires-2 : (t : ℕ) → parse-or-expr-lts.Need-parse-and-expr-requires-2 (parse-or-expr-calls t) (parse-or-expr-at t) parse-or-expr.Post
+parse-or-expr-parse-and-expr-requires-2 t c κs = (omega (arith, c .before .before .before .before .before .before .before .before .before .before .before .pre .0, c .before .before .before .before .before .before .before .before .before .before .before .pre .1 .0 .fits .ready .within, table-length (c .before .before .before .before .before .before .before .before .before .before .before .pre .1 .0 .fits .ready), c .before .before .before .before .before .before .before .before .before .before .before .pre .1 .0 .fits .ready .within), (asks-false _ _ _ (sym (c .before .before .before .has-binary-op-at-level .ensures) ∙ c .before .before .if3 .left) (asks-is step-or-is (asks-step OrExpr (c .before .before .before .before .before .before .before .before .before .before .before .pre .1 .0))), c .before .before .before .before .before .before .before .before .before .before .before .pre .1 .1))
+
+parse-or-expr-same-length-5 : (t : ℕ) → parse-or-expr-lts.Need-same-length-5 (parse-or-expr-calls t) (parse-or-expr-at t) parse-or-expr.Post
+parse-or-expr-same-length-5 t c = tree-long (c .before .before .before .before .parse-and-expr2 .ensures)
+
+parse-or-expr-same-length-6 : (t : ℕ) → parse-or-expr-lts.Need-same-length-6 (parse-or-expr-calls t) (parse-or-expr-at t) parse-or-expr.Post
+parse-or-expr-same-length-6 t c = errors-long (c .before .before .before .before .parse-and-expr2 .ensures)
+
+parse-or-expr-returns-3 : (t : ℕ) → parse-or-expr-lts.Need-returns-3 (parse-or-expr-calls t) (parse-or-expr-at t) parse-or-expr.Post
+parse-or-expr-returns-3 t c = did-step OrExpr (did-is step-or-is (did-false _ _ _ (sym (c .before .before .before .before .before .before .before .before .has-binary-op-at-level .ensures) ∙ c .before .before .before .before .before .before .before .if3 .left) (c .before .before .before .before .parse-and-expr2 .ensures)))
 
 pub +and-rest+or-rest+parse-and-expr+parse-atom+parse-or-expr-spec : {M : Type 1} → statement M
 +and-rest+or-rest+parse-and-expr+parse-atom+parse-or-expr-spec =
@@ -344,25 +377,31 @@ pub +and-rest+or-rest+parse-and-expr+parse-atom+parse-or-expr-spec : {M : Type 1
     (λ t. and-rest-lts.spec (and-rest-calls t)
     (and-rest-at t)
     and-rest.Post
+    and-rest-Inv-loop
+    and-rest-μ-loop
+    (and-rest-loop-holds t)
     (and-rest-current-kind-requires t)
     (and-rest-bump-requires t)
     (and-rest-parse-atom-requires t)
-    (and-rest-and-rest-requires t)
+    (and-rest-loop-less t)
+    (and-rest-loop-again t)
     (and-rest-same-length t)
     (and-rest-same-length-2 t)
-    (and-rest-returns t)
-    (and-rest-returns-2 t))
+    (and-rest-returns t))
     (λ t. or-rest-lts.spec (or-rest-calls t)
     (or-rest-at t)
     or-rest.Post
+    or-rest-Inv-loop
+    or-rest-μ-loop
+    (or-rest-loop-holds t)
     (or-rest-current-kind-requires t)
     (or-rest-bump-requires t)
     (or-rest-parse-and-expr-requires t)
-    (or-rest-or-rest-requires t)
+    (or-rest-loop-less t)
+    (or-rest-loop-again t)
     (or-rest-same-length t)
     (or-rest-same-length-2 t)
-    (or-rest-returns t)
-    (or-rest-returns-2 t))
+    (or-rest-returns t))
     (λ t. parse-and-expr-lts.spec (parse-and-expr-calls t)
     (parse-and-expr-at t)
     parse-and-expr.Post
@@ -384,7 +423,7 @@ pub +and-rest+or-rest+parse-and-expr+parse-atom+parse-or-expr-spec : {M : Type 1
     (parse-atom-at t)
     parse-atom.Post
     (parse-atom-eat-ws-requires t)
-    (parse-atom-current-kind-requires t)
+    (parse-atom-next-kind-requires t)
     (parse-atom-start-node-requires t)
     (parse-atom-add-bump t)
     (parse-atom-bump-requires t)
@@ -412,6 +451,10 @@ pub +and-rest+or-rest+parse-and-expr+parse-atom+parse-or-expr-spec : {M : Type 1
     λ t. parse-or-expr-lts.spec (parse-or-expr-calls t)
     (parse-or-expr-at t)
     parse-or-expr.Post
+    (parse-or-expr-parse-atom-requires t)
+    (parse-or-expr-same-length t)
+    (parse-or-expr-same-length-2 t)
+    (parse-or-expr-returns t)
     (parse-or-expr-has-binary-op-at-level-requires t)
     (parse-or-expr-start-node-requires t)
     (parse-or-expr-add-parse-and-expr t)
@@ -419,10 +462,10 @@ pub +and-rest+or-rest+parse-and-expr+parse-atom+parse-or-expr-spec : {M : Type 1
     (parse-or-expr-add-or-rest t)
     (parse-or-expr-or-rest-requires t)
     (parse-or-expr-finish-node-requires t)
-    (parse-or-expr-same-length t)
-    (parse-or-expr-same-length-2 t)
-    (parse-or-expr-returns t)
-    (parse-or-expr-parse-and-expr-requires-2 t)
     (parse-or-expr-same-length-3 t)
     (parse-or-expr-same-length-4 t)
     (parse-or-expr-returns-2 t)
+    (parse-or-expr-parse-and-expr-requires-2 t)
+    (parse-or-expr-same-length-5 t)
+    (parse-or-expr-same-length-6 t)
+    (parse-or-expr-returns-3 t)
