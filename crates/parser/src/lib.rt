@@ -142,24 +142,23 @@ fn parse_pipeline_or_count_compare(
     parse_pipeline(rule, tokens, tree, errors, level, c, ops)
 }
 
-// Whether the last two tokens that are no blanks are a comparison operator and an integer.
+// Whether the last two tokens that are no blanks are a comparison operator and an integer, looked for from the end.
 fn has_count_compare_ahead(rule: &[u8], tokens: &[u32], c: Cursor) -> bool
     requires { ⌜ Ready (lex (now rule)) (now tokens) c ⌝ }
     ensures { λ r. ⌜ r ≡ hasCountCompareAhead (drop (c .token) (lex (now (rule .entry)))) ⌝ }
 {
-    let mut second = kind::NONE;
-    let mut last = kind::NONE;
-    let mut i = c.token;
-    while 3 * i < tokens.len() {
+    let mut integer = false;
+    let mut i = tokens.len() / 3;
+    while c.token < i {
+        i -= 1;
         let k = tokens[3 * i];
-        i += 1;
-        if k != kind::WHITESPACE {
-            second = last;
-            last = k;
+        if k == kind::WHITESPACE {} else if integer {
+            return is_comparison(k);
+        } else if k == kind::INT_LIT {
+            integer = true;
+        } else {
+            return false;
         }
-    }
-    if last == kind::INT_LIT {
-        return is_comparison(second);
     }
     false
 }

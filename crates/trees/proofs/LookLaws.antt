@@ -13,7 +13,7 @@ use Rattle.syntax.proofs.BoolLaws.{whether}
 use Rattle.lexer.specs.Lex.{Token, tokenRows}
 use Rattle.reader.specs.Reader as reader
 use Rattle.reader.proofs.ReaderLaws.{current-later, current-blank, current-solid}
-use Rattle.trees.specs.Look.{skipWs, headKind, tailOf, currentKind, atKind, isComparison, endsInComparison, opAhead, hasBinaryOpAtLevel}
+use Rattle.trees.specs.Look.{skipWs, headKind, tailOf, currentKind, atKind, isComparison, endsInComparison, hasCountCompareAhead, opAhead, hasBinaryOpAtLevel}
 use Rattle.trees.specs.Green.{size}
 use Rattle.trees.specs.Parse.{Parser, done, next, fails, failsAhead, _▹_, eatWs, nextIs, remaining}
 use Rattle.trees.specs.Writing.{Ready, Past, Skipped, Fits, Asks, Did, Without, none, more, NoneFrom}
@@ -147,19 +147,77 @@ next-ahead {ts} {c = c} {d = d} r h a =
     let e : drop (d .token) ts ≡ drop (c .token + 1) ts = a .wrote .rest ∙ rw (w .here) in
     omega (arith, ap length e, length-drop (d .token) ts, length-drop (c .token + 1) ts, a .wrote .within, table-length r)
 
--- ---- the two looks far ahead, a token at a time; k is the kind that the table has at i
+-- a test that gives the same either way
+either : {A : Type 0} (t : Bool) {x y z : A} → x ≡ z → y ≡ z → (elim t [ true ↦ x | false ↦ y ]) ≡ z
+either true p q = p
+either false p q = q
+
+-- ---- a comparison at the end, looked for from there a token at a time
+
+-- from i on there are blanks alone, or an integer among them: what this makes of the two kinds before it
+pub record Ending (ts : List Token) (integer : Bool) (i : ℕ) : Type 0 where
+  pub within : i ≤ length ts
+  pub comes : (second last : ℕ) → endsInComparison second last (drop i ts) ≡ elim integer [ true ↦ isComparison last | false ↦ isComparison second && eqb last INT-LIT ]
+
+pub ending-start : (ts : List Token) → Ending ts false (length ts)
+unfolding endsInComparison
+ending-start ts = record { within = omega arith; comes = λ second last. rw (drop-of-length-le ts {i = length ts} (omega arith)) }
+
+-- where whatever stands before i changes nothing, the tokens up to i may be passed
+ends-later : {v : Bool} (i : ℕ) (ts : List Token) → ((second last : ℕ) → endsInComparison second last (drop i ts) ≡ v) → (second last : ℕ) → endsInComparison second last ts ≡ v
+unfolding endsInComparison
+ends-later zero ts h second last = h second last
+ends-later (suc i) [] h second last = h second last
+ends-later (suc i) (t ∷ ts) h second last = either (eqb (t .kind) WHITESPACE) (ends-later i ts h second last) (ends-later i ts h last (t .kind))
+
+module _ {tokens : List ℕ} {ts : List Token} {i : ℕ} (e : tokens ≡ tokenRows 0 ts) (h : 0 < i) {integer : Bool} (g : Ending ts integer i) where
+  before : Row 0 tokens ts (i - 1)
+  before = row-in ts e (i - 1) (omega (arith, rows-length ts e, g .within))
+
+  after : drop (i - 1 + 1) ts ≡ drop i ts
+  after = let q : i - 1 + 1 ≡ i = omega arith in ap (λ (n : ℕ). drop n ts) q
+
+  pub ending-blank : getD tokens (3 * (i - 1)) 0 ≡ WHITESPACE → Ending ts integer (i - 1)
+  unfolding endsInComparison
+  ending-blank q =
+      record {
+        within = omega (arith, g .within);
+        comes = λ second last. rw (before .here, eq-eqb (before .token .kind) WHITESPACE (sym (before .kind) ∙ q), endsInComparison, after) (g .comes second last);
+      }
+
+  passed : {v : Bool} (c : ℕ) → c < i → ((second last : ℕ) → endsInComparison second last (drop (i - 1) ts) ≡ v) → endsInComparison NONE NONE (drop c ts) ≡ v
+  passed c l a =
+      let q : c + (i - 1 - c) ≡ i - 1 = omega arith in
+      ends-later (i - 1 - c) (drop c ts) (rw (drop-drop, q) a) NONE NONE
+
+  module _ (n : getD tokens (3 * (i - 1)) 0 ≡ WHITESPACE → ⊥) where
+    solid-before : (second last : ℕ) → endsInComparison second last (drop (i - 1) ts) ≡ endsInComparison last (getD tokens (3 * (i - 1)) 0) (drop i ts)
+    unfolding endsInComparison
+    solid-before second last = rw (before .here, before .kind, ne-eqb (before .token .kind) WHITESPACE (λ q. n (before .kind ∙ q)), endsInComparison, after)
+
+    pub ending-integer : integer ≡ false → getD tokens (3 * (i - 1)) 0 ≡ INT-LIT → Ending ts true (i - 1)
+    ending-integer f q =
+        record {
+          within = omega (arith, g .within);
+          comes = λ second last. solid-before second last ∙ (rw f at (g .comes last (getD tokens (3 * (i - 1)) 0))) ∙ rw (eq-eqb _ _ q) (and-true (isComparison last));
+        }
+
+    pub ends-compared : integer ≡ true → {r : Bool} → r ≡ isComparison (getD tokens (3 * (i - 1)) 0) → (c : ℕ) → c < i → r ≡ hasCountCompareAhead (drop c ts)
+    unfolding hasCountCompareAhead
+    ends-compared t a c l = a ∙ sym (passed c l λ second last. solid-before second last ∙ (rw t at (g .comes last (getD tokens (3 * (i - 1)) 0))))
+
+    pub ends-other : integer ≡ false → (getD tokens (3 * (i - 1)) 0 ≡ INT-LIT → ⊥) → (c : ℕ) → c < i → false ≡ hasCountCompareAhead (drop c ts)
+    unfolding hasCountCompareAhead
+    ends-other f q c l =
+        sym (passed c l λ second last. solid-before second last ∙ (rw f at (g .comes last (getD tokens (3 * (i - 1)) 0))) ∙ rw (ne-eqb _ _ q) (and-false (isComparison last)))
+
+pub ends-none : {ts : List Token} {integer : Bool} {i : ℕ} → Ending ts integer i → (c : ℕ) → c ≤ i → i ≤ c → false ≡ hasCountCompareAhead (drop c ts)
+unfolding hasCountCompareAhead isComparison
+ends-none {ts} {integer} {i} g c l h = let q : c ≡ i = omega arith in rw q (sym (g .comes NONE NONE ∙ either integer refl refl))
+
+-- ---- an operator ahead, a token at a time; k is the kind that the table has at i
 
 module _ {tokens : List ℕ} {ts : List Token} {i : ℕ} (w : Row 0 tokens ts i) where
-  module _ (second last : ℕ) where
-    pub ends-blank : getD tokens (3 * i) 0 ≡ WHITESPACE → endsInComparison second last (drop (i + 1) ts) ≡ endsInComparison second last (drop i ts)
-    unfolding endsInComparison
-    ends-blank e = rw (w .here, eq-eqb (w .token .kind) WHITESPACE (sym (w .kind) ∙ e), endsInComparison)
-
-    pub ends-solid : (getD tokens (3 * i) 0 ≡ WHITESPACE → ⊥)
-        → endsInComparison last (getD tokens (3 * i) 0) (drop (i + 1) ts) ≡ endsInComparison second last (drop i ts)
-    unfolding endsInComparison
-    ends-solid n = rw (w .kind, w .here, ne-eqb (w .token .kind) WHITESPACE (λ q. n (w .kind ∙ q)), endsInComparison)
-
   module _ (op depth : ℕ) (found : Bool) where
     pub op-blank : getD tokens (3 * i) 0 ≡ WHITESPACE → opAhead op depth found (drop (i + 1) ts) ≡ opAhead op depth found (drop i ts)
     unfolding opAhead
@@ -209,25 +267,11 @@ module _ {tokens : List ℕ} {ts : List Token} {i : ℕ} (w : Row 0 tokens ts i)
           op-here a z f =
               rw (w .here, solid, no-open, no-close, eq-eqb (w .token .kind) op (sym (w .kind) ∙ a), eq-eqb depth 0 z, f, opAhead)
 
--- at the end of the tokens
-pub ends-integer : (second last : ℕ) {ts : List Token} → ts ≡ [] → last ≡ INT-LIT → isComparison second ≡ endsInComparison second last ts
-unfolding endsInComparison
-ends-integer second last e q = rw (e, eq-eqb _ _ q) (sym (and-true (isComparison second)))
-
-pub ends-other : (second last : ℕ) {ts : List Token} → ts ≡ [] → (last ≡ INT-LIT → ⊥) → false ≡ endsInComparison second last ts
-unfolding endsInComparison
-ends-other second last e n = rw (e, ne-eqb _ _ n) (sym (and-false (isComparison second)))
-
 -- ---- places from which on no token is of a kind
 
 -- before such a place each token has a row
 pub row-before : {ts : List Token} {tokens : List ℕ} {c : Cursor} {op n : ℕ} → Ready ts tokens c → NoneFrom op ts n → (i : ℕ) → i < n → Row 0 tokens ts i
 row-before {ts} r b i h = row-in ts (r .rows) i (omega (arith, table-length r, b .within))
-
--- a test that gives the same either way
-either : {A : Type 0} (t : Bool) {x y z : A} → x ≡ z → y ≡ z → (elim t [ true ↦ x | false ↦ y ]) ≡ z
-either true p q = p
-either false p q = q
 
 -- where no token is of its kind an operator is not ahead
 op-without : (op depth : ℕ) (found : Bool) {ts : List Token} → Without op ts → opAhead op depth found ts ≡ false

@@ -1,66 +1,63 @@
--- `has_count_compare_ahead` keeps the last two kinds, and going on from each token ends as the whole does. Assumes nothing.
+-- `has_count_compare_ahead` goes back over blanks and an integer to what decides. Assumes nothing.
 use denote.Ref.{now}
-use mathlib.Core.Path.{_≡_, refl, _∙_}
-use Prim.Native.Nat.{_-_, _≤_}
-use lib.ListN.{length, drop}
-use Rattle.lexer.specs.Lex.{lex, tokenRows}
-use Rattle.trees.specs.Look.{endsInComparison, hasCountCompareAhead}
-use Rattle.trees.proofs.TokenLaws.{rows-length, row-in, none-in}
-use Rattle.trees.proofs.LookLaws.{ends-blank, ends-solid, ends-integer, ends-other}
-use borrow.Author.Needs.{needs}
+use mathlib.Core.Path.{_≡_}
+use Prim.Native.Nat.{_/_, _≤_}
+use lib.ListN.{length}
+use Rattle.lexer.specs.Lex.{lex}
+use Rattle.trees.proofs.TokenLaws.{table-length}
+use Rattle.trees.proofs.LookLaws.{Ending, ending-start, ending-blank, ending-integer, ends-compared, ends-other, ends-none}
 use native.Mathlib.Omega.{arith}
+use Prim.{tt}
 use Rattle.parser.proofs.has_count_compare_ahead.Statement.{statement}
 use Rattle.parser.proofs.has_count_compare_ahead.Tie as tie
 
 abbrev Inv-loop : tie.InvT-loop
-Inv-loop rule tokens second₀ last₀ i₀ second last i = (i ≤ length (lex rule)) × (tokens ≡ tokenRows 0 (lex rule)) × (endsInComparison second last (drop i (lex rule)) ≡ hasCountCompareAhead (drop i₀ (lex rule)))
+Inv-loop rule tokens c integer₀ i₀ integer i = (c .token ≤ i) × Ending (lex rule) integer i
 
 abbrev μ-loop : tie.MeasureT-loop
-μ-loop rule tokens second₀ last₀ i₀ second last i = length (lex rule) - i
+μ-loop rule tokens c integer₀ i₀ integer i = i
 
 loop-holds : tie.Need-loop-holds Inv-loop μ-loop
-unfolding hasCountCompareAhead
-loop-holds c = (c .before .before .pre .within, c .before .before .pre .rows, refl)
+loop-holds c =
+    let ts = lex (now (c .before .before .args .rule)) in
+    let e : length (now (c .before .before .args .tokens)) / 3 ≡ length ts = omega (arith, table-length (c .before .before .pre)) in
+    rw e (c .before .before .pre .within, ending-start ts)
 
-mul-loop : tie.Need-mul-loop Inv-loop μ-loop
-mul-loop c = omega (arith, rows-length (lex (now (c .before .before .before .args .rule))) (c .loop .inv .1))
+sub-i : tie.Need-sub-i Inv-loop μ-loop
+sub-i c = omega arith
 
 mul-k : tie.Need-mul-k Inv-loop μ-loop
-mul-k c = omega (arith, rows-length (lex (now (c .before .before .before .before .args .rule))) (c .before .loop .inv .1))
+mul-k c = omega (arith, table-length (c .before .before .before .before .before .pre), c .before .before .loop .inv .1 .within)
 
 mul-k-2 : tie.Need-mul-k-2 Inv-loop μ-loop
-mul-k-2 c = omega (arith, rows-length (lex (now (c .before .before .before .before .args .rule))) (c .before .loop .inv .1))
+mul-k-2 c = omega (arith, table-length (c .before .before .before .before .before .pre), c .before .before .loop .inv .1 .within)
 
 shared-slice-read-k : tie.Need-shared-slice-read-k Inv-loop μ-loop
-shared-slice-read-k c = omega (arith, rows-length (lex (now (c .before .before .before .before .before .args .rule))) (c .before .before .loop .inv .1))
-
-add-i : tie.Need-add-i Inv-loop μ-loop
-add-i c = omega (arith, rows-length (lex (now (c .before .before .before .before .before .args .rule))) (c .before .before .loop .inv .1))
+shared-slice-read-k c = omega (arith, table-length (c .before .before .before .before .before .before .pre), c .before .before .before .loop .inv .1 .within)
 
 loop-less : tie.Need-loop-less Inv-loop μ-loop
-loop-less c = omega (arith, rows-length (lex (now (c .before .before .before .before .before .before .args .rule))) (c .before .before .before .loop .inv .1), c .before .before .loop-test .taken)
+loop-less c = omega arith
 
 loop-again : tie.Need-loop-again Inv-loop μ-loop
-loop-again c =
-    let w = row-in (lex (now (c .before .before .before .before .before .before .args .rule))) (c .before .before .before .loop .inv .1) (c .before .before .before .loop .i) (c .before .before .loop-test .taken) in
-    (omega (arith, rows-length (lex (now (c .before .before .before .before .before .before .args .rule))) (c .before .before .before .loop .inv .1), c .before .before .loop-test .taken), c .before .before .before .loop .inv .1, ends-solid w _ _ (c .if1 .taken) ∙ c .before .before .before .loop .inv .2)
-
-loop-less-2 : tie.Need-loop-less-2 Inv-loop μ-loop
-loop-less-2 c = omega (arith, rows-length (lex (now (c .before .before .before .before .before .before .args .rule))) (c .before .before .before .loop .inv .1), c .before .before .loop-test .taken)
-
-loop-again-2 : tie.Need-loop-again-2 Inv-loop μ-loop
-loop-again-2 c =
-    let w = row-in (lex (now (c .before .before .before .before .before .before .args .rule))) (c .before .before .before .loop .inv .1) (c .before .before .before .loop .i) (c .before .before .loop-test .taken) in
-    (omega (arith, rows-length (lex (now (c .before .before .before .before .before .before .args .rule))) (c .before .before .before .loop .inv .1), c .before .before .loop-test .taken), c .before .before .before .loop .inv .1, ends-blank w _ _ (c .if1 .left) ∙ c .before .before .before .loop .inv .2)
+loop-again c = (omega (arith, c .before .before .if1 .taken), ending-blank (c .before .before .before .before .before .before .before .pre .rows) (omega (arith, c .before .before .if1 .taken)) (c .before .before .before .before .loop .inv .1) (c .if2 .taken))
 
 is-comparison-requires : tie.Need-is-comparison-requires Inv-loop μ-loop
-is-comparison-requires c κs = search needs
+is-comparison-requires c κs = tt
 
 returns : tie.Need-returns Inv-loop μ-loop
-returns c = c .is-comparison .ensures ∙ ends-integer _ _ (none-in (lex (now (c .before .before .before .before .before .before .args .rule))) (c .before .before .before .loop .inv .1) (c .before .before .before .loop .i) (c .before .before .loop-test .left)) (c .before .if2 .taken) ∙ c .before .before .before .loop .inv .2
+returns c = ends-compared (c .before .before .before .before .before .before .before .before .before .pre .rows) (omega (arith, c .before .before .before .before .if1 .taken)) (c .before .before .before .before .before .before .loop .inv .1) (c .before .before .if2 .left) (c .before .if3 .taken) (c .is-comparison .ensures) _ (c .before .before .before .before .if1 .taken)
+
+loop-less-2 : tie.Need-loop-less-2 Inv-loop μ-loop
+loop-less-2 c = omega arith
+
+loop-again-2 : tie.Need-loop-again-2 Inv-loop μ-loop
+loop-again-2 c = (omega (arith, c .before .before .before .before .if1 .taken), ending-integer (c .before .before .before .before .before .before .before .before .before .pre .rows) (omega (arith, c .before .before .before .before .if1 .taken)) (c .before .before .before .before .before .before .loop .inv .1) (c .before .before .if2 .left) (c .before .if3 .left) (c .if4 .taken))
 
 returns-2 : tie.Need-returns-2 Inv-loop μ-loop
-returns-2 c = ends-other _ _ (none-in (lex (now (c .before .before .before .before .before .args .rule))) (c .before .before .loop .inv .1) (c .before .before .loop .i) (c .before .loop-test .left)) (c .if2 .left) ∙ c .before .before .loop .inv .2
+returns-2 c = ends-other (c .before .before .before .before .before .before .before .before .before .pre .rows) (omega (arith, c .before .before .before .before .if1 .taken)) (c .before .before .before .before .before .before .loop .inv .1) (c .before .before .if2 .left) (c .before .if3 .left) (c .if4 .left) _ (c .before .before .before .before .if1 .taken)
+
+returns-3 : tie.Need-returns-3 Inv-loop μ-loop
+returns-3 c = ends-none (c .before .before .loop .inv .1) _ (c .before .before .loop .inv .0) (c .if1 .left)
 
 pub has-count-compare-ahead-spec : {M : Type 1} → statement M
 has-count-compare-ahead-spec =
@@ -69,15 +66,15 @@ has-count-compare-ahead-spec =
     Inv-loop
     μ-loop
     loop-holds
-    mul-loop
+    sub-i
     mul-k
     mul-k-2
     shared-slice-read-k
-    add-i
     loop-less
     loop-again
-    loop-less-2
-    loop-again-2
     is-comparison-requires
     returns
-    returns-2)
+    loop-less-2
+    loop-again-2
+    returns-2
+    returns-3)
