@@ -11,6 +11,8 @@ use trees::Reading;
 ghost use mathlib.Core.Path.{_≡_};
 ghost use mathlib.Core.List.{List, [], _∷_};
 ghost use Prim.Native.Nat.{ℕ, _+_, _*_, _≤_, _<_};
+ghost use mathlib.Core.Bool.{_&&_};
+ghost use lib.Dec.{leb};
 ghost use lib.ListN.{length, drop};
 ghost use lib.Seq.{sets};
 ghost use Rattle.syntax.specs.Text.{ascii, same};
@@ -335,7 +337,11 @@ fn predicate_args(
 {
     let o = start_node(tree, kind::CALL_ARGS, level, c);
     let a = expect(rule, tokens, tree, errors, level + 1, kind::L_PAREN, o);
-    let b = parse_or_expr(rule, tokens, tree, errors, level + 1, a, ops);
+    let b = if past_ops(a, ops) {
+        parse_atom(rule, tokens, tree, errors, level + 1, a, ops)
+    } else {
+        parse_or_expr(rule, tokens, tree, errors, level + 1, a, ops)
+    };
     let d = expect(rule, tokens, tree, errors, level + 1, kind::R_PAREN, b);
     finish_node(tree, c.row, d)
 }
@@ -377,7 +383,14 @@ fn no_method(
     bump(rule, tokens, tree, level, a)
 }
 
-// or_expr = and_expr ( 'or' and_expr )*: a node only where an `or` stands ahead. Past the last of both it is an atom.
+// Whether neither `and` nor `or` is left: an or_expr is then an atom.
+fn past_ops(c: Cursor, ops: Ops) -> bool
+    ensures { λ r. ⌜ r ≡ leb (ops .ors) (c .token) && leb (ops .ands) (c .token) ⌝ }
+{
+    ops.ors <= c.token && ops.ands <= c.token
+}
+
+// or_expr = and_expr ( 'or' and_expr )*: a node only where an `or` stands ahead.
 fn parse_or_expr(
     rule: &[u8],
     tokens: &[u32],
@@ -391,9 +404,6 @@ fn parse_or_expr(
     requires { ⌜ NoOpsFrom (lex (now rule)) ops ⌝ }
     ensures { λ r. ⌜ Did (lex (now (rule .entry))) (now (tree .entry)) (now (tree .exit)) (now (errors .entry)) (now (errors .exit)) level c r (parse OrExpr) ⌝ }
 {
-    if ops.ors <= c.token && ops.ands <= c.token {
-        return parse_atom(rule, tokens, tree, errors, level, c, ops);
-    }
     if has_binary_op_at_level(rule, tokens, kind::OR_KW, c, ops.ors) {
         let o = start_node(tree, kind::BINARY_EXPR, level, c);
         let a = parse_and_expr(rule, tokens, tree, errors, level + 1, o, ops);
@@ -529,7 +539,11 @@ fn parse_atom(
     if k == kind::L_PAREN {
         let o = start_node(tree, kind::PAREN_EXPR, level, a);
         let b = bump(rule, tokens, tree, level + 1, o);
-        let d = parse_or_expr(rule, tokens, tree, errors, level + 1, b, ops);
+        let d = if past_ops(b, ops) {
+            parse_atom(rule, tokens, tree, errors, level + 1, b, ops)
+        } else {
+            parse_or_expr(rule, tokens, tree, errors, level + 1, b, ops)
+        };
         let e = expect(rule, tokens, tree, errors, level + 1, kind::R_PAREN, d);
         return finish_node(tree, a.row, e);
     }

@@ -1,13 +1,16 @@
 -- For the functions that call each other, and their loops: how far the cursor has come, and what is left to do there. Assumes nothing.
 use mathlib.Core.Path.{_≡_, refl, sym, ap, _∙_}
 use mathlib.Core.List.{List}
-use mathlib.Core.Bool.{Bool, true, false}
+use mathlib.Core.Bool.{Bool, true, false, _&&_}
 use Prim.Native.Nat.{ℕ, _≤_, _<_}
 use native.Mathlib.Omega.{arith}
+use borrow.Author.Tests.{leb-true}
+use lib.Dec.{leb}
 use lib.ListN.{length, drop}
 use Rattle.syntax.specs.Kind.{DOT, AND-KW, OR-KW, NONE}
+use Rattle.syntax.proofs.BoolLaws.{both}
 use Rattle.lexer.specs.Lex.{Token}
-use Rattle.trees.specs.Look.{skipWs, headKind, currentKind, atKind}
+use Rattle.trees.specs.Look.{skipWs, headKind, currentKind, atKind, hasBinaryOpAtLevel}
 use Rattle.trees.specs.Parse.{Parser, done, join, _▹_, inNode, choose, eatWs, bump, expect, predicateArgs, noArgs, noMethod, parseMethod, parseDotCall, Mode, OrExpr, OrRest, AndExpr, AndRest, Atom, Calls, step, parse}
 use Rattle.trees.specs.Writing.{Asks, Did, Started, NoOpsFrom}
 use Rattle.trees.specs.declared.Cursor.{Cursor}
@@ -50,16 +53,18 @@ eaten {ts} {c = c} {a = a} w e =
     e ∙ ap headKind (r ∙ sym (skip-twice (drop (c .token) ts)) ∙ ap skipWs (sym r))
 
 -- where neither `and` nor `or` is left, an or_expr is an atom
-module _ {ts : List Token} {o : Ops} {c : Cursor} (n : NoOpsFrom ts o) (h : o .ors ≤ c .token) (g : o .ands ≤ c .token) where
+module _ {ts : List Token} {o : Ops} (n : NoOpsFrom ts o) (c : Cursor) (y : (leb (o .ors) (c .token) && leb (o .ands) (c .token)) ≡ true) where
+  no-or : hasBinaryOpAtLevel OR-KW (drop (c .token) ts) ≡ false
+  no-or = none-ahead (n .ors) (c .token) (leb-true _ _ (both (leb (o .ors) (c .token)) _ y .0))
+
+  no-and : hasBinaryOpAtLevel AND-KW (drop (c .token) ts) ≡ false
+  no-and = none-ahead (n .ands) (c .token) (leb-true _ _ (both (leb (o .ors) (c .token)) _ y .1))
+
   pub asks-alone : {tokens t e : List ℕ} {l : ℕ} → Asks ts tokens t e l c (parse OrExpr) → Asks ts tokens t e l c (parse Atom)
-  asks-alone f =
-      asks-false _ _ _ (none-ahead (n .ands) (c .token) g) (asks-is step-and-is (asks-step AndExpr
-      (asks-false _ _ _ (none-ahead (n .ors) (c .token) h) (asks-is step-or-is (asks-step OrExpr f)))))
+  asks-alone f = asks-false _ _ _ no-and (asks-is step-and-is (asks-step AndExpr (asks-false _ _ _ no-or (asks-is step-or-is (asks-step OrExpr f)))))
 
   pub did-alone : {t₀ t₁ e₀ e₁ : List ℕ} {l : ℕ} {r : Cursor} → Did ts t₀ t₁ e₀ e₁ l c r (parse Atom) → Did ts t₀ t₁ e₀ e₁ l c r (parse OrExpr)
-  did-alone a =
-      did-step OrExpr (did-is step-or-is (did-false _ _ _ (none-ahead (n .ors) (c .token) h)
-      (did-step AndExpr (did-is step-and-is (did-false _ _ _ (none-ahead (n .ands) (c .token) g) a)))))
+  did-alone a = did-step OrExpr (did-is step-or-is (did-false _ _ _ no-or (did-step AndExpr (did-is step-and-is (did-false _ _ _ no-and a)))))
 
 -- ---- a loop that writes errors too: doing p from d on ends as doing it from c on
 

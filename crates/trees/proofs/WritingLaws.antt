@@ -305,6 +305,11 @@ pub did-as : {ts : List Token} {t₀ t₁ e₀ e₁ : List ℕ} {l : ℕ} {c r :
     → Did ts t₀ t₁ e₀ e₁ l c r q → Did ts t₀ t₁ e₀ e₁ l c r p
 did-as e a = record { wrote = rw e (a .wrote) }
 
+-- where two ways meet
+pub did-meet : {ts : List Token} {t₀ t₁ t₂ e₀ e₁ e₂ : List ℕ} {l : ℕ} {c r s : Cursor} {p : Parser} → t₁ ≡ t₂ → e₁ ≡ e₂ → r ≡ s → Did ts t₀ t₂ e₀ e₂ l c s p
+    → Did ts t₀ t₁ e₀ e₁ l c r p
+did-meet t e q a = rw (t, e, q) a
+
 module _ {ts : List Token} {tokens t es : List ℕ} {l : ℕ} {c : Cursor} (test : List Token → Bool) (p q : Parser) where
   pub asks-true : test (drop (c .token) ts) ≡ true → Asks ts tokens t es l c (choose test p q) → Asks ts tokens t es l c p
   asks-true e f = asks-as (choose-true test p q (drop (c .token) ts) e) f

@@ -2,13 +2,15 @@
 use denote.Ref.{now}
 use mathlib.Core.Path.{sym, _∙_}
 use mathlib.Core.List.{[]}
+use mathlib.Core.Logic.{⊎-elim}
+use Prim.{tt}
 use native.Mathlib.Omega.{arith}
-use borrow.Author.Tests.{leb-true}
 use lib.ListN.{length}
 use Rattle.lexer.specs.Lex.{lex}
 use Rattle.trees.specs.Parse.{parse, OrExpr, OrRest, AndExpr, AndRest, Atom}
+use Rattle.trees.specs.Writing.{Did}
 use Rattle.trees.proofs.TokenLaws.{table-length}
-use Rattle.trees.proofs.WritingLaws.{did-then, asks-first, asks-then, tree-long, errors-long, ready-then, node-room, node-level, asks-node, did-node, started-long, finished-long, finish-room, asks-true, asks-false, did-true, did-false, asks-is, did-is}
+use Rattle.trees.proofs.WritingLaws.{did-then, asks-first, asks-then, tree-long, errors-long, ready-then, node-room, node-level, asks-node, did-node, started-long, finished-long, finish-room, asks-true, asks-false, did-true, did-false, asks-is, did-meet, did-is}
 use Rattle.trees.proofs.ParseLaws.{step-or-is, step-and-is, step-atom-is, atom-here-is}
 use Rattle.trees.proofs.LookLaws.{at-yes, at-no}
 use Rattle.trees.proofs.StepLaws.{asks-step, did-step, bump-ahead}
@@ -38,6 +40,7 @@ use Rattle.parser.proofs.expect.Reads as expect-reads
 use Rattle.parser.proofs.finish_node.Reads as finish-node-reads
 use Rattle.parser.proofs.has_binary_op_at_level.Reads as has-binary-op-at-level-reads
 use Rattle.parser.proofs.next_kind.Reads as next-kind-reads
+use Rattle.parser.proofs.past_ops.Reads as past-ops-reads
 use Rattle.parser.proofs.simple_atom.Reads as simple-atom-reads
 use Rattle.parser.proofs.start_node.Reads as start-node-reads
 use Rattle.parser.proofs.+and_rest+or_rest+parse_and_expr+parse_atom+parse_or_expr.{
@@ -121,10 +124,10 @@ abbrev parse-and-expr-calls : ℕ → parse-and-expr-lts.Claims
 parse-and-expr-calls t = (has-binary-op-at-level-reads.Asked, has-binary-op-at-level-reads.Learnt, start-node-reads.Asked, start-node-reads.Learnt, parse-atom-below t, parse-atom.Post, and-rest-below t, and-rest.Post, finish-node-reads.Asked, finish-node-reads.Learnt)
 
 abbrev parse-atom-calls : ℕ → parse-atom-lts.Claims
-parse-atom-calls t = (eat-ws-reads.Asked, eat-ws-reads.Learnt, next-kind-reads.Asked, next-kind-reads.Learnt, start-node-reads.Asked, start-node-reads.Learnt, bump-reads.Asked, bump-reads.Learnt, parse-atom-below t, parse-atom.Post, finish-node-reads.Asked, finish-node-reads.Learnt, parse-or-expr-below t, parse-or-expr.Post, expect-reads.Asked, expect-reads.Learnt, simple-atom-reads.Asked, simple-atom-reads.Learnt)
+parse-atom-calls t = (eat-ws-reads.Asked, eat-ws-reads.Learnt, next-kind-reads.Asked, next-kind-reads.Learnt, start-node-reads.Asked, start-node-reads.Learnt, bump-reads.Asked, bump-reads.Learnt, parse-atom-below t, parse-atom.Post, finish-node-reads.Asked, finish-node-reads.Learnt, past-ops-reads.Asked, past-ops-reads.Learnt, parse-or-expr-below t, parse-or-expr.Post, expect-reads.Asked, expect-reads.Learnt, simple-atom-reads.Asked, simple-atom-reads.Learnt)
 
 abbrev parse-or-expr-calls : ℕ → parse-or-expr-lts.Claims
-parse-or-expr-calls t = (parse-atom-below t, parse-atom.Post, has-binary-op-at-level-reads.Asked, has-binary-op-at-level-reads.Learnt, start-node-reads.Asked, start-node-reads.Learnt, parse-and-expr-below t, parse-and-expr.Post, or-rest-below t, or-rest.Post, finish-node-reads.Asked, finish-node-reads.Learnt)
+parse-or-expr-calls t = (has-binary-op-at-level-reads.Asked, has-binary-op-at-level-reads.Learnt, start-node-reads.Asked, start-node-reads.Learnt, parse-and-expr-below t, parse-and-expr.Post, or-rest-below t, or-rest.Post, finish-node-reads.Asked, finish-node-reads.Learnt)
 
 abbrev and-rest-Inv-loop : and-rest-lts.InvT-loop
 and-rest-Inv-loop rule tokens tree₀ errors₀ level ops d₀ tree errors d = Ongoing (lex rule) tokens tree₀ tree errors₀ errors level d₀ d (parse AndRest)
@@ -276,29 +279,47 @@ parse-atom-add-bump-2 t c = record { fits = node-level _ _ (asks-true _ _ _ (at-
 parse-atom-bump-requires-2 : (t : ℕ) → parse-atom-lts.Need-bump-requires-2 (parse-atom-calls t) (parse-atom-at t) parse-atom.Post
 parse-atom-bump-requires-2 t c κs = (asks-first _ _ (asks-first _ _ (asks-node _ _ (asks-true _ _ _ (at-yes _ (eaten (c .before .before .before .before .before .before .before .before .before .before .eat-ws .ensures []) (c .before .before .before .before .before .before .before .next-kind .ensures)) (c .before .before .before .before .before .if2 .taken)) (asks-false _ _ _ (at-no _ (eaten (c .before .before .before .before .before .before .before .before .before .before .eat-ws .ensures []) (c .before .before .before .before .before .before .before .next-kind .ensures)) (c .before .before .before .before .before .before .if1 .left)) (asks-is atom-here-is (asks-then _ _ (asks-is step-atom-is (asks-step Atom (c .before .before .before .before .before .before .before .before .before .before .before .before .before .before .before .before .pre .1 .0))) (c .before .before .before .before .before .before .before .before .before .before .eat-ws .ensures _))))) (c .before .before .before .start-node2 .ensures)))) .fits
 
+parse-atom-past-ops-requires : (t : ℕ) → parse-atom-lts.Need-past-ops-requires (parse-atom-calls t) (parse-atom-at t) parse-atom.Post
+parse-atom-past-ops-requires t c κs = tt
+
+parse-atom-add-parse-atom-2 : (t : ℕ) → parse-atom-lts.Need-add-parse-atom-2 (parse-atom-calls t) (parse-atom-at t) parse-atom.Post
+parse-atom-add-parse-atom-2 t c = record { fits = node-level _ _ (asks-true _ _ _ (at-yes _ (eaten (c .before .before .before .before .before .before .before .before .before .before .before .before .before .before .before .before .before .eat-ws .ensures []) (c .before .before .before .before .before .before .before .before .before .before .before .before .before .before .next-kind .ensures)) (c .before .before .before .before .before .before .before .before .before .before .before .before .if2 .taken)) (asks-false _ _ _ (at-no _ (eaten (c .before .before .before .before .before .before .before .before .before .before .before .before .before .before .before .before .before .eat-ws .ensures []) (c .before .before .before .before .before .before .before .before .before .before .before .before .before .before .next-kind .ensures)) (c .before .before .before .before .before .before .before .before .before .before .before .before .before .if1 .left)) (asks-is atom-here-is (asks-then _ _ (asks-is step-atom-is (asks-step Atom (c .before .before .before .before .before .before .before .before .before .before .before .before .before .before .before .before .before .before .before .before .before .before .before .pre .1 .0))) (c .before .before .before .before .before .before .before .before .before .before .before .before .before .before .before .before .before .eat-ws .ensures _))))) }
+
+parse-atom-parse-atom-requires-2 : (t : ℕ) → parse-atom-lts.Need-parse-atom-requires-2 (parse-atom-calls t) (parse-atom-at t) parse-atom.Post
+parse-atom-parse-atom-requires-2 t c κs = (omega (arith, c .before .before .before .before .before .before .before .before .before .before .before .before .before .before .before .before .before .before .before .before .before .before .before .pre .0, c .before .before .before .before .before .before .before .before .before .before .before .before .before .before .before .before .before .before .before .before .before .before .before .pre .1 .0 .fits .ready .within, table-length (c .before .before .before .before .before .before .before .before .before .before .before .before .before .before .before .before .before .before .before .before .before .before .before .pre .1 .0 .fits .ready), bump-inside 4 (λ e. omega arith) (sym (eaten (c .before .before .before .before .before .before .before .before .before .before .before .before .before .before .before .before .before .eat-ws .ensures []) (c .before .before .before .before .before .before .before .before .before .before .before .before .before .before .next-kind .ensures)) ∙ c .before .before .before .before .before .before .before .before .before .before .before .before .if2 .taken) (c .before .before .before .before .before .before .before .before .before .before .start-node2 .ensures) (c .before .before .before .before .before .before .bump2 .ensures []), c .before .before .before .before .before .before .bump2 .ensures [] .wrote .within, c .before .before .before .before .before .before .before .before .before .before .before .before .before .before .before .before .before .eat-ws .ensures [] .wrote .ahead), (asks-alone (c .before .before .before .before .before .before .before .before .before .before .before .before .before .before .before .before .before .before .before .before .before .before .before .pre .1 .1) _ (sym (c .before .before .before .past-ops .ensures) ∙ c .before .before .if3 .taken) (asks-then _ _ (asks-first _ _ (asks-node _ _ (asks-true _ _ _ (at-yes _ (eaten (c .before .before .before .before .before .before .before .before .before .before .before .before .before .before .before .before .before .eat-ws .ensures []) (c .before .before .before .before .before .before .before .before .before .before .before .before .before .before .next-kind .ensures)) (c .before .before .before .before .before .before .before .before .before .before .before .before .if2 .taken)) (asks-false _ _ _ (at-no _ (eaten (c .before .before .before .before .before .before .before .before .before .before .before .before .before .before .before .before .before .eat-ws .ensures []) (c .before .before .before .before .before .before .before .before .before .before .before .before .before .before .next-kind .ensures)) (c .before .before .before .before .before .before .before .before .before .before .before .before .before .if1 .left)) (asks-is atom-here-is (asks-then _ _ (asks-is step-atom-is (asks-step Atom (c .before .before .before .before .before .before .before .before .before .before .before .before .before .before .before .before .before .before .before .before .before .before .before .pre .1 .0))) (c .before .before .before .before .before .before .before .before .before .before .before .before .before .before .before .before .before .eat-ws .ensures _))))) (c .before .before .before .before .before .before .before .before .before .before .start-node2 .ensures))) (c .before .before .before .before .before .before .bump2 .ensures _)), c .before .before .before .before .before .before .before .before .before .before .before .before .before .before .before .before .before .before .before .before .before .before .before .pre .1 .1))
+
 parse-atom-add-parse-or-expr : (t : ℕ) → parse-atom-lts.Need-add-parse-or-expr (parse-atom-calls t) (parse-atom-at t) parse-atom.Post
-parse-atom-add-parse-or-expr t c = record { fits = node-level _ _ (asks-true _ _ _ (at-yes _ (eaten (c .before .before .before .before .before .before .before .before .before .before .before .before .before .before .before .eat-ws .ensures []) (c .before .before .before .before .before .before .before .before .before .before .before .before .next-kind .ensures)) (c .before .before .before .before .before .before .before .before .before .before .if2 .taken)) (asks-false _ _ _ (at-no _ (eaten (c .before .before .before .before .before .before .before .before .before .before .before .before .before .before .before .eat-ws .ensures []) (c .before .before .before .before .before .before .before .before .before .before .before .before .next-kind .ensures)) (c .before .before .before .before .before .before .before .before .before .before .before .if1 .left)) (asks-is atom-here-is (asks-then _ _ (asks-is step-atom-is (asks-step Atom (c .before .before .before .before .before .before .before .before .before .before .before .before .before .before .before .before .before .before .before .before .before .pre .1 .0))) (c .before .before .before .before .before .before .before .before .before .before .before .before .before .before .before .eat-ws .ensures _))))) }
+parse-atom-add-parse-or-expr t c = record { fits = node-level _ _ (asks-true _ _ _ (at-yes _ (eaten (c .before .before .before .before .before .before .before .before .before .before .before .before .before .before .before .before .before .eat-ws .ensures []) (c .before .before .before .before .before .before .before .before .before .before .before .before .before .before .next-kind .ensures)) (c .before .before .before .before .before .before .before .before .before .before .before .before .if2 .taken)) (asks-false _ _ _ (at-no _ (eaten (c .before .before .before .before .before .before .before .before .before .before .before .before .before .before .before .before .before .eat-ws .ensures []) (c .before .before .before .before .before .before .before .before .before .before .before .before .before .before .next-kind .ensures)) (c .before .before .before .before .before .before .before .before .before .before .before .before .before .if1 .left)) (asks-is atom-here-is (asks-then _ _ (asks-is step-atom-is (asks-step Atom (c .before .before .before .before .before .before .before .before .before .before .before .before .before .before .before .before .before .before .before .before .before .before .before .pre .1 .0))) (c .before .before .before .before .before .before .before .before .before .before .before .before .before .before .before .before .before .eat-ws .ensures _))))) }
 
 parse-atom-parse-or-expr-requires : (t : ℕ) → parse-atom-lts.Need-parse-or-expr-requires (parse-atom-calls t) (parse-atom-at t) parse-atom.Post
-parse-atom-parse-or-expr-requires t c κs = (omega (arith, c .before .before .before .before .before .before .before .before .before .before .before .before .before .before .before .before .before .before .before .before .before .pre .0, c .before .before .before .before .before .before .before .before .before .before .before .before .before .before .before .before .before .before .before .before .before .pre .1 .0 .fits .ready .within, table-length (c .before .before .before .before .before .before .before .before .before .before .before .before .before .before .before .before .before .before .before .before .before .pre .1 .0 .fits .ready), bump-inside 4 (λ e. omega arith) (sym (eaten (c .before .before .before .before .before .before .before .before .before .before .before .before .before .before .before .eat-ws .ensures []) (c .before .before .before .before .before .before .before .before .before .before .before .before .next-kind .ensures)) ∙ c .before .before .before .before .before .before .before .before .before .before .if2 .taken) (c .before .before .before .before .before .before .before .before .start-node2 .ensures) (c .before .before .before .before .bump2 .ensures []), c .before .before .before .before .bump2 .ensures [] .wrote .within, c .before .before .before .before .before .before .before .before .before .before .before .before .before .before .before .eat-ws .ensures [] .wrote .ahead), (asks-then _ _ (asks-first _ _ (asks-node _ _ (asks-true _ _ _ (at-yes _ (eaten (c .before .before .before .before .before .before .before .before .before .before .before .before .before .before .before .eat-ws .ensures []) (c .before .before .before .before .before .before .before .before .before .before .before .before .next-kind .ensures)) (c .before .before .before .before .before .before .before .before .before .before .if2 .taken)) (asks-false _ _ _ (at-no _ (eaten (c .before .before .before .before .before .before .before .before .before .before .before .before .before .before .before .eat-ws .ensures []) (c .before .before .before .before .before .before .before .before .before .before .before .before .next-kind .ensures)) (c .before .before .before .before .before .before .before .before .before .before .before .if1 .left)) (asks-is atom-here-is (asks-then _ _ (asks-is step-atom-is (asks-step Atom (c .before .before .before .before .before .before .before .before .before .before .before .before .before .before .before .before .before .before .before .before .before .pre .1 .0))) (c .before .before .before .before .before .before .before .before .before .before .before .before .before .before .before .eat-ws .ensures _))))) (c .before .before .before .before .before .before .before .before .start-node2 .ensures))) (c .before .before .before .before .bump2 .ensures _), c .before .before .before .before .before .before .before .before .before .before .before .before .before .before .before .before .before .before .before .before .before .pre .1 .1))
+parse-atom-parse-or-expr-requires t c κs = (omega (arith, c .before .before .before .before .before .before .before .before .before .before .before .before .before .before .before .before .before .before .before .before .before .before .before .pre .0, c .before .before .before .before .before .before .before .before .before .before .before .before .before .before .before .before .before .before .before .before .before .before .before .pre .1 .0 .fits .ready .within, table-length (c .before .before .before .before .before .before .before .before .before .before .before .before .before .before .before .before .before .before .before .before .before .before .before .pre .1 .0 .fits .ready), bump-inside 4 (λ e. omega arith) (sym (eaten (c .before .before .before .before .before .before .before .before .before .before .before .before .before .before .before .before .before .eat-ws .ensures []) (c .before .before .before .before .before .before .before .before .before .before .before .before .before .before .next-kind .ensures)) ∙ c .before .before .before .before .before .before .before .before .before .before .before .before .if2 .taken) (c .before .before .before .before .before .before .before .before .before .before .start-node2 .ensures) (c .before .before .before .before .before .before .bump2 .ensures []), c .before .before .before .before .before .before .bump2 .ensures [] .wrote .within, c .before .before .before .before .before .before .before .before .before .before .before .before .before .before .before .before .before .eat-ws .ensures [] .wrote .ahead), (asks-then _ _ (asks-first _ _ (asks-node _ _ (asks-true _ _ _ (at-yes _ (eaten (c .before .before .before .before .before .before .before .before .before .before .before .before .before .before .before .before .before .eat-ws .ensures []) (c .before .before .before .before .before .before .before .before .before .before .before .before .before .before .next-kind .ensures)) (c .before .before .before .before .before .before .before .before .before .before .before .before .if2 .taken)) (asks-false _ _ _ (at-no _ (eaten (c .before .before .before .before .before .before .before .before .before .before .before .before .before .before .before .before .before .eat-ws .ensures []) (c .before .before .before .before .before .before .before .before .before .before .before .before .before .before .next-kind .ensures)) (c .before .before .before .before .before .before .before .before .before .before .before .before .before .if1 .left)) (asks-is atom-here-is (asks-then _ _ (asks-is step-atom-is (asks-step Atom (c .before .before .before .before .before .before .before .before .before .before .before .before .before .before .before .before .before .before .before .before .before .before .before .pre .1 .0))) (c .before .before .before .before .before .before .before .before .before .before .before .before .before .before .before .before .before .eat-ws .ensures _))))) (c .before .before .before .before .before .before .before .before .before .before .start-node2 .ensures))) (c .before .before .before .before .before .before .bump2 .ensures _), c .before .before .before .before .before .before .before .before .before .before .before .before .before .before .before .before .before .before .before .before .before .before .before .pre .1 .1))
+
+-- inside the brackets, by either way
+parse-atom-inner : (t : ℕ) (c : parse-atom-lts.Joined3 (parse-atom-calls t) (parse-atom-at t) parse-atom.Post)
+    → Did (lex (now (c .before .before .before .before .before .before .before .before .before .before .before .before .before .before .before .before .before .before .before .before .before .args .rule))) (c .before .before .before .before .bump2 .last .1 .1 .0) (c .if3 .tree) (now (c .before .before .before .before .before .before .before .before .before .before .before .before .before .before .before .before .before .before .before .before .before .args .errors)) (c .if3 .errors) (c .before .before .before .before .before .before .before .before .before .before .before .before .before .before .before .before .before .before .before .before .before .args .level + 1) (c .before .before .before .before .bump2 .result) (c .if3 .d) (parse OrExpr)
+parse-atom-inner t c =
+    ⊎-elim
+    (λ w. did-meet (w .8) (w .9) (w .10) (did-alone (c .before .before .before .before .before .before .before .before .before .before .before .before .before .before .before .before .before .before .before .before .before .pre .1 .1) _ (sym (c .before .past-ops .ensures) ∙ w .0 .taken) (w .3 .ensures)))
+    (λ w. did-meet (w .8) (w .9) (w .10) (w .3 .ensures))
+    (c .if3 .came)
 
 parse-atom-add-expect : (t : ℕ) → parse-atom-lts.Need-add-expect (parse-atom-calls t) (parse-atom-at t) parse-atom.Post
-parse-atom-add-expect t c = record { fits = node-level _ _ (asks-true _ _ _ (at-yes _ (eaten (c .before .before .before .before .before .before .before .before .before .before .before .before .before .before .before .before .before .before .before .before .before .before .eat-ws .ensures []) (c .before .before .before .before .before .before .before .before .before .before .before .before .before .before .before .before .before .before .before .next-kind .ensures)) (c .before .before .before .before .before .before .before .before .before .before .before .before .before .before .before .before .before .if2 .taken)) (asks-false _ _ _ (at-no _ (eaten (c .before .before .before .before .before .before .before .before .before .before .before .before .before .before .before .before .before .before .before .before .before .before .eat-ws .ensures []) (c .before .before .before .before .before .before .before .before .before .before .before .before .before .before .before .before .before .before .before .next-kind .ensures)) (c .before .before .before .before .before .before .before .before .before .before .before .before .before .before .before .before .before .before .if1 .left)) (asks-is atom-here-is (asks-then _ _ (asks-is step-atom-is (asks-step Atom (c .before .before .before .before .before .before .before .before .before .before .before .before .before .before .before .before .before .before .before .before .before .before .before .before .before .before .before .before .pre .1 .0))) (c .before .before .before .before .before .before .before .before .before .before .before .before .before .before .before .before .before .before .before .before .before .before .eat-ws .ensures _))))) }
+parse-atom-add-expect t c = record { fits = node-level _ _ (asks-true _ _ _ (at-yes _ (eaten (c .before .before .before .before .before .before .before .before .before .before .before .before .before .before .before .before .before .eat-ws .ensures []) (c .before .before .before .before .before .before .before .before .before .before .before .before .before .before .next-kind .ensures)) (c .before .before .before .before .before .before .before .before .before .before .before .before .if2 .taken)) (asks-false _ _ _ (at-no _ (eaten (c .before .before .before .before .before .before .before .before .before .before .before .before .before .before .before .before .before .eat-ws .ensures []) (c .before .before .before .before .before .before .before .before .before .before .before .before .before .before .next-kind .ensures)) (c .before .before .before .before .before .before .before .before .before .before .before .before .before .if1 .left)) (asks-is atom-here-is (asks-then _ _ (asks-is step-atom-is (asks-step Atom (c .before .before .before .before .before .before .before .before .before .before .before .before .before .before .before .before .before .before .before .before .before .before .before .pre .1 .0))) (c .before .before .before .before .before .before .before .before .before .before .before .before .before .before .before .before .before .eat-ws .ensures _))))) }
 
 parse-atom-expect-requires : (t : ℕ) → parse-atom-lts.Need-expect-requires (parse-atom-calls t) (parse-atom-at t) parse-atom.Post
-parse-atom-expect-requires t c κs = (asks-then _ _ (asks-node _ _ (asks-true _ _ _ (at-yes _ (eaten (c .before .before .before .before .before .before .before .before .before .before .before .before .before .before .before .before .before .before .before .before .before .before .eat-ws .ensures []) (c .before .before .before .before .before .before .before .before .before .before .before .before .before .before .before .before .before .before .before .next-kind .ensures)) (c .before .before .before .before .before .before .before .before .before .before .before .before .before .before .before .before .before .if2 .taken)) (asks-false _ _ _ (at-no _ (eaten (c .before .before .before .before .before .before .before .before .before .before .before .before .before .before .before .before .before .before .before .before .before .before .eat-ws .ensures []) (c .before .before .before .before .before .before .before .before .before .before .before .before .before .before .before .before .before .before .before .next-kind .ensures)) (c .before .before .before .before .before .before .before .before .before .before .before .before .before .before .before .before .before .before .if1 .left)) (asks-is atom-here-is (asks-then _ _ (asks-is step-atom-is (asks-step Atom (c .before .before .before .before .before .before .before .before .before .before .before .before .before .before .before .before .before .before .before .before .before .before .before .before .before .before .before .before .pre .1 .0))) (c .before .before .before .before .before .before .before .before .before .before .before .before .before .before .before .before .before .before .before .before .before .before .eat-ws .ensures _))))) (c .before .before .before .before .before .before .before .before .before .before .before .before .before .before .before .start-node2 .ensures)) (did-then (c .before .before .before .before .before .before .before .before .before .before .before .bump2 .ensures _) (c .before .before .before .before .before .before .parse-or-expr .ensures)))
+parse-atom-expect-requires t c κs = (asks-then _ _ (asks-node _ _ (asks-true _ _ _ (at-yes _ (eaten (c .before .before .before .before .before .before .before .before .before .before .before .before .before .before .before .before .before .eat-ws .ensures []) (c .before .before .before .before .before .before .before .before .before .before .before .before .before .before .next-kind .ensures)) (c .before .before .before .before .before .before .before .before .before .before .before .before .if2 .taken)) (asks-false _ _ _ (at-no _ (eaten (c .before .before .before .before .before .before .before .before .before .before .before .before .before .before .before .before .before .eat-ws .ensures []) (c .before .before .before .before .before .before .before .before .before .before .before .before .before .before .next-kind .ensures)) (c .before .before .before .before .before .before .before .before .before .before .before .before .before .if1 .left)) (asks-is atom-here-is (asks-then _ _ (asks-is step-atom-is (asks-step Atom (c .before .before .before .before .before .before .before .before .before .before .before .before .before .before .before .before .before .before .before .before .before .before .before .pre .1 .0))) (c .before .before .before .before .before .before .before .before .before .before .before .before .before .before .before .before .before .eat-ws .ensures _))))) (c .before .before .before .before .before .before .before .before .before .before .start-node2 .ensures)) (did-then (c .before .before .before .before .before .before .bump2 .ensures _) (parse-atom-inner t (c .before .before))))
 
 parse-atom-finish-node-requires-2 : (t : ℕ) → parse-atom-lts.Need-finish-node-requires-2 (parse-atom-calls t) (parse-atom-at t) parse-atom.Post
-parse-atom-finish-node-requires-2 t c κs = finish-room (node-room _ _ (asks-true _ _ _ (at-yes _ (eaten (c .before .before .before .before .before .before .before .before .before .before .before .before .before .before .before .before .before .before .before .before .before .before .before .before .before .before .before .before .eat-ws .ensures []) (c .before .before .before .before .before .before .before .before .before .before .before .before .before .before .before .before .before .before .before .before .before .before .before .before .before .next-kind .ensures)) (c .before .before .before .before .before .before .before .before .before .before .before .before .before .before .before .before .before .before .before .before .before .before .before .if2 .taken)) (asks-false _ _ _ (at-no _ (eaten (c .before .before .before .before .before .before .before .before .before .before .before .before .before .before .before .before .before .before .before .before .before .before .before .before .before .before .before .before .eat-ws .ensures []) (c .before .before .before .before .before .before .before .before .before .before .before .before .before .before .before .before .before .before .before .before .before .before .before .before .before .next-kind .ensures)) (c .before .before .before .before .before .before .before .before .before .before .before .before .before .before .before .before .before .before .before .before .before .before .before .before .if1 .left)) (asks-is atom-here-is (asks-then _ _ (asks-is step-atom-is (asks-step Atom (c .before .before .before .before .before .before .before .before .before .before .before .before .before .before .before .before .before .before .before .before .before .before .before .before .before .before .before .before .before .before .before .before .before .before .pre .1 .0))) (c .before .before .before .before .before .before .before .before .before .before .before .before .before .before .before .before .before .before .before .before .before .before .before .before .before .before .before .before .eat-ws .ensures _)))))) (c .before .before .before .before .before .before .before .before .before .before .before .before .before .before .before .before .before .before .before .before .before .start-node2 .ensures) (did-then (did-then (c .before .before .before .before .before .before .before .before .before .before .before .before .before .before .before .before .before .bump2 .ensures _) (c .before .before .before .before .before .before .before .before .before .before .before .before .parse-or-expr .ensures)) (c .before .before .before .before .before .expect .ensures))
+parse-atom-finish-node-requires-2 t c κs = finish-room (node-room _ _ (asks-true _ _ _ (at-yes _ (eaten (c .before .before .before .before .before .before .before .before .before .before .before .before .before .before .before .before .before .before .before .before .before .before .before .eat-ws .ensures []) (c .before .before .before .before .before .before .before .before .before .before .before .before .before .before .before .before .before .before .before .before .next-kind .ensures)) (c .before .before .before .before .before .before .before .before .before .before .before .before .before .before .before .before .before .before .if2 .taken)) (asks-false _ _ _ (at-no _ (eaten (c .before .before .before .before .before .before .before .before .before .before .before .before .before .before .before .before .before .before .before .before .before .before .before .eat-ws .ensures []) (c .before .before .before .before .before .before .before .before .before .before .before .before .before .before .before .before .before .before .before .before .next-kind .ensures)) (c .before .before .before .before .before .before .before .before .before .before .before .before .before .before .before .before .before .before .before .if1 .left)) (asks-is atom-here-is (asks-then _ _ (asks-is step-atom-is (asks-step Atom (c .before .before .before .before .before .before .before .before .before .before .before .before .before .before .before .before .before .before .before .before .before .before .before .before .before .before .before .before .before .pre .1 .0))) (c .before .before .before .before .before .before .before .before .before .before .before .before .before .before .before .before .before .before .before .before .before .before .before .eat-ws .ensures _)))))) (c .before .before .before .before .before .before .before .before .before .before .before .before .before .before .before .before .start-node2 .ensures) (did-then (did-then (c .before .before .before .before .before .before .before .before .before .before .before .before .bump2 .ensures _) (parse-atom-inner t (c .before .before .before .before .before .before .before .before))) (c .before .before .before .before .before .expect .ensures))
 
 parse-atom-same-length-3 : (t : ℕ) → parse-atom-lts.Need-same-length-3 (parse-atom-calls t) (parse-atom-at t) parse-atom.Post
-parse-atom-same-length-3 t c = finished-long (c .before .before .finish-node2 .ensures) ∙ tree-long (did-then (did-then (c .before .before .before .before .before .before .before .before .before .before .before .before .before .before .before .before .before .before .before .before .bump2 .ensures _) (c .before .before .before .before .before .before .before .before .before .before .before .before .before .before .before .parse-or-expr .ensures)) (c .before .before .before .before .before .before .before .before .expect .ensures)) ∙ started-long (c .before .before .before .before .before .before .before .before .before .before .before .before .before .before .before .before .before .before .before .before .before .before .before .before .start-node2 .ensures) ∙ tree-long (c .before .before .before .before .before .before .before .before .before .before .before .before .before .before .before .before .before .before .before .before .before .before .before .before .before .before .before .before .before .before .before .eat-ws .ensures [])
+parse-atom-same-length-3 t c = finished-long (c .before .before .finish-node2 .ensures) ∙ tree-long (did-then (did-then (c .before .before .before .before .before .before .before .before .before .before .before .before .before .before .before .bump2 .ensures _) (parse-atom-inner t (c .before .before .before .before .before .before .before .before .before .before .before))) (c .before .before .before .before .before .before .before .before .expect .ensures)) ∙ started-long (c .before .before .before .before .before .before .before .before .before .before .before .before .before .before .before .before .before .before .before .start-node2 .ensures) ∙ tree-long (c .before .before .before .before .before .before .before .before .before .before .before .before .before .before .before .before .before .before .before .before .before .before .before .before .before .before .eat-ws .ensures [])
 
 parse-atom-same-length-4 : (t : ℕ) → parse-atom-lts.Need-same-length-4 (parse-atom-calls t) (parse-atom-at t) parse-atom.Post
-parse-atom-same-length-4 t c = errors-long (did-then (did-then (c .before .before .before .before .before .before .before .before .before .before .before .before .before .before .before .before .before .before .before .before .bump2 .ensures _) (c .before .before .before .before .before .before .before .before .before .before .before .before .before .before .before .parse-or-expr .ensures)) (c .before .before .before .before .before .before .before .before .expect .ensures))
+parse-atom-same-length-4 t c = errors-long (did-then (did-then (c .before .before .before .before .before .before .before .before .before .before .before .before .before .before .before .bump2 .ensures _) (parse-atom-inner t (c .before .before .before .before .before .before .before .before .before .before .before))) (c .before .before .before .before .before .before .before .before .expect .ensures))
 
 parse-atom-returns-2 : (t : ℕ) → parse-atom-lts.Need-returns-2 (parse-atom-calls t) (parse-atom-at t) parse-atom.Post
-parse-atom-returns-2 t c = did-step Atom (did-is step-atom-is (did-then (c .before .before .before .before .before .before .before .before .before .before .before .before .before .before .before .before .before .before .before .before .before .before .before .before .before .before .before .before .before .before .before .eat-ws .ensures _) (did-is atom-here-is (did-false _ _ _ (at-no _ (eaten (c .before .before .before .before .before .before .before .before .before .before .before .before .before .before .before .before .before .before .before .before .before .before .before .before .before .before .before .before .before .before .before .eat-ws .ensures []) (c .before .before .before .before .before .before .before .before .before .before .before .before .before .before .before .before .before .before .before .before .before .before .before .before .before .before .before .before .next-kind .ensures)) (c .before .before .before .before .before .before .before .before .before .before .before .before .before .before .before .before .before .before .before .before .before .before .before .before .before .before .before .if1 .left)) (did-true _ _ _ (at-yes _ (eaten (c .before .before .before .before .before .before .before .before .before .before .before .before .before .before .before .before .before .before .before .before .before .before .before .before .before .before .before .before .before .before .before .eat-ws .ensures []) (c .before .before .before .before .before .before .before .before .before .before .before .before .before .before .before .before .before .before .before .before .before .before .before .before .before .before .before .before .next-kind .ensures)) (c .before .before .before .before .before .before .before .before .before .before .before .before .before .before .before .before .before .before .before .before .before .before .before .before .before .before .if2 .taken)) (did-node (c .before .before .before .before .before .before .before .before .before .before .before .before .before .before .before .before .before .before .before .before .before .before .before .before .start-node2 .ensures) (did-then (did-then (c .before .before .before .before .before .before .before .before .before .before .before .before .before .before .before .before .before .before .before .before .bump2 .ensures _) (c .before .before .before .before .before .before .before .before .before .before .before .before .before .before .before .parse-or-expr .ensures)) (c .before .before .before .before .before .before .before .before .expect .ensures)) (c .before .before .finish-node2 .ensures)))))))
+parse-atom-returns-2 t c = did-step Atom (did-is step-atom-is (did-then (c .before .before .before .before .before .before .before .before .before .before .before .before .before .before .before .before .before .before .before .before .before .before .before .before .before .before .eat-ws .ensures _) (did-is atom-here-is (did-false _ _ _ (at-no _ (eaten (c .before .before .before .before .before .before .before .before .before .before .before .before .before .before .before .before .before .before .before .before .before .before .before .before .before .before .eat-ws .ensures []) (c .before .before .before .before .before .before .before .before .before .before .before .before .before .before .before .before .before .before .before .before .before .before .before .next-kind .ensures)) (c .before .before .before .before .before .before .before .before .before .before .before .before .before .before .before .before .before .before .before .before .before .before .if1 .left)) (did-true _ _ _ (at-yes _ (eaten (c .before .before .before .before .before .before .before .before .before .before .before .before .before .before .before .before .before .before .before .before .before .before .before .before .before .before .eat-ws .ensures []) (c .before .before .before .before .before .before .before .before .before .before .before .before .before .before .before .before .before .before .before .before .before .before .before .next-kind .ensures)) (c .before .before .before .before .before .before .before .before .before .before .before .before .before .before .before .before .before .before .before .before .before .if2 .taken)) (did-node (c .before .before .before .before .before .before .before .before .before .before .before .before .before .before .before .before .before .before .before .start-node2 .ensures) (did-then (did-then (c .before .before .before .before .before .before .before .before .before .before .before .before .before .before .before .bump2 .ensures _) (parse-atom-inner t (c .before .before .before .before .before .before .before .before .before .before .before))) (c .before .before .before .before .before .before .before .before .expect .ensures)) (c .before .before .finish-node2 .ensures)))))))
 
 parse-atom-simple-atom-requires : (t : ℕ) → parse-atom-lts.Need-simple-atom-requires (parse-atom-calls t) (parse-atom-at t) parse-atom.Post
 parse-atom-simple-atom-requires t c κs = (asks-false _ _ _ (at-no _ (eaten (c .before .before .before .before .before .before .before .eat-ws .ensures []) (c .before .before .before .before .next-kind .ensures)) (c .before .before .if2 .left)) (asks-false _ _ _ (at-no _ (eaten (c .before .before .before .before .before .before .before .eat-ws .ensures []) (c .before .before .before .before .next-kind .ensures)) (c .before .before .before .if1 .left)) (asks-is atom-here-is (asks-then _ _ (asks-is step-atom-is (asks-step Atom (c .before .before .before .before .before .before .before .before .before .before .before .before .before .pre .1 .0))) (c .before .before .before .before .before .before .before .eat-ws .ensures _)))))
@@ -312,59 +333,47 @@ parse-atom-same-length-6 t c = errors-long (c .before .before .before .before .s
 parse-atom-returns-3 : (t : ℕ) → parse-atom-lts.Need-returns-3 (parse-atom-calls t) (parse-atom-at t) parse-atom.Post
 parse-atom-returns-3 t c = did-step Atom (did-is step-atom-is (did-then (c .before .before .before .before .before .before .before .before .before .before .before .before .eat-ws .ensures _) (did-is atom-here-is (did-false _ _ _ (at-no _ (eaten (c .before .before .before .before .before .before .before .before .before .before .before .before .eat-ws .ensures []) (c .before .before .before .before .before .before .before .before .before .next-kind .ensures)) (c .before .before .before .before .before .before .before .before .if1 .left)) (did-false _ _ _ (at-no _ (eaten (c .before .before .before .before .before .before .before .before .before .before .before .before .eat-ws .ensures []) (c .before .before .before .before .before .before .before .before .before .next-kind .ensures)) (c .before .before .before .before .before .before .before .if2 .left)) (c .before .before .before .before .simple-atom .ensures))))))
 
-parse-or-expr-parse-atom-requires : (t : ℕ) → parse-or-expr-lts.Need-parse-atom-requires (parse-or-expr-calls t) (parse-or-expr-at t) parse-or-expr.Post
-parse-or-expr-parse-atom-requires t c κs = (omega (arith, c .before .before .before .before .before .before .before .before .before .before .before .before .pre .0, c .before .before .before .before .before .before .before .before .before .before .before .before .pre .1 .0 .fits .ready .within, table-length (c .before .before .before .before .before .before .before .before .before .before .before .before .pre .1 .0 .fits .ready)), (asks-alone (c .before .before .before .before .before .before .before .before .before .before .before .before .pre .1 .1) (c .before .before .before .before .before .if1 .taken) (leb-true _ _ (c .before .before .if2 .taken)) (c .before .before .before .before .before .before .before .before .before .before .before .before .pre .1 .0), c .before .before .before .before .before .before .before .before .before .before .before .before .pre .1 .1))
-
-parse-or-expr-same-length : (t : ℕ) → parse-or-expr-lts.Need-same-length (parse-or-expr-calls t) (parse-or-expr-at t) parse-or-expr.Post
-parse-or-expr-same-length t c = tree-long (c .before .before .before .before .parse-atom .ensures)
-
-parse-or-expr-same-length-2 : (t : ℕ) → parse-or-expr-lts.Need-same-length-2 (parse-or-expr-calls t) (parse-or-expr-at t) parse-or-expr.Post
-parse-or-expr-same-length-2 t c = errors-long (c .before .before .before .before .parse-atom .ensures)
-
-parse-or-expr-returns : (t : ℕ) → parse-or-expr-lts.Need-returns (parse-or-expr-calls t) (parse-or-expr-at t) parse-or-expr.Post
-parse-or-expr-returns t c = did-alone (c .before .before .before .before .before .before .before .before .before .before .before .before .before .before .before .before .before .pre .1 .1) (c .before .before .before .before .before .before .before .before .before .before .if1 .taken) (leb-true _ _ (c .before .before .before .before .before .before .before .if2 .taken)) (c .before .before .before .before .parse-atom .ensures)
-
 parse-or-expr-has-binary-op-at-level-requires : (t : ℕ) → parse-or-expr-lts.Need-has-binary-op-at-level-requires (parse-or-expr-calls t) (parse-or-expr-at t) parse-or-expr.Post
-parse-or-expr-has-binary-op-at-level-requires t c κs = (c .before .before .before .before .before .before .before .pre .1 .0 .fits .ready, c .before .before .before .before .before .before .before .pre .1 .1 .ors)
+parse-or-expr-has-binary-op-at-level-requires t c κs = (c .before .before .before .before .pre .1 .0 .fits .ready, c .before .before .before .before .pre .1 .1 .ors)
 
 parse-or-expr-start-node-requires : (t : ℕ) → parse-or-expr-lts.Need-start-node-requires (parse-or-expr-calls t) (parse-or-expr-at t) parse-or-expr.Post
-parse-or-expr-start-node-requires t c κs = node-room _ _ (asks-true _ _ _ (sym (c .before .before .has-binary-op-at-level .ensures) ∙ c .before .if3 .taken) (asks-is step-or-is (asks-step OrExpr (c .before .before .before .before .before .before .before .before .before .before .pre .1 .0))))
+parse-or-expr-start-node-requires t c κs = node-room _ _ (asks-true _ _ _ (sym (c .before .before .has-binary-op-at-level .ensures) ∙ c .before .if1 .taken) (asks-is step-or-is (asks-step OrExpr (c .before .before .before .before .before .before .before .pre .1 .0))))
 
 parse-or-expr-add-parse-and-expr : (t : ℕ) → parse-or-expr-lts.Need-add-parse-and-expr (parse-or-expr-calls t) (parse-or-expr-at t) parse-or-expr.Post
-parse-or-expr-add-parse-and-expr t c = record { fits = node-level _ _ (asks-true _ _ _ (sym (c .before .before .before .before .before .before .before .has-binary-op-at-level .ensures) ∙ c .before .before .before .before .before .before .if3 .taken) (asks-is step-or-is (asks-step OrExpr (c .before .before .before .before .before .before .before .before .before .before .before .before .before .before .before .pre .1 .0)))) }
+parse-or-expr-add-parse-and-expr t c = record { fits = node-level _ _ (asks-true _ _ _ (sym (c .before .before .before .before .before .before .before .has-binary-op-at-level .ensures) ∙ c .before .before .before .before .before .before .if1 .taken) (asks-is step-or-is (asks-step OrExpr (c .before .before .before .before .before .before .before .before .before .before .before .before .pre .1 .0)))) }
 
 parse-or-expr-parse-and-expr-requires : (t : ℕ) → parse-or-expr-lts.Need-parse-and-expr-requires (parse-or-expr-calls t) (parse-or-expr-at t) parse-or-expr.Post
-parse-or-expr-parse-and-expr-requires t c κs = (omega (arith, c .before .before .before .before .before .before .before .before .before .before .before .before .before .before .before .pre .0, c .before .before .before .before .before .before .before .before .before .before .before .before .before .before .before .pre .1 .0 .fits .ready .within, table-length (c .before .before .before .before .before .before .before .before .before .before .before .before .before .before .before .pre .1 .0 .fits .ready), started-token (c .before .before .before .before .start-node .ensures)), (asks-first _ _ (asks-node _ _ (asks-true _ _ _ (sym (c .before .before .before .before .before .before .before .has-binary-op-at-level .ensures) ∙ c .before .before .before .before .before .before .if3 .taken) (asks-is step-or-is (asks-step OrExpr (c .before .before .before .before .before .before .before .before .before .before .before .before .before .before .before .pre .1 .0)))) (c .before .before .before .before .start-node .ensures)), c .before .before .before .before .before .before .before .before .before .before .before .before .before .before .before .pre .1 .1))
+parse-or-expr-parse-and-expr-requires t c κs = (omega (arith, c .before .before .before .before .before .before .before .before .before .before .before .before .pre .0, c .before .before .before .before .before .before .before .before .before .before .before .before .pre .1 .0 .fits .ready .within, table-length (c .before .before .before .before .before .before .before .before .before .before .before .before .pre .1 .0 .fits .ready), started-token (c .before .before .before .before .start-node .ensures)), (asks-first _ _ (asks-node _ _ (asks-true _ _ _ (sym (c .before .before .before .before .before .before .before .has-binary-op-at-level .ensures) ∙ c .before .before .before .before .before .before .if1 .taken) (asks-is step-or-is (asks-step OrExpr (c .before .before .before .before .before .before .before .before .before .before .before .before .pre .1 .0)))) (c .before .before .before .before .start-node .ensures)), c .before .before .before .before .before .before .before .before .before .before .before .before .pre .1 .1))
 
 parse-or-expr-add-or-rest : (t : ℕ) → parse-or-expr-lts.Need-add-or-rest (parse-or-expr-calls t) (parse-or-expr-at t) parse-or-expr.Post
-parse-or-expr-add-or-rest t c = record { fits = node-level _ _ (asks-true _ _ _ (sym (c .before .before .before .before .before .before .before .before .before .before .before .before .before .before .has-binary-op-at-level .ensures) ∙ c .before .before .before .before .before .before .before .before .before .before .before .before .before .if3 .taken) (asks-is step-or-is (asks-step OrExpr (c .before .before .before .before .before .before .before .before .before .before .before .before .before .before .before .before .before .before .before .before .before .before .pre .1 .0)))) }
+parse-or-expr-add-or-rest t c = record { fits = node-level _ _ (asks-true _ _ _ (sym (c .before .before .before .before .before .before .before .before .before .before .before .before .before .before .has-binary-op-at-level .ensures) ∙ c .before .before .before .before .before .before .before .before .before .before .before .before .before .if1 .taken) (asks-is step-or-is (asks-step OrExpr (c .before .before .before .before .before .before .before .before .before .before .before .before .before .before .before .before .before .before .before .pre .1 .0)))) }
 
 parse-or-expr-or-rest-requires : (t : ℕ) → parse-or-expr-lts.Need-or-rest-requires (parse-or-expr-calls t) (parse-or-expr-at t) parse-or-expr.Post
-parse-or-expr-or-rest-requires t c κs = (omega (arith, c .before .before .before .before .before .before .before .before .before .before .before .before .before .before .before .before .before .before .before .before .before .before .pre .0, c .before .before .before .before .before .before .before .before .before .before .before .before .before .before .before .before .before .before .before .before .before .before .pre .1 .0 .fits .ready .within, table-length (c .before .before .before .before .before .before .before .before .before .before .before .before .before .before .before .before .before .before .before .before .before .before .pre .1 .0 .fits .ready), started-token (c .before .before .before .before .before .before .before .before .before .before .before .start-node .ensures), c .before .before .before .before .before .before .parse-and-expr .ensures .wrote .ahead, c .before .before .before .before .before .before .parse-and-expr .ensures .wrote .within), (asks-then _ _ (asks-node _ _ (asks-true _ _ _ (sym (c .before .before .before .before .before .before .before .before .before .before .before .before .before .before .has-binary-op-at-level .ensures) ∙ c .before .before .before .before .before .before .before .before .before .before .before .before .before .if3 .taken) (asks-is step-or-is (asks-step OrExpr (c .before .before .before .before .before .before .before .before .before .before .before .before .before .before .before .before .before .before .before .before .before .before .pre .1 .0)))) (c .before .before .before .before .before .before .before .before .before .before .before .start-node .ensures)) (c .before .before .before .before .before .before .parse-and-expr .ensures), c .before .before .before .before .before .before .before .before .before .before .before .before .before .before .before .before .before .before .before .before .before .before .pre .1 .1))
+parse-or-expr-or-rest-requires t c κs = (omega (arith, c .before .before .before .before .before .before .before .before .before .before .before .before .before .before .before .before .before .before .before .pre .0, c .before .before .before .before .before .before .before .before .before .before .before .before .before .before .before .before .before .before .before .pre .1 .0 .fits .ready .within, table-length (c .before .before .before .before .before .before .before .before .before .before .before .before .before .before .before .before .before .before .before .pre .1 .0 .fits .ready), started-token (c .before .before .before .before .before .before .before .before .before .before .before .start-node .ensures), c .before .before .before .before .before .before .parse-and-expr .ensures .wrote .ahead, c .before .before .before .before .before .before .parse-and-expr .ensures .wrote .within), (asks-then _ _ (asks-node _ _ (asks-true _ _ _ (sym (c .before .before .before .before .before .before .before .before .before .before .before .before .before .before .has-binary-op-at-level .ensures) ∙ c .before .before .before .before .before .before .before .before .before .before .before .before .before .if1 .taken) (asks-is step-or-is (asks-step OrExpr (c .before .before .before .before .before .before .before .before .before .before .before .before .before .before .before .before .before .before .before .pre .1 .0)))) (c .before .before .before .before .before .before .before .before .before .before .before .start-node .ensures)) (c .before .before .before .before .before .before .parse-and-expr .ensures), c .before .before .before .before .before .before .before .before .before .before .before .before .before .before .before .before .before .before .before .pre .1 .1))
 
 parse-or-expr-finish-node-requires : (t : ℕ) → parse-or-expr-lts.Need-finish-node-requires (parse-or-expr-calls t) (parse-or-expr-at t) parse-or-expr.Post
-parse-or-expr-finish-node-requires t c κs = finish-room (node-room _ _ (asks-true _ _ _ (sym (c .before .before .before .before .before .before .before .before .before .before .before .before .before .before .before .before .before .before .before .before .has-binary-op-at-level .ensures) ∙ c .before .before .before .before .before .before .before .before .before .before .before .before .before .before .before .before .before .before .before .if3 .taken) (asks-is step-or-is (asks-step OrExpr (c .before .before .before .before .before .before .before .before .before .before .before .before .before .before .before .before .before .before .before .before .before .before .before .before .before .before .before .before .pre .1 .0))))) (c .before .before .before .before .before .before .before .before .before .before .before .before .before .before .before .before .before .start-node .ensures) (did-then (c .before .before .before .before .before .before .before .before .before .before .before .before .parse-and-expr .ensures) (c .before .before .before .before .before .or-rest .ensures))
+parse-or-expr-finish-node-requires t c κs = finish-room (node-room _ _ (asks-true _ _ _ (sym (c .before .before .before .before .before .before .before .before .before .before .before .before .before .before .before .before .before .before .before .before .has-binary-op-at-level .ensures) ∙ c .before .before .before .before .before .before .before .before .before .before .before .before .before .before .before .before .before .before .before .if1 .taken) (asks-is step-or-is (asks-step OrExpr (c .before .before .before .before .before .before .before .before .before .before .before .before .before .before .before .before .before .before .before .before .before .before .before .before .before .pre .1 .0))))) (c .before .before .before .before .before .before .before .before .before .before .before .before .before .before .before .before .before .start-node .ensures) (did-then (c .before .before .before .before .before .before .before .before .before .before .before .before .parse-and-expr .ensures) (c .before .before .before .before .before .or-rest .ensures))
 
-parse-or-expr-same-length-3 : (t : ℕ) → parse-or-expr-lts.Need-same-length-3 (parse-or-expr-calls t) (parse-or-expr-at t) parse-or-expr.Post
-parse-or-expr-same-length-3 t c = finished-long (c .before .before .finish-node .ensures) ∙ tree-long (did-then (c .before .before .before .before .before .before .before .before .before .before .before .before .before .before .before .parse-and-expr .ensures) (c .before .before .before .before .before .before .before .before .or-rest .ensures)) ∙ started-long (c .before .before .before .before .before .before .before .before .before .before .before .before .before .before .before .before .before .before .before .before .start-node .ensures)
+parse-or-expr-same-length : (t : ℕ) → parse-or-expr-lts.Need-same-length (parse-or-expr-calls t) (parse-or-expr-at t) parse-or-expr.Post
+parse-or-expr-same-length t c = finished-long (c .before .before .finish-node .ensures) ∙ tree-long (did-then (c .before .before .before .before .before .before .before .before .before .before .before .before .before .before .before .parse-and-expr .ensures) (c .before .before .before .before .before .before .before .before .or-rest .ensures)) ∙ started-long (c .before .before .before .before .before .before .before .before .before .before .before .before .before .before .before .before .before .before .before .before .start-node .ensures)
 
-parse-or-expr-same-length-4 : (t : ℕ) → parse-or-expr-lts.Need-same-length-4 (parse-or-expr-calls t) (parse-or-expr-at t) parse-or-expr.Post
-parse-or-expr-same-length-4 t c = errors-long (did-then (c .before .before .before .before .before .before .before .before .before .before .before .before .before .before .before .parse-and-expr .ensures) (c .before .before .before .before .before .before .before .before .or-rest .ensures))
+parse-or-expr-same-length-2 : (t : ℕ) → parse-or-expr-lts.Need-same-length-2 (parse-or-expr-calls t) (parse-or-expr-at t) parse-or-expr.Post
+parse-or-expr-same-length-2 t c = errors-long (did-then (c .before .before .before .before .before .before .before .before .before .before .before .before .before .before .before .parse-and-expr .ensures) (c .before .before .before .before .before .before .before .before .or-rest .ensures))
 
-parse-or-expr-returns-2 : (t : ℕ) → parse-or-expr-lts.Need-returns-2 (parse-or-expr-calls t) (parse-or-expr-at t) parse-or-expr.Post
-parse-or-expr-returns-2 t c = did-step OrExpr (did-is step-or-is (did-true _ _ _ (sym (c .before .before .before .before .before .before .before .before .before .before .before .before .before .before .before .before .before .before .before .before .before .before .before .has-binary-op-at-level .ensures) ∙ c .before .before .before .before .before .before .before .before .before .before .before .before .before .before .before .before .before .before .before .before .before .before .if3 .taken) (did-node (c .before .before .before .before .before .before .before .before .before .before .before .before .before .before .before .before .before .before .before .before .start-node .ensures) (did-then (c .before .before .before .before .before .before .before .before .before .before .before .before .before .before .before .parse-and-expr .ensures) (c .before .before .before .before .before .before .before .before .or-rest .ensures)) (c .before .before .finish-node .ensures))))
+parse-or-expr-returns : (t : ℕ) → parse-or-expr-lts.Need-returns (parse-or-expr-calls t) (parse-or-expr-at t) parse-or-expr.Post
+parse-or-expr-returns t c = did-step OrExpr (did-is step-or-is (did-true _ _ _ (sym (c .before .before .before .before .before .before .before .before .before .before .before .before .before .before .before .before .before .before .before .before .before .before .before .has-binary-op-at-level .ensures) ∙ c .before .before .before .before .before .before .before .before .before .before .before .before .before .before .before .before .before .before .before .before .before .before .if1 .taken) (did-node (c .before .before .before .before .before .before .before .before .before .before .before .before .before .before .before .before .before .before .before .before .start-node .ensures) (did-then (c .before .before .before .before .before .before .before .before .before .before .before .before .before .before .before .parse-and-expr .ensures) (c .before .before .before .before .before .before .before .before .or-rest .ensures)) (c .before .before .finish-node .ensures))))
 
 parse-or-expr-parse-and-expr-requires-2 : (t : ℕ) → parse-or-expr-lts.Need-parse-and-expr-requires-2 (parse-or-expr-calls t) (parse-or-expr-at t) parse-or-expr.Post
-parse-or-expr-parse-and-expr-requires-2 t c κs = (omega (arith, c .before .before .before .before .before .before .before .before .before .before .before .pre .0, c .before .before .before .before .before .before .before .before .before .before .before .pre .1 .0 .fits .ready .within, table-length (c .before .before .before .before .before .before .before .before .before .before .before .pre .1 .0 .fits .ready), c .before .before .before .before .before .before .before .before .before .before .before .pre .1 .0 .fits .ready .within), (asks-false _ _ _ (sym (c .before .before .before .has-binary-op-at-level .ensures) ∙ c .before .before .if3 .left) (asks-is step-or-is (asks-step OrExpr (c .before .before .before .before .before .before .before .before .before .before .before .pre .1 .0))), c .before .before .before .before .before .before .before .before .before .before .before .pre .1 .1))
+parse-or-expr-parse-and-expr-requires-2 t c κs = (omega (arith, c .before .before .before .before .before .before .before .before .pre .0, c .before .before .before .before .before .before .before .before .pre .1 .0 .fits .ready .within, table-length (c .before .before .before .before .before .before .before .before .pre .1 .0 .fits .ready), c .before .before .before .before .before .before .before .before .pre .1 .0 .fits .ready .within), (asks-false _ _ _ (sym (c .before .before .before .has-binary-op-at-level .ensures) ∙ c .before .before .if1 .left) (asks-is step-or-is (asks-step OrExpr (c .before .before .before .before .before .before .before .before .pre .1 .0))), c .before .before .before .before .before .before .before .before .pre .1 .1))
 
-parse-or-expr-same-length-5 : (t : ℕ) → parse-or-expr-lts.Need-same-length-5 (parse-or-expr-calls t) (parse-or-expr-at t) parse-or-expr.Post
-parse-or-expr-same-length-5 t c = tree-long (c .before .before .before .before .parse-and-expr2 .ensures)
+parse-or-expr-same-length-3 : (t : ℕ) → parse-or-expr-lts.Need-same-length-3 (parse-or-expr-calls t) (parse-or-expr-at t) parse-or-expr.Post
+parse-or-expr-same-length-3 t c = tree-long (c .before .before .before .before .parse-and-expr2 .ensures)
 
-parse-or-expr-same-length-6 : (t : ℕ) → parse-or-expr-lts.Need-same-length-6 (parse-or-expr-calls t) (parse-or-expr-at t) parse-or-expr.Post
-parse-or-expr-same-length-6 t c = errors-long (c .before .before .before .before .parse-and-expr2 .ensures)
+parse-or-expr-same-length-4 : (t : ℕ) → parse-or-expr-lts.Need-same-length-4 (parse-or-expr-calls t) (parse-or-expr-at t) parse-or-expr.Post
+parse-or-expr-same-length-4 t c = errors-long (c .before .before .before .before .parse-and-expr2 .ensures)
 
-parse-or-expr-returns-3 : (t : ℕ) → parse-or-expr-lts.Need-returns-3 (parse-or-expr-calls t) (parse-or-expr-at t) parse-or-expr.Post
-parse-or-expr-returns-3 t c = did-step OrExpr (did-is step-or-is (did-false _ _ _ (sym (c .before .before .before .before .before .before .before .before .has-binary-op-at-level .ensures) ∙ c .before .before .before .before .before .before .before .if3 .left) (c .before .before .before .before .parse-and-expr2 .ensures)))
+parse-or-expr-returns-2 : (t : ℕ) → parse-or-expr-lts.Need-returns-2 (parse-or-expr-calls t) (parse-or-expr-at t) parse-or-expr.Post
+parse-or-expr-returns-2 t c = did-step OrExpr (did-is step-or-is (did-false _ _ _ (sym (c .before .before .before .before .before .before .before .before .has-binary-op-at-level .ensures) ∙ c .before .before .before .before .before .before .before .if1 .left) (c .before .before .before .before .parse-and-expr2 .ensures)))
 
 pub +and-rest+or-rest+parse-and-expr+parse-atom+parse-or-expr-spec : {M : Type 1} → statement M
 +and-rest+or-rest+parse-and-expr+parse-atom+parse-or-expr-spec =
@@ -436,6 +445,9 @@ pub +and-rest+or-rest+parse-and-expr+parse-atom+parse-or-expr-spec : {M : Type 1
     (parse-atom-start-node-requires-2 t)
     (parse-atom-add-bump-2 t)
     (parse-atom-bump-requires-2 t)
+    (parse-atom-past-ops-requires t)
+    (parse-atom-add-parse-atom-2 t)
+    (parse-atom-parse-atom-requires-2 t)
     (parse-atom-add-parse-or-expr t)
     (parse-atom-parse-or-expr-requires t)
     (parse-atom-add-expect t)
@@ -451,10 +463,6 @@ pub +and-rest+or-rest+parse-and-expr+parse-atom+parse-or-expr-spec : {M : Type 1
     λ t. parse-or-expr-lts.spec (parse-or-expr-calls t)
     (parse-or-expr-at t)
     parse-or-expr.Post
-    (parse-or-expr-parse-atom-requires t)
-    (parse-or-expr-same-length t)
-    (parse-or-expr-same-length-2 t)
-    (parse-or-expr-returns t)
     (parse-or-expr-has-binary-op-at-level-requires t)
     (parse-or-expr-start-node-requires t)
     (parse-or-expr-add-parse-and-expr t)
@@ -462,10 +470,10 @@ pub +and-rest+or-rest+parse-and-expr+parse-atom+parse-or-expr-spec : {M : Type 1
     (parse-or-expr-add-or-rest t)
     (parse-or-expr-or-rest-requires t)
     (parse-or-expr-finish-node-requires t)
+    (parse-or-expr-same-length t)
+    (parse-or-expr-same-length-2 t)
+    (parse-or-expr-returns t)
+    (parse-or-expr-parse-and-expr-requires-2 t)
     (parse-or-expr-same-length-3 t)
     (parse-or-expr-same-length-4 t)
     (parse-or-expr-returns-2 t)
-    (parse-or-expr-parse-and-expr-requires-2 t)
-    (parse-or-expr-same-length-5 t)
-    (parse-or-expr-same-length-6 t)
-    (parse-or-expr-returns-3 t)
