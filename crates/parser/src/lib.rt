@@ -21,7 +21,7 @@ ghost use Rattle.trees.specs.Look.{headKind, headText, currentKind, atText, atI
 ghost use Rattle.trees.specs.Parse.{next, nextIsIdent, fails, failsAhead, eatWs, bump, expect, expectIdent, literal, callExpr, identExpr, containsExpr, compareExpr, simpleAtom, predicateArgs, noArgs, noMethod, parseMethod, parseDotCall, parse, OrExpr, OrRest, AndExpr, AndRest, Atom, Calls, parseSource, parsePipeline, parsePipelineOrCountCompare, remaining, leftOver, parseRoot};
 ghost use Rattle.lexer.specs.Read.{checkRule};
 ghost use Rattle.trees.specs.Read.{checkTables, Reads};
-ghost use Rattle.trees.specs.Writing.{Ready, Past, Skipped, Fits, Asks, Did, Started, Finished, NoneFrom, NoOpsFrom};
+ghost use Rattle.trees.specs.Writing.{Ready, Solid, Past, Skipped, Fits, Asks, Did, Started, Finished, NoneFrom, NoOpsFrom};
 
 // Reads a rule that passes refusals 1 to 4 into the three tables; a refusal leaves them as they are.
 pub fn parse_expr(rule: &[u8], tokens: &mut [u32], tree: &mut [u32], errors: &mut [u32]) -> Reading
@@ -550,7 +550,7 @@ fn parse_atom(
     simple_atom(rule, tokens, tree, errors, level, a)
 }
 
-// 'has' '(' STRING ')' | 'connected' | 'message' '.' 'contains' '(' STRING ')' | field '==' STRING
+// Past blanks: 'has' '(' STRING ')' | 'connected' | 'message' '.' 'contains' '(' STRING ')' | field '==' STRING
 fn simple_atom(
     rule: &[u8],
     tokens: &[u32],
@@ -560,12 +560,13 @@ fn simple_atom(
     c: Cursor,
 ) -> Cursor
     requires { ⌜ Asks (lex (now rule)) (now tokens) (now tree) (now errors) level c simpleAtom ⌝ }
+    requires { ⌜ Solid (lex (now rule)) (now tokens) c ⌝ }
     ensures { λ r. ⌜ Did (lex (now (rule .entry))) (now (tree .entry)) (now (tree .exit)) (now (errors .entry)) (now (errors .exit)) level c r simpleAtom ⌝ }
 {
-    if at_ident(rule, tokens, b"has", c) {
+    if is_ident(rule, tokens, b"has", c) {
         return call_expr(rule, tokens, tree, errors, level, c);
     }
-    if at_ident(rule, tokens, b"connected", c) {
+    if is_ident(rule, tokens, b"connected", c) {
         return ident_expr(rule, tokens, tree, errors, level, c);
     }
     if at_message_dot(rule, tokens, c) {
@@ -579,10 +580,10 @@ fn simple_atom(
 
 // `message` with a `.` after it
 fn at_message_dot(rule: &[u8], tokens: &[u32], c: Cursor) -> bool
-    requires { ⌜ Ready (lex (now rule)) (now tokens) c ⌝ }
+    requires { ⌜ Solid (lex (now rule)) (now tokens) c ⌝ }
     ensures { λ r. ⌜ r ≡ atMessageDot (drop (c .token) (lex (now (rule .entry)))) ⌝ }
 {
-    if at_ident(rule, tokens, b"message", c) {
+    if is_ident(rule, tokens, b"message", c) {
         return peek_kind(rule, tokens, c) == kind::DOT;
     }
     false
@@ -590,22 +591,22 @@ fn at_message_dot(rule: &[u8], tokens: &[u32], c: Cursor) -> bool
 
 // `category`, `kind`, `direction`, `severity`, `message`
 fn at_field(rule: &[u8], tokens: &[u32], c: Cursor) -> bool
-    requires { ⌜ Ready (lex (now rule)) (now tokens) c ⌝ }
+    requires { ⌜ Solid (lex (now rule)) (now tokens) c ⌝ }
     ensures { λ r. ⌜ r ≡ atField (drop (c .token) (lex (now (rule .entry)))) ⌝ }
 {
-    if at_ident(rule, tokens, b"category", c) {
+    if is_ident(rule, tokens, b"category", c) {
         return true;
     }
-    if at_ident(rule, tokens, b"kind", c) {
+    if is_ident(rule, tokens, b"kind", c) {
         return true;
     }
-    if at_ident(rule, tokens, b"direction", c) {
+    if is_ident(rule, tokens, b"direction", c) {
         return true;
     }
-    if at_ident(rule, tokens, b"severity", c) {
+    if is_ident(rule, tokens, b"severity", c) {
         return true;
     }
-    at_ident(rule, tokens, b"message", c)
+    is_ident(rule, tokens, b"message", c)
 }
 
 // has('..') and analysis('..')
@@ -901,6 +902,14 @@ fn at_ident(rule: &[u8], tokens: &[u32], word: &[u8], c: Cursor) -> bool
 {
     let a = skip_ws(rule, tokens, c);
     next_is_ident(rule, tokens, word, a)
+}
+
+// The same where no blank comes next.
+fn is_ident(rule: &[u8], tokens: &[u32], word: &[u8], c: Cursor) -> bool
+    requires { ⌜ Solid (lex (now rule)) (now tokens) c ⌝ }
+    ensures { λ r. ⌜ r ≡ atIdent (now (word .entry)) (drop (c .token) (lex (now (rule .entry)))) ⌝ }
+{
+    next_is_ident(rule, tokens, word, c)
 }
 
 // Whether the first token that is no blank has these bytes.

@@ -12,11 +12,11 @@ use Rattle.syntax.proofs.BoolLaws.{both}
 use Rattle.lexer.specs.Lex.{Token}
 use Rattle.trees.specs.Look.{skipWs, headKind, currentKind, atKind, hasBinaryOpAtLevel}
 use Rattle.trees.specs.Parse.{Parser, done, join, _▹_, inNode, choose, eatWs, bump, expect, predicateArgs, noArgs, noMethod, parseMethod, parseDotCall, Mode, OrExpr, OrRest, AndExpr, AndRest, Atom, Calls, step, parse}
-use Rattle.trees.specs.Writing.{Asks, Did, Started, NoOpsFrom}
+use Rattle.trees.specs.Writing.{Ready, Solid, Asks, Did, Started, NoOpsFrom}
 use Rattle.trees.specs.declared.Cursor.{Cursor}
 use Rattle.trees.specs.declared.Ops.{Ops}
 use Rattle.trees.proofs.TreeLaws.{Keeps, eat-rest, skip-twice, keeping, keeps-bump, keeps-expect, keeps-parse}
-use Rattle.trees.proofs.WritingLaws.{did-done, did-then, asks-first, asks-then, tree-long, errors-long, asks-true, asks-false, did-true, did-false, asks-is, did-is}
+use Rattle.trees.proofs.WritingLaws.{did-done, did-then, asks-first, asks-then, tree-long, errors-long, ready-then, asks-true, asks-false, did-true, did-false, asks-is, did-is}
 use Rattle.trees.proofs.ParseLaws.{step-or-is, step-or-rest-is, step-and-is, step-and-rest-is, step-calls-is}
 use Rattle.trees.proofs.LookLaws.{none-ahead}
 use Rattle.trees.proofs.StepLaws.{asks-step, did-step, short, ahead, at-kind, expect-less, bump-ahead}
@@ -45,12 +45,18 @@ pub dot-ahead : {ts : List Token} {t₀ t₁ e₀ e₁ : List ℕ} {l : ℕ} {c 
     → Did ts t₀ t₁ e₀ e₁ l c d (parseDotCall (parse OrExpr)) → c .token < d .token
 dot-ahead {ts} {c = c} e a = ahead (dot-less (drop (c .token) ts) e) a
 
--- past blanks, the next token is the first that is no blank
-pub eaten : {ts : List Token} {t₀ t₁ e₀ e₁ : List ℕ} {l k : ℕ} {c a : Cursor} → Did ts t₀ t₁ e₀ e₁ l c a eatWs → k ≡ headKind (drop (a .token) ts)
-    → k ≡ currentKind (drop (a .token) ts)
-eaten {ts} {c = c} {a = a} w e =
-    let r : drop (a .token) ts ≡ skipWs (drop (c .token) ts) = w .wrote .rest ∙ eat-rest (drop (c .token) ts) in
-    e ∙ ap headKind (r ∙ sym (skip-twice (drop (c .token) ts)) ∙ ap skipWs (sym r))
+-- past blanks no blank comes next: the next token is the first that is none
+module _ {ts : List Token} {t₀ t₁ e₀ e₁ : List ℕ} {l : ℕ} {c a : Cursor} (w : Did ts t₀ t₁ e₀ e₁ l c a eatWs) where
+  eaten-here : skipWs (drop (a .token) ts) ≡ drop (a .token) ts
+  eaten-here =
+      let r : drop (a .token) ts ≡ skipWs (drop (c .token) ts) = w .wrote .rest ∙ eat-rest (drop (c .token) ts) in
+      ap skipWs r ∙ skip-twice (drop (c .token) ts) ∙ sym r
+
+  pub eaten : {k : ℕ} → k ≡ headKind (drop (a .token) ts) → k ≡ currentKind (drop (a .token) ts)
+  eaten e = e ∙ ap headKind (sym eaten-here)
+
+  pub eaten-solid : {tokens : List ℕ} → Ready ts tokens c → Solid ts tokens a
+  eaten-solid r = record { ready = ready-then w r; here = eaten-here }
 
 -- where neither `and` nor `or` is left, an or_expr is an atom
 module _ {ts : List Token} {o : Ops} (n : NoOpsFrom ts o) (c : Cursor) (y : (leb (o .ors) (c .token) && leb (o .ands) (c .token)) ≡ true) where

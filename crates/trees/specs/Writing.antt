@@ -19,6 +19,11 @@ pub record Ready (ts : List Token) (tokens : List ℕ) (c : Cursor) : Type 0 whe
   pub within : c .token ≤ length ts
   pub byte : c .byte ≡ width (take (c .token) ts)
 
+-- and no blank comes next
+pub record Solid (ts : List Token) (tokens : List ℕ) (c : Cursor) : Type 0 where
+  pub ready : Ready ts tokens c
+  pub here : skipWs (drop (c .token) ts) ≡ drop (c .token) ts
+
 -- r stands past the next token
 pub record Past (ts : List Token) (tokens : List ℕ) (c r : Cursor) : Type 0 where
   pub ready : Ready ts tokens r

@@ -14,7 +14,7 @@ use Rattle.trees.proofs.WritingLaws.{did-then, asks-first, asks-then, tree-long
 use Rattle.trees.proofs.ParseLaws.{step-or-is, step-and-is, step-atom-is, atom-here-is}
 use Rattle.trees.proofs.LookLaws.{at-yes, at-no}
 use Rattle.trees.proofs.StepLaws.{asks-step, did-step, bump-ahead}
-use Rattle.trees.proofs.CycleLaws.{started-token, bump-inside, eaten, asks-alone, did-alone, Ongoing, ongoing-start, while-or, while-and, rest-end, rest-asks, rest-next}
+use Rattle.trees.proofs.CycleLaws.{started-token, bump-inside, eaten, eaten-solid, asks-alone, did-alone, Ongoing, ongoing-start, while-or, while-and, rest-end, rest-asks, rest-next}
 use Prim.Native.Nat.{ℕ, _+_, _*_, _-_, _<_}
 use borrow.Fn.Kinds.{In}
 use borrow.Fn.PlainCycle.{Measures, is, falls, and}
@@ -322,7 +322,7 @@ parse-atom-returns-2 : (t : ℕ) → parse-atom-lts.Need-returns-2 (parse-atom-c
 parse-atom-returns-2 t c = did-step Atom (did-is step-atom-is (did-then (c .before .before .before .before .before .before .before .before .before .before .before .before .before .before .before .before .before .before .before .before .before .before .before .before .before .before .eat-ws .ensures _) (did-is atom-here-is (did-false _ _ _ (at-no _ (eaten (c .before .before .before .before .before .before .before .before .before .before .before .before .before .before .before .before .before .before .before .before .before .before .before .before .before .before .eat-ws .ensures []) (c .before .before .before .before .before .before .before .before .before .before .before .before .before .before .before .before .before .before .before .before .before .before .before .next-kind .ensures)) (c .before .before .before .before .before .before .before .before .before .before .before .before .before .before .before .before .before .before .before .before .before .before .if1 .left)) (did-true _ _ _ (at-yes _ (eaten (c .before .before .before .before .before .before .before .before .before .before .before .before .before .before .before .before .before .before .before .before .before .before .before .before .before .before .eat-ws .ensures []) (c .before .before .before .before .before .before .before .before .before .before .before .before .before .before .before .before .before .before .before .before .before .before .before .next-kind .ensures)) (c .before .before .before .before .before .before .before .before .before .before .before .before .before .before .before .before .before .before .before .before .before .if2 .taken)) (did-node (c .before .before .before .before .before .before .before .before .before .before .before .before .before .before .before .before .before .before .before .start-node2 .ensures) (did-then (did-then (c .before .before .before .before .before .before .before .before .before .before .before .before .before .before .before .bump2 .ensures _) (parse-atom-inner t (c .before .before .before .before .before .before .before .before .before .before .before))) (c .before .before .before .before .before .before .before .before .expect .ensures)) (c .before .before .finish-node2 .ensures)))))))
 
 parse-atom-simple-atom-requires : (t : ℕ) → parse-atom-lts.Need-simple-atom-requires (parse-atom-calls t) (parse-atom-at t) parse-atom.Post
-parse-atom-simple-atom-requires t c κs = (asks-false _ _ _ (at-no _ (eaten (c .before .before .before .before .before .before .before .eat-ws .ensures []) (c .before .before .before .before .next-kind .ensures)) (c .before .before .if2 .left)) (asks-false _ _ _ (at-no _ (eaten (c .before .before .before .before .before .before .before .eat-ws .ensures []) (c .before .before .before .before .next-kind .ensures)) (c .before .before .before .if1 .left)) (asks-is atom-here-is (asks-then _ _ (asks-is step-atom-is (asks-step Atom (c .before .before .before .before .before .before .before .before .before .before .before .before .before .pre .1 .0))) (c .before .before .before .before .before .before .before .eat-ws .ensures _)))))
+parse-atom-simple-atom-requires t c κs = ((asks-false _ _ _ (at-no _ (eaten (c .before .before .before .before .before .before .before .eat-ws .ensures []) (c .before .before .before .before .next-kind .ensures)) (c .before .before .if2 .left)) (asks-false _ _ _ (at-no _ (eaten (c .before .before .before .before .before .before .before .eat-ws .ensures []) (c .before .before .before .before .next-kind .ensures)) (c .before .before .before .if1 .left)) (asks-is atom-here-is (asks-then _ _ (asks-is step-atom-is (asks-step Atom (c .before .before .before .before .before .before .before .before .before .before .before .before .before .pre .1 .0))) (c .before .before .before .before .before .before .before .eat-ws .ensures _))))), eaten-solid (c .before .before .before .before .before .before .before .eat-ws .ensures []) (c .before .before .before .before .before .before .before .before .before .before .before .before .before .pre .1 .0 .fits .ready))
 
 parse-atom-same-length-5 : (t : ℕ) → parse-atom-lts.Need-same-length-5 (parse-atom-calls t) (parse-atom-at t) parse-atom.Post
 parse-atom-same-length-5 t c = tree-long (c .before .before .before .before .simple-atom .ensures) ∙ tree-long (c .before .before .before .before .before .before .before .before .before .before .before .before .eat-ws .ensures [])
