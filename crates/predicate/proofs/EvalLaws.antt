@@ -59,6 +59,14 @@ module _ (rule image tree : List ℕ) (m : Member) where
       ∙ ap (truth image m) (forest-node rule tree level at (f .whole) (found-level f) (leb-true ROOT (kindAt tree at) (found-kind f)))
       ∙ sym (rw (le-leb (at + ROW) (length tree) (f .whole), found-level f))
 
+  -- of the first node inside one
+  pub args-none : (at : ℕ) {l : ℕ} → l ≡ levelAt tree at → FoundNowhere ofNode tree (l + 1) (at + ROW) → false ≡ truth image m (childrenAt rule tree at)
+  args-none at {l} e f = inner-none (l + 1) (at + ROW) f ∙ ap (λ (l : ℕ). truth image m (forestFrom rule tree (l + 1) (at + ROW))) e
+
+  pub args-found : (at : ℕ) {l first : ℕ} {r : Bool} → l ≡ levelAt tree at → FoundAt ofNode tree (l + 1) (at + ROW) first → r ≡ truth image m (nodeAt rule tree first)
+      → r ≡ truth image m (childrenAt rule tree at)
+  args-found at {l} {first} e f h = h ∙ sym (inner-found (l + 1) (at + ROW) first f) ∙ ap (λ (l : ℕ). truth image m (forestFrom rule tree (l + 1) (at + ROW))) e
+
 -- an operand that cannot change the truth so far, and one that decides it
 decided : (or before operand : Bool) → Bool·beq before or ≡ true → joinedBy or before operand ≡ before
 decided true true operand e = refl

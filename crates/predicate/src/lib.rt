@@ -48,9 +48,25 @@ pub fn eval_args(rule: &[u8], image: &[u8], tree: &[u32], member: Member, at: us
     if !rows::is_row(tree, at) {
         return false;
     }
-    let level = rows::level_at(tree, at);
-    let predicate = eval_inner(rule, image, tree, member, level, at + rows::ROW);
-    predicate.value
+    let children = rows::level_at(tree, at) + 1;
+    let found = rows::find_child(tree, children, at + rows::ROW);
+    let Found::At(predicate) = found else {
+        return false;
+    };
+    eval_alone(rule, image, tree, member, predicate)
+}
+
+// The truth of a node after which no row is looked at, so that an atom's rows need not be passed over.
+fn eval_alone(rule: &[u8], image: &[u8], tree: &[u32], member: Member, at: usize) -> bool
+    requires { ⌜ at + ROW ≤ length (now tree) ⌝ }
+    ensures { λ r. ⌜ r ≡ truth (now (image .entry)) member (nodeAt (now (rule .entry)) (now (tree .entry)) at) ⌝ }
+{
+    match tree[at] {
+        kind::BINARY_EXPR => eval_node(rule, image, tree, member, at).value,
+        kind::UNARY_EXPR => eval_node(rule, image, tree, member, at).value,
+        kind::PAREN_EXPR => eval_node(rule, image, tree, member, at).value,
+        _ => atom::eval_atom(rule, image, tree, member, at),
+    }
 }
 
 fn eval_node(rule: &[u8], image: &[u8], tree: &[u32], member: Member, at: usize) -> Truth
