@@ -13,23 +13,20 @@ use borrow.Author.Tests.{ltb-true, lt-ltb, ne-eqb}
 use Rattle.syntax.proofs.BoolLaws.{whether}
 use Rattle.syntax.proofs.TableLaws.{sets-append}
 use Rattle.board.specs.Check.{COLLECTION-ROW}
-use Rattle.syntax.specs.Text.{same}
-use Rattle.board.specs.Image.{firstFeature, text, analysis}
+use Rattle.board.specs.Image.{firstFeature}
 use Rattle.instance.specs.Instance.{featuresEnd}
 use Rattle.predicate.specs.declared.atom.Member.{Member}
 use Rattle.predicate.specs.declared.atom.Member.the-variants.{Component, Feature, Diagnostic}
 use Rattle.meaning.specs.Value.{rowOf, rowsOf}
 use Rattle.meaning.specs.Calls.{Method, Where, All, Any, None, Count, Features, Diagnostics, Call, methodNumber, keep, kept, upFrom, trueFor, featuresOf}
-use Rattle.meaning.specs.Pipeline.{isOfAnalysis}
 use Rattle.meaning.specs.Walk.{isQuantifier, isLast, arrivals, lastCall, testIn, howMany}
 use Rattle.meaning.proofs.WalkLaws.{upTo, arrivals-none, arrive-end, arrive-kept, arrive-dropped, arrive-passed, arrive-component, arrive-feature, arrive-diagnostic, arrive-last, last-here, last-later, how-many-append, how-many-most, rows-append, rows-length, up-all, features-made, made-turn, made-over, kept-turn, kept-skip, kept-over}
 use Rattle.predicate.specs.Truth.{truth}
 use Rattle.predicate.specs.Rows.{childrenAt}
 use Rattle.calls.specs.Table.{methodAt}
 use Rattle.eval.specs.declared.walk.Tally.{Tally}
-use Rattle.eval.specs.declared.walk.Analysis.{Analysis}
 use Rattle.eval.specs.Ready.{CALL-ROW, callIn, callsFrom}
-use Rattle.eval.specs.Feed.{State, stateOf, listed, arrive, fed, decided, Fits, Stands, Arrives, Named, AnalysisOf, otherThan}
+use Rattle.eval.specs.Feed.{State, stateOf, listed, arrive, fed, decided, Fits, Stands, Arrives}
 use Rattle.eval.proofs.ReadyLaws.{calls-at, calls-over, method-is, method-past, last-between, quantifier-of, count-no-quantifier}
 
 -- a state by its parts
@@ -342,20 +339,6 @@ keep-one image calls m t = record { arrivals = rw t refl; last = refl }
 
 pub keep-none : (image : List ℕ) (calls : List Call) {b : Bool} (m : Member) → b ≡ false → Lost image calls (keep b m [])
 keep-none image calls m t = record { arrivals = rw t (arrivals-none image calls) }
-
--- the analysis of a diagnostic, by the number of its string
-pub analysis-of : (image name : List ℕ) (diagnostic : ℕ) {string : ℕ} {a : Analysis} → string ≡ analysis image diagnostic → a .string ≡ string → Named image name a
-    → AnalysisOf image name diagnostic a
-unfolding isOfAnalysis
-analysis-of image name diagnostic e h n =
-    record { known = n; asked = n .named-is ∙ ap (λ (s : ℕ). same (text image s) name) (h ∙ e) }
-
--- what is known of the one to keep
-pub other-named : {image name : List ℕ} (found : Analysis) {known other r : Analysis} → Named image name known → Named image name other → r ≡ otherThan found known other
-    → Named image name r
-other-named {image} {name} found {known} {other} n o e =
-    subst (Named image name) (sym e)
-    (whether (eqb (found .string) (known .string)) (λ t. rw t o) (λ t. rw t n))
 
 -- all that are made of the numbers up to a count
 pub all-start : {last : Method} (image : List ℕ) (calls : List Call) (of : List ℕ → List Member) (s : State) (n count : ℕ) → count ≡ n

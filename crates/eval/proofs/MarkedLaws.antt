@@ -9,7 +9,7 @@ use lib.Dec.{eqb, ltb, leb}
 use lib.ListN.{length, getD, take, drop, set, replicate, length-append, length-take, length-drop, length-set, length-replicate, getD-replicate, List·getD-append}
 use lib.Seq.{length-take-le, getD-drop, getD-take, getD-set-same, getD-set-other, getD-append-add}
 use borrow.Author.Tests.{lt-ltb, le-ltb, le-leb, lt-leb, eq-eqb, ne-eqb, ltb-true, ltb-false, not-true, not-false}
-use Rattle.syntax.specs.Kind.{CALL-EXPR, ROOT}
+use Rattle.syntax.specs.Kind.{COMPARE-EXPR, CALL-EXPR, ROOT}
 use Rattle.syntax.specs.Text.{bytesBetween}
 use Rattle.syntax.proofs.BoolLaws.{whether, both}
 use Rattle.trees.specs.Green.{Forest, nil, leaf, node}
@@ -20,14 +20,14 @@ use Rattle.marks.specs.Marks.{markBy, marksOf, featureMarks}
 use Rattle.marks.proofs.MarkLaws.{marks-length, features-length, marks-both}
 use Rattle.predicate.specs.declared.atom.Member.{Member}
 use Rattle.predicate.specs.declared.atom.Member.the-variants.{Component, Feature, Diagnostic}
-use Rattle.predicate.specs.Truth.{literalOf, hasPropertyOf, has, firstOf, sortOf, settle, truths, truth}
+use Rattle.predicate.specs.Truth.{literalOf, fieldOf, hasPropertyOf, has, firstOf, sortOf, settle, truths, truth}
 use Rattle.predicate.specs.Rows.{ROW, Place, below, past, token, child, placeOf, grown, forest, kindAt, levelAt, forestFrom, childrenAt, isRow, isBelow}
 use Rattle.predicate.proofs.RowLaws.{row-there, row-missing, drop-row, few, below-row}
 use Rattle.predicate.proofs.ForestLaws.{place-past}
 use Rattle.profile.specs.declared.Profile.the-variants.{Number}
-use Rattle.profile.specs.Profile.{OF-FEATURES, profileOf, asksMore}
-use Rattle.profile.proofs.ProfileLaws.{Alike, components, features, diagnostics, same-profile, settle-alike}
-use Rattle.eval.specs.Marked.{HASES, BLOCK, NO-BITS, MARKS, PLACES, MEMO, OF-COMPONENT, OF-FEATURE, valueOf, valueIn, markIn, markFor, hasMarks, Marks, bitAt, bitsAt, bitsBy, bitsOf, wiringIn, Told, plain, marked, RowsTold, RowTold, TellsBelow, FoundRow, Made, MakesRow}
+use Rattle.profile.specs.Profile.{WIRING-OF-FEATURES, holds, profileOf, asksMore, asksField}
+use Rattle.profile.proofs.ProfileLaws.{Alike, components, features, diagnostics, compare-asks, same-profile, settle-alike}
+use Rattle.eval.specs.Marked.{HASES, BLOCK, NO-BITS, MARKS, PLACES, MEMO, OF-COMPONENT, OF-FEATURE, valueOf, valueIn, markIn, markFor, hasMarks, Marks, bitAt, bitsAt, bitsBy, bitsOf, heldIn, Told, plain, marked, RowsTold, RowTold, TellsBelow, FoundRow, Made, MakesRow}
 
 -- all nodes of a forest ask for no more of a member than its profile and its bits
 unfoldable pub NodesTold : (rule tree memo : List ℕ) → Member → Forest → Type 0
@@ -169,7 +169,7 @@ module _ {rule image tree memo : List ℕ} (w : Marks rule image tree memo) wher
         ∙ q (in-block image memo most d k))
 
   -- members of one sort with the same bits have the same marked `has`
-  module _ {m n : Member} (a : Alike image (wiringIn memo) m n) (e : bitsOf image memo m ≡ bitsOf image memo n) (l : bitsOf image memo m < NO-BITS) where
+  module _ {m n : Member} (a : Alike image (heldIn memo) m n) (e : bitsOf image memo m ≡ bitsOf image memo n) (l : bitsOf image memo m < NO-BITS) where
     has-same : (j : ℕ) → PLACES + j < length memo → has image m (valueIn rule tree memo j) ≡ has image n (valueIn rule tree memo j)
     unfolding bitsBy has
     has-same j h = go a (bits-there image memo m there ∙ e ∙ sym (bits-there image memo n there)) (omega (arith, l, bits-there image memo m there))
@@ -177,7 +177,7 @@ module _ {rule image tree memo : List ℕ} (w : Marks rule image tree memo) wher
         there : PLACES < length memo
         there = omega arith
 
-        go : {m n : Member} → Alike image (wiringIn memo) m n → bitsBy image memo m ≡ bitsBy image memo n → bitsBy image memo m < NO-BITS
+        go : {m n : Member} → Alike image (heldIn memo) m n → bitsBy image memo m ≡ bitsBy image memo n → bitsBy image memo m < NO-BITS
             → has image m (valueIn rule tree memo j) ≡ has image n (valueIn rule tree memo j)
         go (components {c} {d} p o) e l =
             same-here j h OF-COMPONENT c d (has image (Component c) (valueIn rule tree memo j)) (has image (Component d) (valueIn rule tree memo j))
@@ -187,10 +187,10 @@ module _ {rule image tree memo : List ℕ} (w : Marks rule image tree memo) wher
             (bit-feature j h c f) (bit-feature j h d g) e l
         go (diagnostics p) e l = refl
 
-    module _ (s : OF-FEATURES ≤ wiringIn memo → ownersWired image ≡ true) where
+    module _ (s : holds (heldIn memo) WIRING-OF-FEATURES ≡ true → ownersWired image ≡ true) where
       settle-told : (k : ℕ) (f : Forest) (ts : List Bool) → Told rule tree memo m k f → settle image m (sortOf k) f ts ≡ settle image n (sortOf k) f ts
       unfolding settle sortOf
-      settle-told k f ts (plain h) = settle-alike s a k f ts h
+      settle-told k f ts (plain h q) = settle-alike s a k f ts q h
       settle-told k f ts (marked j h c v) =
           ap (λ (k : ℕ). settle image m (sortOf k) f ts) c ∙ ap (has image m) v ∙ has-same j h ∙ sym (ap (λ (k : ℕ). settle image n (sortOf k) f ts) c ∙ ap (has image n) v)
 
@@ -205,11 +205,11 @@ module _ {rule image tree memo : List ℕ} (w : Marks rule image tree memo) wher
           λ j. first j ∷ later j
 
 -- two members with the same profile and the same bits have the same truth of a predicate that asks for no more
-pub alike-has : {rule image tree memo : List ℕ} → Marks rule image tree memo → (OF-FEATURES ≤ wiringIn memo → ownersWired image ≡ true) → (m n : Member) (k : ℕ) (f : Forest)
-    → profileOf image (wiringIn memo) m ≡ Number k → profileOf image (wiringIn memo) n ≡ Number k → bitsOf image memo m ≡ bitsOf image memo n → bitsOf image memo m < NO-BITS → NodesTold rule tree memo m f
+pub alike-has : {rule image tree memo : List ℕ} → Marks rule image tree memo → (holds (heldIn memo) WIRING-OF-FEATURES ≡ true → ownersWired image ≡ true) → (m n : Member) (k : ℕ) (f : Forest)
+    → profileOf image (heldIn memo) m ≡ Number k → profileOf image (heldIn memo) n ≡ Number k → bitsOf image memo m ≡ bitsOf image memo n → bitsOf image memo m < NO-BITS → NodesTold rule tree memo m f
     → truth image m f ≡ truth image n f
 unfolding truth
-alike-has {image = image} {memo = memo} w s m n k f p q e l t = ap firstOf (truths-told w (same-profile image (wiringIn memo) m n k p q) e l s f t)
+alike-has {image = image} {memo = memo} w s m n k f p q e l t = ap firstOf (truths-told w (same-profile image (heldIn memo) m n k p q) e l s f t)
 
 -- ---- rows that ask for no more
 
@@ -265,18 +265,28 @@ module _ (rule tree memo : List ℕ) (m : Member) where
 
 -- ---- a row that asks for no more
 
-module _ {tree : List ℕ} {row : ℕ} {m : Member} {memo : List ℕ} where
-  pub row-plain : {a : Bool} → a ≡ asksMore m (wiringIn memo) (kindAt tree row) → not a ≡ true → RowTold tree row m memo true
-  row-plain {a} e h = record { told = λ rule _. plain (sym e ∙ not-true a h) }
+module _ {rule tree : List ℕ} {row : ℕ} {m : Member} {memo : List ℕ} where
+  -- one that compares a field, by that
+  pub row-compared : {a : Bool} {field : List ℕ} → kindAt tree row ≡ COMPARE-EXPR → field ≡ fieldOf (childrenAt rule tree row) → a ≡ asksField m (heldIn memo) field
+      → RowTold rule tree row m memo (not a)
+  row-compared {a} k f e =
+      record {
+        told = λ t.
+            plain (ap (asksMore m (heldIn memo)) k ∙ compare-asks m (heldIn memo))
+            (λ _. sym (e ∙ ap (asksField m (heldIn memo)) f) ∙ not-true a t);
+      }
 
-  pub row-untold : RowTold tree row m memo false
-  row-untold = record { told = λ rule e. absurd (false≢true e) }
+  pub row-plain : {a : Bool} → (kindAt tree row ≡ COMPARE-EXPR → ⊥) → a ≡ asksMore m (heldIn memo) (kindAt tree row) → not a ≡ true → RowTold rule tree row m memo true
+  row-plain {a} n e h = record { told = λ _. plain (sym e ∙ not-true a h) (λ k. absurd (n k)) }
 
-  pub row-marked : {at : ℕ} → kindAt tree row ≡ CALL-EXPR → FoundRow memo row at → RowTold tree row m memo (ltb at (length memo))
+  pub row-untold : RowTold rule tree row m memo false
+  row-untold = record { told = λ e. absurd (false≢true e) }
+
+  pub row-marked : {at : ℕ} → kindAt tree row ≡ CALL-EXPR → FoundRow memo row at → RowTold rule tree row m memo (ltb at (length memo))
   unfolding valueOf
   row-marked {at} k f =
       record {
-        told = λ rule e.
+        told = λ e.
             let h = ltb-true at (length memo) e in
             let q : PLACES + (at - PLACES) ≡ at = omega (arith, f .past) in
             marked (at - PLACES) (omega arith) k
@@ -285,11 +295,11 @@ module _ {tree : List ℕ} {row : ℕ} {m : Member} {memo : List ℕ} where
 
 -- ---- how far rows were looked at
 
-pub record Telling (tree : List ℕ) (at : ℕ) (m : Member) (memo : List ℕ) (level row : ℕ) : Type 0 where
-  pub rest : (rule : List ℕ) → RowsTold rule tree memo m level (drop row tree) → RowsTold rule tree memo m (levelAt tree at) (drop (at + ROW) tree)
+pub record Telling (rule tree : List ℕ) (at : ℕ) (m : Member) (memo : List ℕ) (level row : ℕ) : Type 0 where
+  pub rest : RowsTold rule tree memo m level (drop row tree) → RowsTold rule tree memo m (levelAt tree at) (drop (at + ROW) tree)
 
-pub tells-more : {tree : List ℕ} {at : ℕ} {m : Member} {memo : List ℕ} → TellsBelow tree at m memo true
-tells-more = record { told = λ rule e. absurd (true≢false e) }
+pub tells-more : {rule tree : List ℕ} {at : ℕ} {m : Member} {memo : List ℕ} → TellsBelow rule tree at m memo true
+tells-more = record { told = λ e. absurd (true≢false e) }
 
 -- no row is left
 short-told : (rule tree memo : List ℕ) (m : Member) (level : ℕ) (rows : List ℕ) → length rows < ROW → RowsTold rule tree memo m level rows
@@ -310,19 +320,19 @@ over-told rule tree memo m level row h = go (isRow tree row) refl
         let stops : ltb level (levelAt tree row) ≡ false = sym (ap (λ (t : Bool). t && ltb level (levelAt tree row)) e) ∙ h in
         subst (RowsTold rule tree memo m level) (sym (drop-row tree row (row-there tree row e))) (λ q. absurd (false≢true (sym stops ∙ q)))
 
-module _ {tree : List ℕ} {at : ℕ} {m : Member} {memo : List ℕ} {level row : ℕ} (p : Telling tree at m memo level row) where
-  pub telling-on : {r : Bool} → isBelow tree level row ≡ true → RowTold tree row m memo r → not r ≡ false → Telling tree at m memo level (row + ROW)
+module _ {rule tree : List ℕ} {at : ℕ} {m : Member} {memo : List ℕ} {level row : ℕ} (p : Telling rule tree at m memo level row) where
+  pub telling-on : {r : Bool} → isBelow tree level row ≡ true → RowTold rule tree row m memo r → not r ≡ false → Telling rule tree at m memo level (row + ROW)
   unfolding RowsTold forestFrom
   telling-on {r} h t n =
       record {
-        rest = λ rule u.
-            p .rest rule
+        rest = λ u.
+            p .rest
             (subst (RowsTold rule tree memo m level) (sym (drop-row tree row (row-there tree row (below-row tree level row h .0))))
-            (λ q. (t .told rule (not-false r n), u)));
+            (λ q. (t .told (not-false r n), u)));
       }
 
-  pub telling-end : isBelow tree level row ≡ false → TellsBelow tree at m memo false
-  telling-end h = record { told = λ rule _. p .rest rule (over-told rule tree memo m level row h) }
+  pub telling-end : isBelow tree level row ≡ false → TellsBelow rule tree at m memo false
+  telling-end h = record { told = λ _. p .rest (over-told rule tree memo m level row h) }
 
 -- ---- blocks made one after the other
 

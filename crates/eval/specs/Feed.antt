@@ -17,12 +17,10 @@ use Rattle.predicate.specs.Truth.{truth}
 use Rattle.predicate.specs.Rows.{childrenAt}
 use Rattle.meaning.specs.Value.{rowsOf, withMembers}
 use Rattle.meaning.specs.Calls.{Method, Where, All, Any, None, Count, Features, Diagnostics, Call, methodNumber}
-use Rattle.meaning.specs.Pipeline.{isOfAnalysis}
 use Rattle.meaning.specs.Walk.{isQuantifier, arrivals, lastCall, testIn, howMany}
 use Rattle.calls.specs.Table.{methodAt}
 use Rattle.eval.specs.Ready.{CALL-ROW}
 use Rattle.eval.specs.declared.walk.Tally.{Tally}
-use Rattle.eval.specs.declared.walk.Analysis.{Analysis}
 
 -- how far members were sent: how many arrived, how many of those passed, and the collection table
 pub record State : Type 0 where
@@ -95,18 +93,14 @@ pub record IsFeatures (rows : List ℕ) (i : ℕ) (r : Bool) : Type 0 where
   pub there : r ≡ true → CALL-ROW * i + CALL-ROW ≤ length rows
   pub method : r ≡ true → getD rows (CALL-ROW * i) 0 ≡ methodNumber Features
 
--- what is known of an analysis: whether its text is a name
-pub record Named (image name : List ℕ) (a : Analysis) : Type 0 where
-  pub named-is : a .named ≡ same (text image (a .string)) name
+-- how many analyses are known
+abbrev pub KNOWN : ℕ
+KNOWN = 8
 
--- and that it is the analysis of a diagnostic
-pub record AnalysisOf (image name : List ℕ) (diagnostic : ℕ) (a : Analysis) : Type 0 where
-  pub known : Named image name a
-  pub asked : a .named ≡ isOfAnalysis image name (Diagnostic diagnostic)
-
--- of two that were known, the one to keep beside that which was found last
-abbrev pub otherThan : Analysis → Analysis → Analysis → Analysis
-otherThan found known other = cond (eqb (found .string) (known .string)) other known
+-- what a table says of analyses is so: twice the number of a string and 2, that its text is not a name; 1 more, that it is
+pub record Known (image name table : List ℕ) : Type 0 where
+  pub other : (i string : ℕ) → getD table i 0 ≡ 2 * string + 2 → same (text image string) name ≡ false
+  pub named : (i string : ℕ) → getD table i 0 ≡ 2 * string + 2 + 1 → same (text image string) name ≡ true
 
 -- all members of a source were sent, from a table that held `table`
 unfoldable pub walked : (image : List ℕ) → List Call → List Member → List ℕ → State

@@ -6,16 +6,16 @@ use mathlib.Core.List.{List, [], _∷_}
 use mathlib.Core.Path.{_≡_}
 use lib.Dec.{eqb, ltb, leb}
 use lib.ListN.{length, getD, drop}
-use Rattle.syntax.specs.Kind.{CALL-EXPR}
+use Rattle.syntax.specs.Kind.{CALL-EXPR, COMPARE-EXPR}
 use Rattle.trees.specs.Green.{Forest}
 use Rattle.board.specs.Image.{componentCount}
 use Rattle.instance.specs.Instance.{hasFeature}
 use Rattle.marks.specs.Marks.{markBy}
 use Rattle.predicate.specs.declared.atom.Member.{Member}
 use Rattle.predicate.specs.declared.atom.Member.the-variants.{Component, Feature, Diagnostic}
-use Rattle.predicate.specs.Truth.{literalOf, hasPropertyOf}
+use Rattle.predicate.specs.Truth.{literalOf, fieldOf, hasPropertyOf}
 use Rattle.predicate.specs.Rows.{ROW, forest, kindAt, levelAt, childrenAt}
-use Rattle.profile.specs.Profile.{asksMore}
+use Rattle.profile.specs.Profile.{asksMore, asksField}
 
 -- how many CALL_EXPR rows have marks at most
 abbrev pub HASES : ℕ
@@ -97,14 +97,14 @@ unfoldable pub bitsOf : List ℕ → List ℕ → Member → ℕ
 unfolding bitsBy
 bitsOf image memo m = cond (ltb PLACES (length memo)) (bitsBy image memo m) 0
 
--- what a memo says that profiles tell of the wiring
-abbrev pub wiringIn : List ℕ → ℕ
-wiringIn memo = getD memo 0 0
+-- what a memo says that profiles hold
+abbrev pub heldIn : List ℕ → ℕ
+heldIn memo = getD memo 0 0
 
 -- a node of a kind with these children asks for no more of a member than its profile and its bits: it asks for no more than the profile,
--- or it is the `has` in one of the rows
+-- nor does the field that it compares, or it is the `has` in one of the rows
 pub data Told (rule tree memo : List ℕ) (m : Member) (k : ℕ) (s : Forest) : Type 0 where
-  plain : asksMore m (wiringIn memo) k ≡ false → Told rule tree memo m k s
+  plain : asksMore m (heldIn memo) k ≡ false → (k ≡ COMPARE-EXPR → asksField m (heldIn memo) (fieldOf s) ≡ false) → Told rule tree memo m k s
   marked : (j : ℕ) → PLACES + j < length memo → k ≡ CALL-EXPR → literalOf s ≡ valueIn rule tree memo j → Told rule tree memo m k s
 
 -- all rows do, before the first that is not below a level
@@ -118,12 +118,12 @@ RowsTold rule tree memo m level (k ∷ l ∷ first ∷ end ∷ rows) =
     ltb level l ≡ true → Told rule tree memo m k (forest rule (l + 1) rows) × RowsTold rule tree memo m level rows
 
 -- the row at a place was found to ask for no more
-pub record RowTold (tree : List ℕ) (row : ℕ) (m : Member) (memo : List ℕ) (r : Bool) : Type 0 where
-  pub told : (rule : List ℕ) → r ≡ true → Told rule tree memo m (kindAt tree row) (childrenAt rule tree row)
+pub record RowTold (rule tree : List ℕ) (row : ℕ) (m : Member) (memo : List ℕ) (r : Bool) : Type 0 where
+  pub told : r ≡ true → Told rule tree memo m (kindAt tree row) (childrenAt rule tree row)
 
 -- no row inside the one at a place was found to ask for more
-pub record TellsBelow (tree : List ℕ) (at : ℕ) (m : Member) (memo : List ℕ) (r : Bool) : Type 0 where
-  pub told : (rule : List ℕ) → r ≡ false → RowsTold rule tree memo m (levelAt tree at) (drop (at + ROW) tree)
+pub record TellsBelow (rule tree : List ℕ) (at : ℕ) (m : Member) (memo : List ℕ) (r : Bool) : Type 0 where
+  pub told : r ≡ false → RowsTold rule tree memo m (levelAt tree at) (drop (at + ROW) tree)
 
 -- where a memo has the number of the row at a place; past the memo where it has not
 pub record FoundRow (memo : List ℕ) (row at : ℕ) : Type 0 where

@@ -12,9 +12,9 @@ use Rattle.predicate.specs.Truth.{truth}
 use Rattle.predicate.specs.Rows.{childrenAt}
 use Rattle.profile.specs.declared.Profile.{Profile}
 use Rattle.profile.specs.declared.Profile.the-variants.{Number, Unknown}
-use Rattle.profile.specs.Profile.{PROFILES, OF-FEATURES, profileOf}
+use Rattle.profile.specs.Profile.{PROFILES, WIRING-OF-FEATURES, holds, profileOf}
 use Rattle.eval.specs.Ready.{CALL-ROW}
-use Rattle.eval.specs.Marked.{NO-BITS, bitsOf, wiringIn, Marks, TellsBelow}
+use Rattle.eval.specs.Marked.{NO-BITS, bitsOf, heldIn, Marks, TellsBelow}
 
 -- the calls whose predicates are noted
 abbrev pub NOTED-CALLS : ℕ
@@ -61,18 +61,24 @@ unfoldable pub placeBy : Profile → ℕ → ℕ
 placeBy (Number k) bits = cond (ltb bits NO-BITS) (1 + WAY-NOTES * bits + k) NO-PLACE
 placeBy Unknown bits = NO-PLACE
 
+-- and where there are no marks
+unfoldable pub plainPlace : Profile → ℕ
+plainPlace (Number k) = 1 + k
+plainPlace Unknown = NO-PLACE
+
 abbrev pub placeOf : List ℕ → List ℕ → Member → ℕ
-placeOf image memo m = placeBy (profileOf image (wiringIn memo) m) (bitsOf image memo m)
+placeOf image memo m = placeBy (profileOf image (heldIn memo) m) (bitsOf image memo m)
 
 -- what is noted of the predicate of call i at a place
 unfoldable pub noteIn : List ℕ → ℕ → ℕ → ℕ
 noteIn memo i place = cond (ltb i NOTED-CALLS) (getD memo (place + PROFILES * i) NOT-KNOWN) NOT-KNOWN
 
--- what a memo says is so: its marks, that the owner of every connection is wired where profiles tell the wiring of features, and each truth that is noted at a member's place
+-- what a memo says is so: its marks, that the owner of every connection is wired where the wiring of features is held, and each truth that is
+-- noted at a member's place
 pub record Notes (rule image tree calls memo : List ℕ) : Type 0 where
-  pub room : PLAIN ≤ length memo
+  pub room : 0 < length memo
   pub marks : Marks rule image tree memo
-  pub wired : OF-FEATURES ≤ wiringIn memo → ownersWired image ≡ true
+  pub wired : holds (heldIn memo) WIRING-OF-FEATURES ≡ true → ownersWired image ≡ true
   pub noted : (i : ℕ) (m : Member) (value : Bool) → noteIn memo i (placeOf image memo m) ≡ known value → truth image m (childrenAt rule tree (argsOf calls i)) ≡ value
 
 -- the place of a member, which is all that is needed to read what is noted of it
@@ -86,10 +92,11 @@ pub record Placed (image memo : List ℕ) (m : Member) (place : ℕ) : Type 0 wh
 pub record Asked (rule image tree calls : List ℕ) (i : ℕ) (m : Member) (before after : List ℕ) (r : Bool) : Type 0 where
   pub value : r ≡ truth image m (childrenAt rule tree (argsOf calls i))
   pub notes : Notes rule image tree calls after
+  pub held : heldIn after ≡ heldIn before
   pub long : length after ≡ length before
 
 -- an answer was noted at a place, if the memo has it
-pub data Noted (tree : List ℕ) (args : ℕ) (m : Member) (i place : ℕ) (value : Bool) (before after : List ℕ) : Type 0 where
-  kept : after ≡ before → Noted tree args m i place value before after
-  made : (more : Bool) → i < NOTED-CALLS → place + PROFILES * i < length before → TellsBelow tree args m before more
-      → after ≡ set before (place + PROFILES * i) (byteOf more value) → Noted tree args m i place value before after
+pub data Noted (rule tree : List ℕ) (args : ℕ) (m : Member) (i place : ℕ) (value : Bool) (before after : List ℕ) : Type 0 where
+  kept : after ≡ before → Noted rule tree args m i place value before after
+  made : (more : Bool) → i < NOTED-CALLS → place + PROFILES * i < length before → TellsBelow rule tree args m before more
+      → after ≡ set before (place + PROFILES * i) (byteOf more value) → Noted rule tree args m i place value before after

@@ -1,10 +1,12 @@
 // eval.rs and the frame around it: a rule run on a board image. Refusals 1 to 8 come first and alter no table; then the rule is read; then
 // refusals 9 to 16 are settled, and only then the collection table is written.
+pub mod held;
 pub mod listed;
 pub mod marked;
 pub mod memo;
 pub mod pipeline;
 pub mod ready;
+pub mod source;
 pub mod step;
 pub mod walk;
 

@@ -92,9 +92,9 @@ fn bit(memo: &[u8], most: u8, place: usize, j: usize) -> usize
 }
 
 // Whether a node inside the one whose row is at a place, at any depth, asks for more of a member than its profile and its bits.
-pub(crate) fn asks_below(tree: &[u32], at: usize, member: Member, memo: &[u8]) -> bool
+pub(crate) fn asks_below(rule: &[u8], tree: &[u32], at: usize, member: Member, memo: &[u8]) -> bool
     requires { ⌜ 0 < length (now memo) ⌝ }
-    ensures { λ r. ⌜ TellsBelow (now (tree .entry)) at member (now (memo .entry)) r ⌝ }
+    ensures { λ r. ⌜ TellsBelow (now (rule .entry)) (now (tree .entry)) at member (now (memo .entry)) r ⌝ }
 {
     if tree.len() < rows::ROW {
         return true;
@@ -105,7 +105,7 @@ pub(crate) fn asks_below(tree: &[u32], at: usize, member: Member, memo: &[u8]) -
     let level = tree[at + 1] as usize;
     let mut row = at + rows::ROW;
     while rows::is_below(tree, level, row) {
-        if !is_told(tree, row, member, memo) {
+        if !is_told(rule, tree, row, member, memo) {
             return true;
         }
         row += rows::ROW;
@@ -114,10 +114,13 @@ pub(crate) fn asks_below(tree: &[u32], at: usize, member: Member, memo: &[u8]) -
 }
 
 // Whether the node whose row is at a place asks for no more of a member than its profile and its bits.
-fn is_told(tree: &[u32], row: usize, member: Member, memo: &[u8]) -> bool
+fn is_told(rule: &[u8], tree: &[u32], row: usize, member: Member, memo: &[u8]) -> bool
     requires { ⌜ (row + ROW ≤ length (now tree)) × (0 < length (now memo)) ⌝ }
-    ensures { λ r. ⌜ RowTold (now (tree .entry)) row member (now (memo .entry)) r ⌝ }
+    ensures { λ r. ⌜ RowTold (now (rule .entry)) (now (tree .entry)) row member (now (memo .entry)) r ⌝ }
 {
+    if tree[row] == kind::COMPARE_EXPR {
+        return !profile::asks_field(member, memo[0], node::ident(rule, tree, row));
+    }
     if !profile::asks_more(member, memo[0], tree[row]) {
         return true;
     }

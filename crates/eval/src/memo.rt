@@ -7,12 +7,12 @@ use predicate::atom::Member;
 use profile;
 use profile::Profile;
 ghost use mathlib.Core.Path.{_≡_};
-ghost use Prim.Native.Nat.{_+_, _*_, _≤_};
+ghost use Prim.Native.Nat.{ℕ, _+_, _*_, _≤_, _<_};
 ghost use lib.ListN.{length};
-ghost use Rattle.profile.specs.Profile.{profileOf};
+ghost use Rattle.profile.specs.Profile.{PROFILES, profileOf};
 ghost use Rattle.eval.specs.Ready.{CALL-ROW};
-ghost use Rattle.eval.specs.Marked.{wiringIn};
-ghost use Rattle.eval.specs.Memo.{NO-PLACE, byteOf, noteIn, Notes, Placed, Asked, Noted};
+ghost use Rattle.eval.specs.Marked.{heldIn};
+ghost use Rattle.eval.specs.Memo.{NO-PLACE, plainPlace, byteOf, noteIn, Notes, Placed, Asked, Noted};
 
 // The calls whose predicates are noted. That of a later call is asked of each member.
 pub(crate) const NOTED_CALLS: usize = 4;
@@ -20,7 +20,7 @@ pub(crate) const NOTED_CALLS: usize = 4;
 // The bytes of the notes for each of the bits.
 pub(crate) const WAY_NOTES: usize = profile::PROFILES * NOTED_CALLS;
 
-// Those of a memo without marks, whose first byte says what profiles tell of the wiring.
+// Those of a memo without marks, whose first byte says what profiles hold.
 pub(crate) const PLAIN: usize = 1 + WAY_NOTES;
 
 // What a note says: nothing is known yet, the predicate is false, it is true, or its answer is not to be noted.
@@ -35,23 +35,21 @@ const NOT_TO_KNOW: u8 = 3;
 // No place of a note.
 const NO_PLACE: usize = 0x100000;
 
-// Where the notes of a member with this profile begin.
-pub(crate) fn place_of(image: &[u8], member: Member, profile: Profile, memo: &[u8]) -> usize
-    requires { ⌜ profileOf (now image) (wiringIn (now memo)) member ≡ profile ⌝ }
-    ensures { λ r. ⌜ Placed (now (image .entry)) (now (memo .entry)) member r ⌝ }
+// Where the notes of a member with this profile begin, in a memo without marks. Whoever sends members looks for marks first: this is the way
+// of most, and nothing is handed over on it.
+pub(crate) fn plain_place(profile: Profile) -> usize
+    requires { ⌜ ((k : ℕ) → profile ≡ Profile.Number k → k < PROFILES) ⌝ }
+    ensures { λ r. ⌜ r ≡ plainPlace profile ⌝ }
 {
-    if marked::PLACES < memo.len() {
-        return marked_place(image, member, profile, memo);
-    }
     match profile {
         Profile::Number(k) => 1 + k,
         Profile::Unknown => NO_PLACE,
     }
 }
 
-// The same, by the marks too.
-fn marked_place(image: &[u8], member: Member, profile: Profile, memo: &[u8]) -> usize
-    requires { ⌜ profileOf (now image) (wiringIn (now memo)) member ≡ profile ⌝ }
+// The same in any memo, by the marks too.
+pub(crate) fn marked_place(image: &[u8], member: Member, profile: Profile, memo: &[u8]) -> usize
+    requires { ⌜ profileOf (now image) (heldIn (now memo)) member ≡ profile ⌝ }
     ensures { λ r. ⌜ Placed (now (image .entry)) (now (memo .entry)) member r ⌝ }
 {
     let Profile::Number(k) = profile else {
@@ -79,7 +77,7 @@ pub(crate) fn noted(memo: &[u8], i: usize, place: usize) -> u8
     memo[at]
 }
 
-// Whether the predicate of call i is true of a member: as noted, or by asking it.
+// Whether the predicate of call i is true of a member: as noted, or by asking it. Nothing is noted in a memo that has no room.
 pub(crate) fn ask(
     rule: &[u8],
     image: &[u8],
@@ -93,6 +91,9 @@ pub(crate) fn ask(
     ensures { λ r. ⌜ Asked (now (rule .entry)) (now (image .entry)) (now (tree .entry)) (now (calls .entry)) i member (now (memo .entry)) (now (memo .exit)) r ⌝ }
 {
     let args = calls[ready::CALL_ROW * i + 1] as usize;
+    if memo.len() < PLAIN {
+        return predicate::eval_args(rule, image, tree, member, args);
+    }
     let profile = profile::profile_of(image, memo[0], member);
     let place = marked_place(image, member, profile, memo);
     let known = noted(memo, i, place);
@@ -104,13 +105,14 @@ pub(crate) fn ask(
     }
     let value = predicate::eval_args(rule, image, tree, member, args);
     if known == NOT_KNOWN {
-        note(tree, args, member, i, place, value, memo);
+        note(rule, tree, args, member, i, place, value, memo);
     }
     value
 }
 
 // Notes the answer of the predicate of call i, if it is that of every member with the same profile and bits.
 fn note(
+    rule: &[u8],
     tree: &[u32],
     args: usize,
     member: Member,
@@ -120,7 +122,7 @@ fn note(
     memo: &mut [u8],
 )
     requires { ⌜ place ≤ NO-PLACE ⌝ }
-    ensures { λ _. ⌜ Noted (now (tree .entry)) args member i place value (now (memo .entry)) (now (memo .exit)) ⌝ }
+    ensures { λ _. ⌜ Noted (now (rule .entry)) (now (tree .entry)) args member i place value (now (memo .entry)) (now (memo .exit)) ⌝ }
 {
     if NOTED_CALLS <= i {
         return;
@@ -129,7 +131,7 @@ fn note(
     if memo.len() <= at {
         return;
     }
-    let more = marked::asks_below(tree, args, member, memo);
+    let more = marked::asks_below(rule, tree, args, member, memo);
     memo[at] = byte_of(more, value);
 }
 

@@ -26,13 +26,13 @@ diagnostic-profile-requires : tie.Need-diagnostic-profile-requires
 diagnostic-profile-requires c κs = search needs
 
 returns : tie.Need-returns
-returns c = c .component-profile .ensures ∙ sym (ap (profileOf (now (c .before .before .before .before .before .args .image)) (c .before .before .before .before .before .args .wiring)) (c .before .before .member .given .1))
+returns c = c .component-profile .ensures ∙ sym (ap (profileOf (now (c .before .before .before .before .before .args .image)) (c .before .before .before .before .before .args .held)) (c .before .before .member .given .1))
 
 returns-2 : tie.Need-returns-2
-returns-2 c = c .feature-profile .ensures ∙ sym (ap (profileOf (now (c .before .before .before .before .before .args .image)) (c .before .before .before .before .before .args .wiring)) (c .before .before .member2 .given .1))
+returns-2 c = c .feature-profile .ensures ∙ sym (ap (profileOf (now (c .before .before .before .before .before .args .image)) (c .before .before .before .before .before .args .held)) (c .before .before .member2 .given .1))
 
 returns-3 : tie.Need-returns-3
-returns-3 c = diagnostic-profile _ _ _ (c .diagnostic-profile .ensures) ∙ sym (ap (profileOf (now (c .before .before .before .before .before .args .image)) (c .before .before .before .before .before .args .wiring)) (c .before .before .member3 .given .1))
+returns-3 c = diagnostic-profile _ _ _ (c .diagnostic-profile .ensures) ∙ sym (ap (profileOf (now (c .before .before .before .before .before .args .image)) (c .before .before .before .before .before .args .held)) (c .before .before .member3 .given .1))
 
 pub profile-of-spec : {M : Type 1} → statement M
 profile-of-spec =

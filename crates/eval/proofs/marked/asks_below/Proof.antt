@@ -10,10 +10,10 @@ use Rattle.eval.proofs.marked.asks_below.Statement.{statement}
 use Rattle.eval.proofs.marked.asks_below.Tie as tie
 
 abbrev Inv-loop : tie.InvT-loop
-Inv-loop tree at member memo level row₀ row = Telling tree at member memo level row
+Inv-loop rule tree at member memo level row₀ row = Telling rule tree at member memo level row
 
 abbrev μ-loop : tie.MeasureT-loop
-μ-loop tree at member memo level row₀ row = length tree - row
+μ-loop rule tree at member memo level row₀ row = length tree - row
 
 returns : tie.Need-returns Inv-loop μ-loop
 returns c = tells-more
@@ -34,19 +34,19 @@ shared-slice-read-level : tie.Need-shared-slice-read-level Inv-loop μ-loop
 shared-slice-read-level c = search needs
 
 cast-level : tie.Need-cast-level Inv-loop μ-loop
-cast-level c = omega (arith, c .shared-slice-known3 .given (c .before .before .before .before .before .args .at + 1))
+cast-level c = omega (arith, c .shared-slice-known4 .given (c .before .before .before .before .before .before .args .at + 1))
 
 add-row : tie.Need-add-row Inv-loop μ-loop
 add-row c = search needs
 
 loop-holds : tie.Need-loop-holds Inv-loop μ-loop
-loop-holds c = record { rest = λ rule t. t }
+loop-holds c = record { rest = λ t. t }
 
 is-below-requires : tie.Need-is-below-requires Inv-loop μ-loop
 is-below-requires c κs = tt
 
 is-told-requires : tie.Need-is-told-requires Inv-loop μ-loop
-is-told-requires c κs = (row-there _ _ (below-row _ _ _ (sym (c .before .is-below .ensures) ∙ c .if3 .taken) .0), c .before .before .before .before .before .before .before .before .pre)
+is-told-requires c κs = (row-there _ _ (below-row _ _ _ (sym (c .before .is-below .ensures) ∙ c .if3 .taken) .0), c .before .before .before .before .before .before .before .before .before .pre)
 
 returns-3 : tie.Need-returns-3 Inv-loop μ-loop
 returns-3 c = tells-more

@@ -35,7 +35,7 @@ same-length : tie.Need-same-length
 same-length c = search needs
 
 returns-3 : tie.Need-returns-3
-returns-3 c = made (c .before .asks-below .result) (c .before .before .before .before .if1 .left) (c .before .before .before .if2 .left) (c .before .asks-below .ensures) (ap (set (now (c .before .before .before .before .before .before .before .args .memo)) (c .before .before .before .before .before .before .before .args .place + PROFILES * c .before .before .before .before .before .before .before .args .i)) (c .byte-of .ensures))
+returns-3 c = made (c .before .asks-below .result) (c .before .before .before .before .if1 .left) (c .before .before .before .if2 .left) (c .before .asks-below .ensures) (ap (set (now (c .before .before .before .before .before .before .before .before .args .memo)) (c .before .before .before .before .before .before .before .before .args .place + PROFILES * c .before .before .before .before .before .before .before .before .args .i)) (c .byte-of .ensures))
 
 pub note-spec : {M : Type 1} → statement M
 note-spec =
