@@ -480,7 +480,8 @@ fn and_rest(
     d
 }
 
-// Whether `op` stands ahead outside brackets, before the bracket that closes this place and after something that is no blank. From the token at `end` on there is none.
+// Whether `op` stands ahead outside brackets, before the bracket that closes this place and after something that is no blank. From the token
+// at `end` on there is none.
 fn has_binary_op_at_level(rule: &[u8], tokens: &[u32], op: u32, c: Cursor, end: usize) -> bool
     requires { ⌜ Ready (lex (now rule)) (now tokens) c ⌝ }
     requires { ⌜ NoneFrom op (lex (now rule)) end ⌝ }
