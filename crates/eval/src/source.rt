@@ -30,7 +30,8 @@ ghost use Rattle.eval.specs.Feed.{stateOf, begin, fed, Fits, Stands, KNO
 // for, and 1 more if it is.
 const KNOWN: usize = 8;
 
-// On a board with fewer components nothing is noted of them; on one with fewer than this nothing where a `has` is asked, which needs marks.
+// On a board with fewer components nothing is noted of them where their category is compared; on one with fewer than the second nothing
+// where a `has` is asked, which needs marks.
 const NOTED_BOARD: u32 = 14;
 
 const MARKED_BOARD: u32 = 32;
@@ -90,9 +91,8 @@ fn feed_noted(
     ensures { λ r. ⌜ Stands (methodAt last) (stateOf r (now (collection .exit))) (fed (now (image .entry)) (callsFrom (now (rule .entry)) (now (tree .entry)) (now (calls .entry)) 0) (map Member.Component (upFrom 0 (componentCount (now (image .entry))))) (begin (now (collection .entry)))) ⌝ }
 {
     let asks_has = marked::next_row(tree, kind::CALL_EXPR, 0) < marked::ROWS;
-    if has_few(image, calls, asks_has) {
-        let mut none = [0u8; 1];
-        return feed_each_component(rule, image, tree, calls, last, collection, &mut none);
+    if has_few(image, tree, calls, asks_has) {
+        return feed_few(rule, image, tree, calls, last, collection);
     }
     if asks_has {
         return feed_marked(rule, image, tree, calls, last, collection);
@@ -102,16 +102,59 @@ fn feed_noted(
     feed_each_component(rule, image, tree, calls, last, collection, &mut notes)
 }
 
-// Whether there are too few members for notes: of few components hardly two are alike, and a `has` is told by marks alone.
-fn has_few(image: &[u8], calls: &[u32], asks_has: bool) -> bool {
+// Whether there are too few members for notes: a `has` is told by marks alone, and of few components hardly two have the same category.
+fn has_few(image: &[u8], tree: &[u32], calls: &[u32], asks_has: bool) -> bool {
     let components = image::record_count(image, Section::Components);
     if asks_has {
         return components < MARKED_BOARD;
     }
+    if NOTED_BOARD <= components {
+        return false;
+    }
     if held::asks_features(calls) {
         return false;
     }
-    components < NOTED_BOARD
+    marked::next_row(tree, kind::COMPARE_EXPR, 0) < marked::ROWS
+}
+
+// Sends every component through the calls, and notes nothing of them: each is asked.
+fn feed_few(
+    rule: &[u8],
+    image: &[u8],
+    tree: &[u32],
+    calls: &[u32],
+    last: usize,
+    collection: &mut [u32],
+) -> Tally
+    requires { ⌜ Fits (methodAt last) (now image) (callsFrom (now rule) (now tree) (now calls) 0) (map Member.Component (upFrom 0 (componentCount (now image)))) (begin (now collection)) ⌝ }
+    ensures { λ r. ⌜ Stands (methodAt last) (stateOf r (now (collection .exit))) (fed (now (image .entry)) (callsFrom (now (rule .entry)) (now (tree .entry)) (now (calls .entry)) 0) (map Member.Component (upFrom 0 (componentCount (now (image .entry))))) (begin (now (collection .entry)))) ⌝ }
+{
+    let count = image::record_count(image, Section::Components);
+    let mut none = [0u8; 1];
+    let mut tally = Tally {
+        arrived: 0,
+        passed: 0,
+    };
+    let mut component = 0;
+    while component < count {
+        tally = walk::feed(
+            rule,
+            image,
+            tree,
+            calls,
+            last,
+            0,
+            Member::Component(component),
+            collection,
+            &mut none,
+            tally,
+        );
+        if walk::is_decided(last, tally) {
+            return tally;
+        }
+        component += 1;
+    }
+    tally
 }
 
 // Sends every component through the calls, with the marks made.

@@ -1,6 +1,5 @@
--- `feed_noted` sends every component: with no notes, with marks, or with a memo of zeros whose first byte says what profiles hold. Assumes nothing.
-use native.Mathlib.Omega.{arith}
-use Rattle.eval.proofs.MemoLaws.{notes-plain, notes-none}
+-- `feed_noted` sends every component: without notes, with marks, or with a memo of zeros whose first byte says what profiles hold. Assumes nothing.
+use Rattle.eval.proofs.MemoLaws.{notes-plain}
 use borrow.Author.Needs.{needs}
 use Rattle.eval.proofs.source.feed_noted.Statement.{statement}
 use Rattle.eval.proofs.source.feed_noted.Tie as tie
@@ -11,11 +10,8 @@ next-row-requires c κs = search needs
 has-few-requires : tie.Need-has-few-requires
 has-few-requires c κs = search needs
 
-slice-aggregate-feed-each-component : tie.Need-slice-aggregate-feed-each-component
-slice-aggregate-feed-each-component c = search needs
-
-feed-each-component-requires : tie.Need-feed-each-component-requires
-feed-each-component-requires c κs = (c .before .before .before .before .before .before .before .before .before .before .pre, notes-none _ _ _ _ 1 (omega arith) (omega arith))
+feed-few-requires : tie.Need-feed-few-requires
+feed-few-requires c κs = search needs
 
 same-length : tie.Need-same-length
 same-length c = search needs
@@ -38,11 +34,11 @@ held-requires c κs = search needs
 array-write-notes : tie.Need-array-write-notes
 array-write-notes c = search needs
 
-slice-aggregate-feed-each-component-2 : tie.Need-slice-aggregate-feed-each-component-2
-slice-aggregate-feed-each-component-2 c = search needs
+slice-aggregate-feed-each-component : tie.Need-slice-aggregate-feed-each-component
+slice-aggregate-feed-each-component c = search needs
 
-feed-each-component-requires-2 : tie.Need-feed-each-component-requires-2
-feed-each-component-requires-2 c κs = (c .before .before .before .before .before .before .before .before .before .before .before .before .pre, notes-plain _ _ _ _ _ (c .before .before .held .ensures))
+feed-each-component-requires : tie.Need-feed-each-component-requires
+feed-each-component-requires c κs = (c .before .before .before .before .before .before .before .before .before .before .before .before .pre, notes-plain _ _ _ _ _ (c .before .before .held .ensures))
 
 same-length-3 : tie.Need-same-length-3
 same-length-3 c = search needs
@@ -56,8 +52,7 @@ feed-noted-spec =
     (tie.spec
     next-row-requires
     has-few-requires
-    slice-aggregate-feed-each-component
-    feed-each-component-requires
+    feed-few-requires
     same-length
     returns
     feed-marked-requires
@@ -65,7 +60,7 @@ feed-noted-spec =
     returns-2
     held-requires
     array-write-notes
-    slice-aggregate-feed-each-component-2
-    feed-each-component-requires-2
+    slice-aggregate-feed-each-component
+    feed-each-component-requires
     same-length-3
     returns-3)
