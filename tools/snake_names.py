@@ -89,7 +89,7 @@ def imported(text, crates):
 def clauses(text):
     """Returns the spans of a source file that are written in antt: ghost imports and clauses."""
     spans = [(it.start(), it.end()) for it in re.finditer(r"(?m)^ghost use [^;]*;", text)]
-    for it in re.finditer(r"(?m)^\s*(?:requires|ensures|ghost)\b[^{;]*\{", text):
+    for it in re.finditer(r"(?m)^\s*(?:requires|ensures|ghost(?! use))\b[^{;]*\{", text):
         depth, at = 1, it.end()
         while depth:
             depth += {"{": 1, "}": -1}.get(text[at], 0)

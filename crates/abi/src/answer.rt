@@ -1,9 +1,9 @@
 // The eight numbers of an answer, written at the front of a lent table: what a rule comes to, its amount, whether it is warned, the
 // verdict; then whether numbers of rows are given, and those of token, tree and error rows.
-ghost use Rattle.std.specs.Prelude.{◌≡◌, [], ◌∷◌, ◌+◌, ◌≤◌, length}ghost use Rattle.std.specs.Prelude.{◌≡◌, [], ◌∷◌, ◌+◌, ◌≤◌, length};
-ghost use Rattle.board.specs.Check.{MAX_IMAGE}ghost use Rattle.board.specs.Check.{MAX_IMAGE};
-ghost use Rattle.calls.specs.Numbers.{value_amount, outcome_amount, bit, verdict_number}ghost use Rattle.calls.specs.Numbers.{value_amount, outcome_amount, bit, verdict_number};
-ghost use Rattle.abi.specs.Numbers.{ANSWER, PART, value_numbers, outcome_numbers, reading_numbers, row_numbers, Puts, RowsFew}ghost use Rattle.abi.specs.Numbers.{ANSWER, PART, value_numbers, outcome_numbers, reading_numbers, row_numbers, Puts, RowsFew};
+ghost use Rattle.std.specs.Prelude.{◌≡◌, [], ◌∷◌, ◌+◌, ◌≤◌, length};
+ghost use Rattle.board.specs.Check.{MAX_IMAGE};
+ghost use Rattle.calls.specs.Numbers.{value_amount, outcome_amount, bit, verdict_number};
+ghost use Rattle.abi.specs.Numbers.{ANSWER, PART, value_numbers, outcome_numbers, reading_numbers, row_numbers, Puts, RowsFew};
 
 use calls::value::{Outcome, Value, Verdict};
 use syntax::refusal;

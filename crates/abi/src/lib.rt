@@ -1,12 +1,12 @@
 // The static library for C and Rust: what the crates below do, over plain numbers and slices. A slice passes as a pointer and a length.
 mod answer;
 
-ghost use Rattle.std.specs.Prelude.{◌≡◌, length}ghost use Rattle.std.specs.Prelude.{◌≡◌, length};
-ghost use Rattle.board.specs.Check.{check_image}ghost use Rattle.board.specs.Check.{check_image};
-ghost use Rattle.lexer.specs.Read.{check_rule}ghost use Rattle.lexer.specs.Read.{check_rule};
-ghost use Rattle.message.specs.Message.{message_of}ghost use Rattle.message.specs.Message.{message_of};
-ghost use Rattle.abi.specs.Abi.{Answers, RowsAnswer, Tables, MessageAnswer, check_number}ghost use Rattle.abi.specs.Abi.{Answers, RowsAnswer, Tables, MessageAnswer, check_number};
-ghost use Rattle.abi.specs.Numbers.{ReadAnswer, RunAnswer}ghost use Rattle.abi.specs.Numbers.{ReadAnswer, RunAnswer};
+ghost use Rattle.std.specs.Prelude.{◌≡◌, length};
+ghost use Rattle.board.specs.Check.{check_image};
+ghost use Rattle.lexer.specs.Read.{check_rule};
+ghost use Rattle.message.specs.Message.{message_of};
+ghost use Rattle.abi.specs.Abi.{Answers, RowsAnswer, Tables, MessageAnswer, check_number};
+ghost use Rattle.abi.specs.Numbers.{ReadAnswer, RunAnswer};
 
 use lexer::Lexed;
 use message::Message;

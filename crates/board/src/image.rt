@@ -1,7 +1,7 @@
 // The board image, read: the places of its sections, the numbers of their records, and the strings. Any bytes are read, and what is
 // not there is 0 or empty.
-ghost use Rattle.std.specs.Prelude.{◌≡◌, ◌+◌, ◌*◌, ◌<◌, ◌≤◌, length}ghost use Rattle.std.specs.Prelude.{◌≡◌, ◌+◌, ◌*◌, ◌<◌, ◌≤◌, length};
-ghost use Rattle.board.specs.Image.{NUMBER_SIZE, word, section_number, record_size, LARGEST_RECORD, SECTIONS, section_offset, section_length, record_count, field, text}ghost use Rattle.board.specs.Image.{NUMBER_SIZE, word, section_number, record_size, LARGEST_RECORD, SECTIONS, section_offset, section_length, record_count, field, text};
+ghost use Rattle.std.specs.Prelude.{◌≡◌, ◌+◌, ◌*◌, ◌<◌, ◌≤◌, length};
+ghost use Rattle.board.specs.Image.{NUMBER_SIZE, word, section_number, record_size, LARGEST_RECORD, SECTIONS, section_offset, section_length, record_count, field, text};
 
 // The sections, in the order in which the image has them.
 #[derive(Drop)]

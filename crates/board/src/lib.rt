@@ -2,10 +2,10 @@
 // letters are not ASCII alone.
 pub mod image;
 
-ghost use Rattle.std.specs.Prelude.{◌≡◌, true, ◌+◌, ◌≤◌, length}ghost use Rattle.std.specs.Prelude.{◌≡◌, true, ◌+◌, ◌≤◌, length};
-ghost use Rattle.board.specs.Image.{record_size}ghost use Rattle.board.specs.Image.{record_size};
-ghost use Rattle.board.specs.Check.{whole_records, all_whole_records, sections_laid, sections_fit, strings_laid, strings_utf8, strings_fit, components_fit, features_fit, connections_fit, properties_fit, diagnostics_fit, records_fit, collection_short, check_image}ghost use Rattle.board.specs.Check.{whole_records, all_whole_records, sections_laid, sections_fit, strings_laid, strings_utf8, strings_fit, components_fit, features_fit, connections_fit, properties_fit, diagnostics_fit, records_fit, collection_short, check_image};
-ghost use Rattle.board.specs.CheckScan.{COMPONENT_SIZE, TRIPLE_SIZE, component_at, below_at, all_below}ghost use Rattle.board.specs.CheckScan.{COMPONENT_SIZE, TRIPLE_SIZE, component_at, below_at, all_below};
+ghost use Rattle.std.specs.Prelude.{◌≡◌, true, ◌+◌, ◌≤◌, length};
+ghost use Rattle.board.specs.Image.{record_size};
+ghost use Rattle.board.specs.Check.{whole_records, all_whole_records, sections_laid, sections_fit, strings_laid, strings_utf8, strings_fit, components_fit, features_fit, connections_fit, properties_fit, diagnostics_fit, records_fit, collection_short, check_image};
+ghost use Rattle.board.specs.CheckScan.{COMPONENT_SIZE, TRIPLE_SIZE, component_at, below_at, all_below};
 
 use image::Section;
 use syntax::refusal::{Check, Refusal};

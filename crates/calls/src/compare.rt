@@ -1,7 +1,7 @@
 // `eval_count_compare`: the integer of a comparison, and its operator.
-ghost use Rattle.std.specs.Prelude.{◌≡◌}ghost use Rattle.std.specs.Prelude.{◌≡◌};
-ghost use Rattle.meaning.specs.Compare.{operator_holds}ghost use Rattle.meaning.specs.Compare.{operator_holds};
-ghost use Rattle.calls.specs.Integer.{integerFor, digit_of}ghost use Rattle.calls.specs.Integer.{integerFor, digit_of};
+ghost use Rattle.std.specs.Prelude.{◌≡◌};
+ghost use Rattle.meaning.specs.Compare.{operator_holds};
+ghost use Rattle.calls.specs.Integer.{integerFor, digit_of};
 
 use crate::value::Integer;
 use syntax::kind;

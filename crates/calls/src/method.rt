@@ -1,8 +1,8 @@
 // The seven calls, in the order of the table's lines, counted from 0. `methodNumber` has the same numbers for the definitions; a proof
 // fails where the two differ.
-ghost use Rattle.std.specs.Prelude.{◌≡◌}ghost use Rattle.std.specs.Prelude.{◌≡◌};
-ghost use Rattle.meaning.specs.Calls.{method_number}ghost use Rattle.meaning.specs.Calls.{method_number};
-ghost use Rattle.meaning.specs.Pipeline.{method_of}ghost use Rattle.meaning.specs.Pipeline.{method_of};
+ghost use Rattle.std.specs.Prelude.{◌≡◌};
+ghost use Rattle.meaning.specs.Calls.{method_number};
+ghost use Rattle.meaning.specs.Pipeline.{method_of};
 
 use syntax::text;
 

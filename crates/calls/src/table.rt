@@ -1,6 +1,6 @@
 // "What each call gives": the next kind or the refusal, by call and kind.
-ghost use Rattle.std.specs.Prelude.{◌≡◌}ghost use Rattle.std.specs.Prelude.{◌≡◌};
-ghost use Rattle.calls.specs.Table.{next_for, next_at, refusal_at}ghost use Rattle.calls.specs.Table.{next_for, next_at, refusal_at};
+ghost use Rattle.std.specs.Prelude.{◌≡◌};
+ghost use Rattle.calls.specs.Table.{next_for, next_at, refusal_at};
 
 use crate::method;
 use syntax::number;

@@ -1,6 +1,6 @@
 // The verdict on what a rule comes to.
-ghost use Rattle.std.specs.Prelude.{◌≡◌}ghost use Rattle.std.specs.Prelude.{◌≡◌};
-ghost use Rattle.calls.specs.Answer.{verdict_of_answer, verdict_of_value, verdict_of_truth}ghost use Rattle.calls.specs.Answer.{verdict_of_answer, verdict_of_value, verdict_of_truth};
+ghost use Rattle.std.specs.Prelude.{◌≡◌};
+ghost use Rattle.calls.specs.Answer.{verdict_of_answer, verdict_of_value, verdict_of_truth};
 
 use crate::value::{Outcome, Value, Verdict};
 

@@ -1,8 +1,8 @@
 // What profiles are to hold: as much as the rule asks for and no more, so that many members are alike. It is a choice that saves work: but for
 // the wiring of features, any sum would do.
-ghost use Rattle.std.specs.Prelude.{◌≡◌, true, cond, ◌+◌, ◌%◌, ◌≤◌}ghost use Rattle.std.specs.Prelude.{◌≡◌, true, cond, ◌+◌, ◌%◌, ◌≤◌};
-ghost use Rattle.instance.specs.Instance.{owners_wired}ghost use Rattle.instance.specs.Instance.{owners_wired};
-ghost use Rattle.profile.specs.Profile.{WIRING, WIRING_OF_FEATURES, CATEGORY, KIND, DIRECTION, holds}ghost use Rattle.profile.specs.Profile.{WIRING, WIRING_OF_FEATURES, CATEGORY, KIND, DIRECTION, holds};
+ghost use Rattle.std.specs.Prelude.{◌≡◌, true, cond, ◌+◌, ◌%◌, ◌≤◌};
+ghost use Rattle.instance.specs.Instance.{owners_wired};
+ghost use Rattle.profile.specs.Profile.{WIRING, WIRING_OF_FEATURES, CATEGORY, KIND, DIRECTION, holds};
 
 use crate::{marked, ready};
 use calls::method;

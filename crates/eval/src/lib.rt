@@ -10,10 +10,10 @@ pub mod source;
 pub mod step;
 pub mod walk;
 
-ghost use Rattle.std.specs.Prelude.{◌≡◌}ghost use Rattle.std.specs.Prelude.{◌≡◌};
-ghost use Rattle.meaning.specs.Outcome.{outcome, check_run}ghost use Rattle.meaning.specs.Outcome.{outcome, check_run};
-ghost use Rattle.eval.specs.Pipeline.{Lent, Evaluates}ghost use Rattle.eval.specs.Pipeline.{Lent, Evaluates};
-ghost use Rattle.eval.specs.Run.{lent, Answers, Runs, ReadRule}ghost use Rattle.eval.specs.Run.{lent, Answers, Runs, ReadRule};
+ghost use Rattle.std.specs.Prelude.{◌≡◌};
+ghost use Rattle.meaning.specs.Outcome.{outcome, check_run};
+ghost use Rattle.eval.specs.Pipeline.{Lent, Evaluates};
+ghost use Rattle.eval.specs.Run.{lent, Answers, Runs, ReadRule};
 
 use calls::value::{Outcome, Verdict};
 use calls::verdict;

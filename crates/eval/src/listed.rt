@@ -1,8 +1,8 @@
 // Members listed or counted where no predicate is asked.
-ghost use Rattle.std.specs.Prelude.{◌≡◌, ◌+◌, ◌*◌, ◌≤◌, length}ghost use Rattle.std.specs.Prelude.{◌≡◌, ◌+◌, ◌*◌, ◌≤◌, length};
-ghost use Rattle.board.specs.Check.{COLLECTION_ROW}ghost use Rattle.board.specs.Check.{COLLECTION_ROW};
-ghost use Rattle.meaning.specs.Calls.{features_of}ghost use Rattle.meaning.specs.Calls.{features_of};
-ghost use Rattle.eval.specs.Listed.{every_component, every_feature, Lists}ghost use Rattle.eval.specs.Listed.{every_component, every_feature, Lists};
+ghost use Rattle.std.specs.Prelude.{◌≡◌, ◌+◌, ◌*◌, ◌≤◌, length};
+ghost use Rattle.board.specs.Check.{COLLECTION_ROW};
+ghost use Rattle.meaning.specs.Calls.{features_of};
+ghost use Rattle.eval.specs.Listed.{every_component, every_feature, Lists};
 
 use crate::walk;
 use board::image;

@@ -1,10 +1,10 @@
 // What is known of `has` before members are sent: for the first CALL_EXPR rows of a tree, in the memo, a block of marks each, one for each
 // component, and the number of the row. Which of these `has` are true of a member is a number, its bits.
-ghost use Rattle.std.specs.Prelude.{◌≡◌, ◌+◌, ◌*◌, ◌≤◌, ◌<◌, length, replicate}ghost use Rattle.std.specs.Prelude.{◌≡◌, ◌+◌, ◌*◌, ◌≤◌, ◌<◌, length, replicate};
-ghost use Rattle.board.specs.Image.{component_count}ghost use Rattle.board.specs.Image.{component_count};
-ghost use Rattle.predicate.specs.Rows.{ROW}ghost use Rattle.predicate.specs.Rows.{ROW};
-ghost use Rattle.marks.specs.Marks.{marks_of, feature_marks}ghost use Rattle.marks.specs.Marks.{marks_of, feature_marks};
-ghost use Rattle.eval.specs.Marked.{HASES, BLOCK, ROWS, MEMO, bit_at, bits_at, bits_of, RowTold, TellsBelow, FoundRow, Made, MakesRow}ghost use Rattle.eval.specs.Marked.{HASES, BLOCK, ROWS, MEMO, bit_at, bits_at, bits_of, RowTold, TellsBelow, FoundRow, Made, MakesRow};
+ghost use Rattle.std.specs.Prelude.{◌≡◌, ◌+◌, ◌*◌, ◌≤◌, ◌<◌, length, replicate};
+ghost use Rattle.board.specs.Image.{component_count};
+ghost use Rattle.predicate.specs.Rows.{ROW};
+ghost use Rattle.marks.specs.Marks.{marks_of, feature_marks};
+ghost use Rattle.eval.specs.Marked.{HASES, BLOCK, ROWS, MEMO, bit_at, bits_at, bits_of, RowTold, TellsBelow, FoundRow, Made, MakesRow};
 
 use crate::memo;
 use board::image;

@@ -1,10 +1,10 @@
 // What is known of the calls' predicates. A predicate that asks for no more than a member's profile and its bits is asked of the first
 // member of each profile and bits, and its answer noted: a byte for each call, profile and bits. Where nothing is marked the bits are 0.
-ghost use Rattle.std.specs.Prelude.{◌≡◌, ℕ, ◌+◌, ◌*◌, ◌≤◌, ◌<◌, length}ghost use Rattle.std.specs.Prelude.{◌≡◌, ℕ, ◌+◌, ◌*◌, ◌≤◌, ◌<◌, length};
-ghost use Rattle.profile.specs.Profile.{PROFILES, profile_of}ghost use Rattle.profile.specs.Profile.{PROFILES, profile_of};
-ghost use Rattle.eval.specs.Ready.{CALL_ROW}ghost use Rattle.eval.specs.Ready.{CALL_ROW};
-ghost use Rattle.eval.specs.Marked.{held_in}ghost use Rattle.eval.specs.Marked.{held_in};
-ghost use Rattle.eval.specs.Memo.{NO_PLACE, plain_place, byte_of, note_in, Notes, Placed, Asked, Noted}ghost use Rattle.eval.specs.Memo.{NO_PLACE, plain_place, byte_of, note_in, Notes, Placed, Asked, Noted};
+ghost use Rattle.std.specs.Prelude.{◌≡◌, ℕ, ◌+◌, ◌*◌, ◌≤◌, ◌<◌, length};
+ghost use Rattle.profile.specs.Profile.{PROFILES, profile_of};
+ghost use Rattle.eval.specs.Ready.{CALL_ROW};
+ghost use Rattle.eval.specs.Marked.{held_in};
+ghost use Rattle.eval.specs.Memo.{NO_PLACE, plain_place, byte_of, note_in, Notes, Placed, Asked, Noted};
 
 use crate::{marked, ready};
 use predicate::atom::Member;

@@ -1,14 +1,14 @@
 // eval.rs, "Pipeline evaluation": what the tree of a rule without parse errors comes to on a board. All refusals are settled before a row
 // of the collection table is written.
-ghost use Rattle.std.specs.Prelude.{◌≡◌, ◌+◌, ◌*◌, ◌≤◌, length, take}ghost use Rattle.std.specs.Prelude.{◌≡◌, ◌+◌, ◌*◌, ◌≤◌, length, take};
-ghost use Rattle.lexer.specs.Read.{MAX_RULE}ghost use Rattle.lexer.specs.Read.{MAX_RULE};
-ghost use Rattle.trees.specs.Look.{is_comparison}ghost use Rattle.trees.specs.Look.{is_comparison};
-ghost use Rattle.predicate.specs.Rows.{ROW, children_at, row_passes}ghost use Rattle.predicate.specs.Rows.{ROW, children_at, row_passes};
-ghost use Rattle.meaning.specs.Pipeline.{eval_pipeline}ghost use Rattle.meaning.specs.Pipeline.{eval_pipeline};
-ghost use Rattle.meaning.specs.Outcome.{eval_count_compare, eval_node}ghost use Rattle.meaning.specs.Outcome.{eval_count_compare, eval_node};
-ghost use Rattle.calls.specs.Answer.{boolean_of}ghost use Rattle.calls.specs.Answer.{boolean_of};
-ghost use Rattle.eval.specs.Ready.{CALL_ROW, LAST_KIND, Asks}ghost use Rattle.eval.specs.Ready.{CALL_ROW, LAST_KIND, Asks};
-ghost use Rattle.eval.specs.Pipeline.{MAX_ROWS, FewCalls, RoomForCalls, Lent, Evaluates, Counts, OperatorAt, Gives, Judges}ghost use Rattle.eval.specs.Pipeline.{MAX_ROWS, FewCalls, RoomForCalls, Lent, Evaluates, Counts, OperatorAt, Gives, Judges};
+ghost use Rattle.std.specs.Prelude.{◌≡◌, ◌+◌, ◌*◌, ◌≤◌, length, take};
+ghost use Rattle.lexer.specs.Read.{MAX_RULE};
+ghost use Rattle.trees.specs.Look.{is_comparison};
+ghost use Rattle.predicate.specs.Rows.{ROW, children_at, row_passes};
+ghost use Rattle.meaning.specs.Pipeline.{eval_pipeline};
+ghost use Rattle.meaning.specs.Outcome.{eval_count_compare, eval_node};
+ghost use Rattle.calls.specs.Answer.{boolean_of};
+ghost use Rattle.eval.specs.Ready.{CALL_ROW, LAST_KIND, Asks};
+ghost use Rattle.eval.specs.Pipeline.{MAX_ROWS, FewCalls, RoomForCalls, Lent, Evaluates, Counts, OperatorAt, Gives, Judges};
 
 use crate::ready::Planned;
 use crate::walk::Tally;

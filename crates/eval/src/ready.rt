@@ -1,14 +1,14 @@
 // The calls of a pipeline made ready for members: rows of four numbers, the call's number and three of its predicate made ready.
 // Whether each call may stand where it stands is settled here, from the kinds alone.
-ghost use Rattle.std.specs.Prelude.{◌≡◌, ◌+◌, ◌*◌, ◌≤◌, ◌<◌, ◌^◌, length}ghost use Rattle.std.specs.Prelude.{◌≡◌, ◌+◌, ◌*◌, ◌≤◌, ◌<◌, ◌^◌, length};
-ghost use Rattle.predicate.specs.Rows.{ROW, level_at, kind_at, children_at, row_passes, of_kind}ghost use Rattle.predicate.specs.Rows.{ROW, level_at, kind_at, children_at, row_passes, of_kind};
-ghost use Rattle.syntax.specs.Kind.{DOT_CALL}ghost use Rattle.syntax.specs.Kind.{DOT_CALL};
-ghost use Rattle.meaning.specs.Value.{sort_kind}ghost use Rattle.meaning.specs.Value.{sort_kind};
-ghost use Rattle.meaning.specs.Calls.{kind_number}ghost use Rattle.meaning.specs.Calls.{kind_number};
-ghost use Rattle.meaning.specs.Pipeline.{calls_of}ghost use Rattle.meaning.specs.Pipeline.{calls_of};
-ghost use Rattle.meaning.specs.Walk.{is_last}ghost use Rattle.meaning.specs.Walk.{is_last};
-ghost use Rattle.calls.specs.Table.{method_at}ghost use Rattle.calls.specs.Table.{method_at};
-ghost use Rattle.eval.specs.Ready.{CALL_ROW, LAST_KIND, KindAfter, LastMethod, source_sort, args_place, prepared_at, Puts, CallsFit, PutsRow, Holds, Plans}ghost use Rattle.eval.specs.Ready.{CALL_ROW, LAST_KIND, KindAfter, LastMethod, source_sort, args_place, prepared_at, Puts, CallsFit, PutsRow, Holds, Plans};
+ghost use Rattle.std.specs.Prelude.{◌≡◌, ◌+◌, ◌*◌, ◌≤◌, ◌<◌, ◌^◌, length};
+ghost use Rattle.predicate.specs.Rows.{ROW, level_at, kind_at, children_at, row_passes, of_kind};
+ghost use Rattle.syntax.specs.Kind.{DOT_CALL};
+ghost use Rattle.meaning.specs.Value.{sort_kind};
+ghost use Rattle.meaning.specs.Calls.{kind_number};
+ghost use Rattle.meaning.specs.Pipeline.{calls_of};
+ghost use Rattle.meaning.specs.Walk.{is_last};
+ghost use Rattle.calls.specs.Table.{method_at};
+ghost use Rattle.eval.specs.Ready.{CALL_ROW, LAST_KIND, KindAfter, LastMethod, source_sort, args_place, prepared_at, Puts, CallsFit, PutsRow, Holds, Plans};
 
 use calls::table::Next;
 use calls::{method, table};

@@ -1,13 +1,13 @@
 // `eval_source`: the members of a source, each sent through the calls. Components are sent as `walk` sends members, with notes where there
 // are enough of them; diagnostics if their analysis has the name asked for.
-ghost use Rattle.std.specs.Prelude.{◌≡◌, [], ◌∷◌, map, length}ghost use Rattle.std.specs.Prelude.{◌≡◌, [], ◌∷◌, map, length};
-ghost use Rattle.board.specs.Image.{component_count, diagnostic_count}ghost use Rattle.board.specs.Image.{component_count, diagnostic_count};
-ghost use Rattle.meaning.specs.Calls.{keep, kept, up_from}ghost use Rattle.meaning.specs.Calls.{keep, kept, up_from};
-ghost use Rattle.meaning.specs.Pipeline.{is_of_analysis}ghost use Rattle.meaning.specs.Pipeline.{is_of_analysis};
-ghost use Rattle.calls.specs.Table.{method_at}ghost use Rattle.calls.specs.Table.{method_at};
-ghost use Rattle.eval.specs.Ready.{calls_from, Asks}ghost use Rattle.eval.specs.Ready.{calls_from, Asks};
-ghost use Rattle.eval.specs.Memo.{Notes}ghost use Rattle.eval.specs.Memo.{Notes};
-ghost use Rattle.eval.specs.Feed.{state_of, begin, fed, Fits, Stands, KNOWN, Known, IsFeatures}ghost use Rattle.eval.specs.Feed.{state_of, begin, fed, Fits, Stands, KNOWN, Known, IsFeatures};
+ghost use Rattle.std.specs.Prelude.{◌≡◌, [], ◌∷◌, map, length};
+ghost use Rattle.board.specs.Image.{component_count, diagnostic_count};
+ghost use Rattle.meaning.specs.Calls.{keep, kept, up_from};
+ghost use Rattle.meaning.specs.Pipeline.{is_of_analysis};
+ghost use Rattle.calls.specs.Table.{method_at};
+ghost use Rattle.eval.specs.Ready.{calls_from, Asks};
+ghost use Rattle.eval.specs.Memo.{Notes};
+ghost use Rattle.eval.specs.Feed.{state_of, begin, fed, Fits, Stands, KNOWN, Known, IsFeatures};
 
 use crate::walk::Tally;
 use crate::{held, listed, marked, memo, ready, step, walk};

@@ -1,10 +1,10 @@
 // What becomes of a member on its way through the calls: as far as the notes tell, or by asking.
-ghost use Rattle.std.specs.Prelude.{◌≡◌, true, ◌+◌, ◌*◌, ◌≤◌, length}ghost use Rattle.std.specs.Prelude.{◌≡◌, true, ◌+◌, ◌*◌, ◌≤◌, length};
-ghost use Rattle.board.specs.Check.{COLLECTION_ROW}ghost use Rattle.board.specs.Check.{COLLECTION_ROW};
-ghost use Rattle.eval.specs.Memo.{NO_PLACE}ghost use Rattle.eval.specs.Memo.{NO_PLACE};
-ghost use Rattle.eval.specs.Feed.{state_of}ghost use Rattle.eval.specs.Feed.{state_of};
-ghost use Rattle.eval.specs.Ready.{calls_from, Asks}ghost use Rattle.eval.specs.Ready.{calls_from, Asks};
-ghost use Rattle.eval.specs.Step.{is_open, arrives, after, at_false, StepIs, Steps}ghost use Rattle.eval.specs.Step.{is_open, arrives, after, at_false, StepIs, Steps};
+ghost use Rattle.std.specs.Prelude.{◌≡◌, true, ◌+◌, ◌*◌, ◌≤◌, length};
+ghost use Rattle.board.specs.Check.{COLLECTION_ROW};
+ghost use Rattle.eval.specs.Memo.{NO_PLACE};
+ghost use Rattle.eval.specs.Feed.{state_of};
+ghost use Rattle.eval.specs.Ready.{calls_from, Asks};
+ghost use Rattle.eval.specs.Step.{is_open, arrives, after, at_false, StepIs, Steps};
 
 use crate::walk::Tally;
 use crate::{memo, ready, walk};

@@ -1,19 +1,19 @@
 // Members sent through the calls of a pipeline, one source member at a time: as the notes tell, or by asking each `where`, then its
 // features, each further `where`. No collection but the last is kept, and no member is sent after one that decides a quantifier.
-ghost use Rattle.std.specs.Prelude.{◌≡◌, true, [], ◌∷◌, ◌++◌, ◌+◌, ◌*◌, ◌^◌, ◌≤◌, ◌<◌, length, drop, replicate}ghost use Rattle.std.specs.Prelude.{◌≡◌, true, [], ◌∷◌, ◌++◌, ◌+◌, ◌*◌, ◌^◌, ◌≤◌, ◌<◌, length, drop, replicate};
-ghost use Rattle.std.proofs.lemmas.List.Edits.{sets}ghost use Rattle.std.proofs.lemmas.List.Edits.{sets};
-ghost use Rattle.board.specs.Check.{COLLECTION_ROW}ghost use Rattle.board.specs.Check.{COLLECTION_ROW};
-ghost use Rattle.board.specs.WellFormed.{WellFormed, Room}ghost use Rattle.board.specs.WellFormed.{WellFormed, Room};
-ghost use Rattle.predicate.specs.Rows.{ROW, kind_at, children_at}ghost use Rattle.predicate.specs.Rows.{ROW, kind_at, children_at};
-ghost use Rattle.profile.specs.Profile.{profile_of}ghost use Rattle.profile.specs.Profile.{profile_of};
-ghost use Rattle.meaning.specs.Value.{row_of, whole_rows}ghost use Rattle.meaning.specs.Value.{row_of, whole_rows};
-ghost use Rattle.meaning.specs.Calls.{features_of}ghost use Rattle.meaning.specs.Calls.{features_of};
-ghost use Rattle.meaning.specs.Walk.{is_last}ghost use Rattle.meaning.specs.Walk.{is_last};
-ghost use Rattle.calls.specs.Table.{method_at}ghost use Rattle.calls.specs.Table.{method_at};
-ghost use Rattle.eval.specs.Ready.{CALL_ROW, calls_in, calls_from, source_members, Asks}ghost use Rattle.eval.specs.Ready.{CALL_ROW, calls_in, calls_from, source_members, Asks};
-ghost use Rattle.eval.specs.Marked.{held_in}ghost use Rattle.eval.specs.Marked.{held_in};
-ghost use Rattle.eval.specs.Memo.{args_of, Notes}ghost use Rattle.eval.specs.Memo.{args_of, Notes};
-ghost use Rattle.eval.specs.Feed.{state_of, fed, decided, Decides, Fits, Stands, Arrives, walked}ghost use Rattle.eval.specs.Feed.{state_of, fed, decided, Decides, Fits, Stands, Arrives, walked};
+ghost use Rattle.std.specs.Prelude.{◌≡◌, true, [], ◌∷◌, ◌++◌, ◌+◌, ◌*◌, ◌^◌, ◌≤◌, ◌<◌, length, drop, replicate};
+ghost use Rattle.std.proofs.lemmas.List.Edits.{sets};
+ghost use Rattle.board.specs.Check.{COLLECTION_ROW};
+ghost use Rattle.board.specs.WellFormed.{WellFormed, Room};
+ghost use Rattle.predicate.specs.Rows.{ROW, kind_at, children_at};
+ghost use Rattle.profile.specs.Profile.{profile_of};
+ghost use Rattle.meaning.specs.Value.{row_of, whole_rows};
+ghost use Rattle.meaning.specs.Calls.{features_of};
+ghost use Rattle.meaning.specs.Walk.{is_last};
+ghost use Rattle.calls.specs.Table.{method_at};
+ghost use Rattle.eval.specs.Ready.{CALL_ROW, calls_in, calls_from, source_members, Asks};
+ghost use Rattle.eval.specs.Marked.{held_in};
+ghost use Rattle.eval.specs.Memo.{args_of, Notes};
+ghost use Rattle.eval.specs.Feed.{state_of, fed, decided, Decides, Fits, Stands, Arrives, walked};
 
 use crate::{marked, memo, ready, source, step};
 use board::image;

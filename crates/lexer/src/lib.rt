@@ -1,13 +1,13 @@
 // lexer.rs: the tokens of a rule, as rows of a lent table, and the refusals that need only the rule and the tables' lengths.
 pub mod limits;
 
-ghost use Rattle.std.specs.Prelude.{◌≡◌, cond, ◌&&◌, eqb, leb, ltb, [], ◌∷◌, ◌+◌, ◌*◌, ◌≤◌, ◌<◌, length, drop}ghost use Rattle.std.specs.Prelude.{◌≡◌, cond, ◌&&◌, eqb, leb, ltb, [], ◌∷◌, ◌+◌, ◌*◌, ◌≤◌, ◌<◌, length, drop};
-ghost use Rattle.std.proofs.lemmas.List.Edits.{sets}ghost use Rattle.std.proofs.lemmas.List.Edits.{sets};
-ghost use Rattle.syntax.specs.Table.{with_rows}ghost use Rattle.syntax.specs.Table.{with_rows};
-ghost use Rattle.lexer.specs.Bytes.{is_blank, is_ascii_whitespace, is_ascii_digit, is_ident_start, is_ident_continue, is_trailing, shape_of, goes_on}ghost use Rattle.lexer.specs.Bytes.{is_blank, is_ascii_whitespace, is_ascii_digit, is_ident_start, is_ident_continue, is_trailing, shape_of, goes_on};
-ghost use Rattle.lexer.specs.Lex.{run, quoted, equals, more, word_kind, kind_of, lex, token_rows, is_opener, openersIn}ghost use Rattle.lexer.specs.Lex.{run, quoted, equals, more, word_kind, kind_of, lex, token_rows, is_opener, openersIn};
-ghost use Rattle.lexer.specs.LexScan.{TokenAt, openersAt}ghost use Rattle.lexer.specs.LexScan.{TokenAt, openersAt};
-ghost use Rattle.lexer.specs.Read.{MAX_RULE, MAX_OPENERS, TOKEN_ROW, tables_short, check_rule, check_room, Reads}ghost use Rattle.lexer.specs.Read.{MAX_RULE, MAX_OPENERS, TOKEN_ROW, tables_short, check_rule, check_room, Reads};
+ghost use Rattle.std.specs.Prelude.{◌≡◌, cond, ◌&&◌, eqb, leb, ltb, [], ◌∷◌, ◌+◌, ◌*◌, ◌≤◌, ◌<◌, length, drop};
+ghost use Rattle.std.proofs.lemmas.List.Edits.{sets};
+ghost use Rattle.syntax.specs.Table.{with_rows};
+ghost use Rattle.lexer.specs.Bytes.{is_blank, is_ascii_whitespace, is_ascii_digit, is_ident_start, is_ident_continue, is_trailing, shape_of, goes_on};
+ghost use Rattle.lexer.specs.Lex.{run, quoted, equals, more, word_kind, kind_of, lex, token_rows, is_opener, openersIn};
+ghost use Rattle.lexer.specs.LexScan.{TokenAt, openersAt};
+ghost use Rattle.lexer.specs.Read.{MAX_RULE, MAX_OPENERS, TOKEN_ROW, tables_short, check_rule, check_room, Reads};
 
 use limits::{ERROR_ROW, MAX_OPENERS, MAX_RULE, TOKEN_ROW, TREE_ROW};
 use syntax::refusal::{Check, Refusal};

@@ -1,8 +1,8 @@
 // eval.rs, "Matching helpers": the words that a rule has for a field's values, and a text searched for in another.
 pub mod search;
 
-ghost use Rattle.std.specs.Prelude.{◌≡◌, [], ◌∷◌}ghost use Rattle.std.specs.Prelude.{◌≡◌, [], ◌∷◌};
-ghost use Rattle.matching.specs.Words.{fold, folded, one_of, category_matches, feature_kind_matches, direction_matches, severity_matches}ghost use Rattle.matching.specs.Words.{fold, folded, one_of, category_matches, feature_kind_matches, direction_matches, severity_matches};
+ghost use Rattle.std.specs.Prelude.{◌≡◌, [], ◌∷◌};
+ghost use Rattle.matching.specs.Words.{fold, folded, one_of, category_matches, feature_kind_matches, direction_matches, severity_matches};
 
 use syntax::text;
 

@@ -1,7 +1,7 @@
 // A text searched for in another: what eval.rs asks of `str::contains` and `str::split_once`.
-ghost use Rattle.std.specs.Prelude.{◌≡◌, false, ◌+◌, ◌<◌, ◌≤◌, length, drop}ghost use Rattle.std.specs.Prelude.{◌≡◌, false, ◌+◌, ◌<◌, ◌≤◌, length, drop};
-ghost use Rattle.matching.specs.Search.{starts_with, find, contains}ghost use Rattle.matching.specs.Search.{starts_with, find, contains};
-ghost use Rattle.matching.specs.SearchScan.{Skipped, block}ghost use Rattle.matching.specs.SearchScan.{Skipped, block};
+ghost use Rattle.std.specs.Prelude.{◌≡◌, false, ◌+◌, ◌<◌, ◌≤◌, length, drop};
+ghost use Rattle.matching.specs.Search.{starts_with, find, contains};
+ghost use Rattle.matching.specs.SearchScan.{Skipped, block};
 
 // How many places are passed over at once.
 const BLOCK: usize = 16;

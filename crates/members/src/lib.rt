@@ -1,6 +1,6 @@
 // The members of a collection, a line each. They stand in the collection table as rows of two numbers.
-ghost use Rattle.texts.specs.Append.{Appends}ghost use Rattle.texts.specs.Append.{Appends};
-ghost use Rattle.members.specs.Member.{component_text, feature_text, port_text, diagnostic_text, member_text}ghost use Rattle.members.specs.Member.{component_text, feature_text, port_text, diagnostic_text, member_text};
+ghost use Rattle.texts.specs.Append.{Appends};
+ghost use Rattle.members.specs.Member.{component_text, feature_text, port_text, diagnostic_text, member_text};
 
 use board::image;
 use board::image::Section;

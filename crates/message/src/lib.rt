@@ -1,9 +1,9 @@
 // parser.rs: the messages of its parse errors, as text, from a rule and a row of the error table.
-ghost use Rattle.std.specs.Prelude.{◌++◌, ◌+◌, ◌^◌, ◌≤◌, ◌<◌, length}ghost use Rattle.std.specs.Prelude.{◌++◌, ◌+◌, ◌^◌, ◌≤◌, ◌<◌, length};
-ghost use Rattle.syntax.specs.Form.{EXPECT}ghost use Rattle.syntax.specs.Form.{EXPECT};
-ghost use Rattle.message.specs.Message.{kind_name, message_of}ghost use Rattle.message.specs.Message.{kind_name, message_of};
-ghost use Rattle.message.specs.Write.{Writes}ghost use Rattle.message.specs.Write.{Writes};
-ghost use Rattle.message.specs.Parts.{HEAD, LONGEST_NAME, LONGEST_END, Puts, Begins, Ends, word, head_of, end_of}ghost use Rattle.message.specs.Parts.{HEAD, LONGEST_NAME, LONGEST_END, Puts, Begins, Ends, word, head_of, end_of};
+ghost use Rattle.std.specs.Prelude.{◌++◌, ◌+◌, ◌^◌, ◌≤◌, ◌<◌, length};
+ghost use Rattle.syntax.specs.Form.{EXPECT};
+ghost use Rattle.message.specs.Message.{kind_name, message_of};
+ghost use Rattle.message.specs.Write.{Writes};
+ghost use Rattle.message.specs.Parts.{HEAD, LONGEST_NAME, LONGEST_END, Puts, Begins, Ends, word, head_of, end_of};
 
 use syntax::{form, kind, text};
 

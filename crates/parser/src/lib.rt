@@ -1,13 +1,13 @@
 // parser.rs: the green tree of a rule, as rows of a lent table, and the parse errors, as rows of another.
-ghost use Rattle.std.specs.Prelude.{◌≡◌, List, [], ◌∷◌, ℕ, ◌+◌, ◌*◌, ◌≤◌, ◌<◌, ◌&&◌, leb, length, drop}ghost use Rattle.std.specs.Prelude.{◌≡◌, List, [], ◌∷◌, ℕ, ◌+◌, ◌*◌, ◌≤◌, ◌<◌, ◌&&◌, leb, length, drop};
-ghost use Rattle.std.proofs.lemmas.List.Edits.{sets}ghost use Rattle.std.proofs.lemmas.List.Edits.{sets};
-ghost use Rattle.syntax.specs.Text.{ascii, same}ghost use Rattle.syntax.specs.Text.{ascii, same};
-ghost use Rattle.lexer.specs.Lex.{lex, token_rows}ghost use Rattle.lexer.specs.Lex.{lex, token_rows};
-ghost use Rattle.trees.specs.Look.{head_kind, head_text, current_kind, at_text, at_ident, peek_kind, at_message_dot, at_field, at_predicate_method, at_plain_method, is_comparison, has_count_compare_ahead, has_binary_op_at_level}ghost use Rattle.trees.specs.Look.{head_kind, head_text, current_kind, at_text, at_ident, peek_kind, at_message_dot, at_field, at_predicate_method, at_plain_method, is_comparison, has_count_compare_ahead, has_binary_op_at_level};
-ghost use Rattle.trees.specs.Parse.{next, next_is_ident, fails, fails_ahead, eat_ws, bump, expect, expect_ident, literal, call_expr, ident_expr, contains_expr, compare_expr, simple_atom, predicate_args, no_args, no_method, parse_method, parse_dot_call, parse, OrExpr, OrRest, AndExpr, AndRest, Atom, Calls, parse_source, parse_pipeline, parse_pipeline_or_count_compare, remaining, left_over, parse_root}ghost use Rattle.trees.specs.Parse.{next, next_is_ident, fails, fails_ahead, eat_ws, bump, expect, expect_ident, literal, call_expr, ident_expr, contains_expr, compare_expr, simple_atom, predicate_args, no_args, no_method, parse_method, parse_dot_call, parse, OrExpr, OrRest, AndExpr, AndRest, Atom, Calls, parse_source, parse_pipeline, parse_pipeline_or_count_compare, remaining, left_over, parse_root};
-ghost use Rattle.lexer.specs.Read.{check_rule}ghost use Rattle.lexer.specs.Read.{check_rule};
-ghost use Rattle.trees.specs.Read.{check_tables, Reads}ghost use Rattle.trees.specs.Read.{check_tables, Reads};
-ghost use Rattle.trees.specs.Writing.{Ready, Solid, Past, Skipped, Fits, Asks, Did, Started, Finished, NoneFrom, NoOpsFrom}ghost use Rattle.trees.specs.Writing.{Ready, Solid, Past, Skipped, Fits, Asks, Did, Started, Finished, NoneFrom, NoOpsFrom};
+ghost use Rattle.std.specs.Prelude.{◌≡◌, List, [], ◌∷◌, ℕ, ◌+◌, ◌*◌, ◌≤◌, ◌<◌, ◌&&◌, leb, length, drop};
+ghost use Rattle.std.proofs.lemmas.List.Edits.{sets};
+ghost use Rattle.syntax.specs.Text.{ascii, same};
+ghost use Rattle.lexer.specs.Lex.{lex, token_rows};
+ghost use Rattle.trees.specs.Look.{head_kind, head_text, current_kind, at_text, at_ident, peek_kind, at_message_dot, at_field, at_predicate_method, at_plain_method, is_comparison, has_count_compare_ahead, has_binary_op_at_level};
+ghost use Rattle.trees.specs.Parse.{next, next_is_ident, fails, fails_ahead, eat_ws, bump, expect, expect_ident, literal, call_expr, ident_expr, contains_expr, compare_expr, simple_atom, predicate_args, no_args, no_method, parse_method, parse_dot_call, parse, OrExpr, OrRest, AndExpr, AndRest, Atom, Calls, parse_source, parse_pipeline, parse_pipeline_or_count_compare, remaining, left_over, parse_root};
+ghost use Rattle.lexer.specs.Read.{check_rule};
+ghost use Rattle.trees.specs.Read.{check_tables, Reads};
+ghost use Rattle.trees.specs.Writing.{Ready, Solid, Past, Skipped, Fits, Asks, Did, Started, Finished, NoneFrom, NoOpsFrom};
 
 use lexer::Lexed;
 use syntax::refusal::{Check, Refusal};

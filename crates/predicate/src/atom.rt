@@ -1,9 +1,9 @@
 // The atoms of predicates: `connected`, `has('..')`, `field == '..'` and `message.contains('..')`, of one member of a board.
-ghost use Rattle.std.specs.Prelude.{◌≡◌, ◌+◌, ◌≤◌, length}ghost use Rattle.std.specs.Prelude.{◌≡◌, ◌+◌, ◌≤◌, length};
-ghost use Rattle.syntax.specs.Kind.{BINARY_EXPR, UNARY_EXPR, PAREN_EXPR}ghost use Rattle.syntax.specs.Kind.{BINARY_EXPR, UNARY_EXPR, PAREN_EXPR};
-ghost use Rattle.predicate.specs.Truth.{connected, has_property_of, has, compares, message_contains, sort_of, truth}ghost use Rattle.predicate.specs.Truth.{connected, has_property_of, has, compares, message_contains, sort_of, truth};
-ghost use Rattle.predicate.specs.Rows.{ROW, kind_at, children_at, node_at}ghost use Rattle.predicate.specs.Rows.{ROW, kind_at, children_at, node_at};
-ghost use Rattle.predicate.specs.Prepared.{field_name, field_number, atom_number, atom_truth}ghost use Rattle.predicate.specs.Prepared.{field_name, field_number, atom_number, atom_truth};
+ghost use Rattle.std.specs.Prelude.{◌≡◌, ◌+◌, ◌≤◌, length};
+ghost use Rattle.syntax.specs.Kind.{BINARY_EXPR, UNARY_EXPR, PAREN_EXPR};
+ghost use Rattle.predicate.specs.Truth.{connected, has_property_of, has, compares, message_contains, sort_of, truth};
+ghost use Rattle.predicate.specs.Rows.{ROW, kind_at, children_at, node_at};
+ghost use Rattle.predicate.specs.Prepared.{field_name, field_number, atom_number, atom_truth};
 
 use crate::node;
 use board::image;

@@ -5,10 +5,10 @@ pub mod node;
 pub mod prepared;
 pub mod rows;
 
-ghost use Rattle.std.specs.Prelude.{◌≡◌, ◌+◌, ◌≤◌, ◌<◌, ◌^◌, length}ghost use Rattle.std.specs.Prelude.{◌≡◌, ◌+◌, ◌≤◌, ◌<◌, ◌^◌, length};
-ghost use Rattle.predicate.specs.Truth.{truth, or_after}ghost use Rattle.predicate.specs.Truth.{truth, or_after};
-ghost use Rattle.predicate.specs.Rows.{ROW, children_at, node_at}ghost use Rattle.predicate.specs.Rows.{ROW, children_at, node_at};
-ghost use Rattle.predicate.specs.Eval.{Evaluated, Inner, Operand, Joins, Joined}ghost use Rattle.predicate.specs.Eval.{Evaluated, Inner, Operand, Joins, Joined};
+ghost use Rattle.std.specs.Prelude.{◌≡◌, ◌+◌, ◌≤◌, ◌<◌, ◌^◌, length};
+ghost use Rattle.predicate.specs.Truth.{truth, or_after};
+ghost use Rattle.predicate.specs.Rows.{ROW, children_at, node_at};
+ghost use Rattle.predicate.specs.Eval.{Evaluated, Inner, Operand, Joins, Joined};
 
 use atom::Member;
 use matching::search::Found;

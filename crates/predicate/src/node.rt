@@ -1,10 +1,10 @@
 // The node whose row is at a place of a tree table: the places of its children, and their texts. Where no whole row is at the place
 // there are none.
-ghost use Rattle.std.specs.Prelude.{◌≡◌, ◌+◌, ◌≤◌, ◌<◌, length}ghost use Rattle.std.specs.Prelude.{◌≡◌, ◌+◌, ◌≤◌, ◌<◌, length};
-ghost use Rattle.syntax.specs.Kind.{IDENT, INT_LIT, ROOT}ghost use Rattle.syntax.specs.Kind.{IDENT, INT_LIT, ROOT};
-ghost use Rattle.predicate.specs.Truth.{content, first_text, literal_of}ghost use Rattle.predicate.specs.Truth.{content, first_text, literal_of};
-ghost use Rattle.predicate.specs.Rows.{ROW, level_at, text_at, children_at, of_kind, of_node, first_row}ghost use Rattle.predicate.specs.Rows.{ROW, level_at, text_at, children_at, of_kind, of_node, first_row};
-ghost use Rattle.predicate.specs.Eval.{HasString}ghost use Rattle.predicate.specs.Eval.{HasString};
+ghost use Rattle.std.specs.Prelude.{◌≡◌, ◌+◌, ◌≤◌, ◌<◌, length};
+ghost use Rattle.syntax.specs.Kind.{IDENT, INT_LIT, ROOT};
+ghost use Rattle.predicate.specs.Truth.{content, first_text, literal_of};
+ghost use Rattle.predicate.specs.Rows.{ROW, level_at, text_at, children_at, of_kind, of_node, first_row};
+ghost use Rattle.predicate.specs.Eval.{HasString};
 
 use crate::rows;
 use matching::search::Found;

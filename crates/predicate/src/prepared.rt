@@ -1,7 +1,7 @@
 // A predicate made ready to be asked of many members. Where it is one atom, but for `not` and brackets, which atom that is and where its
 // string stands depend on the rule alone, and are found once.
-ghost use Rattle.std.specs.Prelude.{◌≡◌}ghost use Rattle.std.specs.Prelude.{◌≡◌};
-ghost use Rattle.predicate.specs.Prepared.{negated, Prepares, prepared_truth}ghost use Rattle.predicate.specs.Prepared.{negated, Prepares, prepared_truth};
+ghost use Rattle.std.specs.Prelude.{◌≡◌};
+ghost use Rattle.predicate.specs.Prepared.{negated, Prepares, prepared_truth};
 
 use crate::atom::Member;
 use crate::{atom, node};

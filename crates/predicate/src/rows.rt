@@ -1,8 +1,8 @@
 // Rows of a tree table: kind, level, first byte, end byte. The children of a node are the rows one level below it that follow its own,
 // as far as the next row that is not below it.
-ghost use Rattle.std.specs.Prelude.{◌≡◌, ◌+◌, ◌≤◌, ◌<◌, ◌^◌, length}ghost use Rattle.std.specs.Prelude.{◌≡◌, ◌+◌, ◌≤◌, ◌<◌, ◌^◌, length};
-ghost use Rattle.predicate.specs.Rows.{ROW, level_at, is_row, is_below, row_passes, of_kind, of_node}ghost use Rattle.predicate.specs.Rows.{ROW, level_at, is_row, is_below, row_passes, of_kind, of_node};
-ghost use Rattle.predicate.specs.Eval.{Finds, Skips}ghost use Rattle.predicate.specs.Eval.{Finds, Skips};
+ghost use Rattle.std.specs.Prelude.{◌≡◌, ◌+◌, ◌≤◌, ◌<◌, ◌^◌, length};
+ghost use Rattle.predicate.specs.Rows.{ROW, level_at, is_row, is_below, row_passes, of_kind, of_node};
+ghost use Rattle.predicate.specs.Eval.{Finds, Skips};
 
 use matching::search::Found;
 use syntax::kind;

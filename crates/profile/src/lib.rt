@@ -1,8 +1,8 @@
 // Members that are alike: what most predicates ask of a member is one of some thousand numbers, its profile; and whether a node of a
 // predicate asks for more. Any image, member and profile is taken.
-ghost use Rattle.std.specs.Prelude.{◌≡◌, ◌<◌}ghost use Rattle.std.specs.Prelude.{◌≡◌, ◌<◌};
-ghost use Rattle.board.specs.Image.{field, severity}ghost use Rattle.board.specs.Image.{field, severity};
-ghost use Rattle.profile.specs.Profile.{holds, held_part, of_component, of_feature, of_diagnostic, wired_in, owned_profile, profile_of, wiring_held, asks_wiring, asks_more, asks_part, asks_of_feature, asks_field}ghost use Rattle.profile.specs.Profile.{holds, held_part, of_component, of_feature, of_diagnostic, wired_in, owned_profile, profile_of, wiring_held, asks_wiring, asks_more, asks_part, asks_of_feature, asks_field};
+ghost use Rattle.std.specs.Prelude.{◌≡◌, ◌<◌};
+ghost use Rattle.board.specs.Image.{field, severity};
+ghost use Rattle.profile.specs.Profile.{holds, held_part, of_component, of_feature, of_diagnostic, wired_in, owned_profile, profile_of, wiring_held, asks_wiring, asks_more, asks_part, asks_of_feature, asks_field};
 
 use board::image;
 use board::image::Section;

@@ -1,7 +1,7 @@
 // A reader holds the lent token rows and its place in them. What it is asked is done by functions on rows and place,
 // which are covered; those that take or make a reader are thin, and each is proved by hand.
-ghost use Rattle.std.specs.Prelude.{◌≡◌}ghost use Rattle.std.specs.Prelude.{◌≡◌};
-ghost use Rattle.reader.specs.Reader.{kind_at, past_ws, current_kind}ghost use Rattle.reader.specs.Reader.{kind_at, past_ws, current_kind};
+ghost use Rattle.std.specs.Prelude.{◌≡◌};
+ghost use Rattle.reader.specs.Reader.{kind_at, past_ws, current_kind};
 
 use syntax::kind;
 

@@ -1,7 +1,7 @@
 // Replays fixed cases, one after the other, and prints what the proved code gives for each: every row, and the messages. Standard input
 // has the cases and the file `stdout` the answers of the Rust, both written by the oracle. A case is `TOKENS TREE ERRORS LENGTH:` and the
 // rule's bytes and a line feed: the lengths of the three tables in numbers, and of the rule in bytes.
-ghost use Rattle.std.specs.Prelude.{◌≡◌, ◌≤◌, length}ghost use Rattle.std.specs.Prelude.{◌≡◌, ◌≤◌, length};
+ghost use Rattle.std.specs.Prelude.{◌≡◌, ◌≤◌, length};
 
 use libc::STDOUT_FILENO;
 use message::Message;

@@ -1,7 +1,7 @@
 // The first two lines: the verdict, and what the rule comes to.
-ghost use Rattle.std.specs.Prelude.{◌++◌}ghost use Rattle.std.specs.Prelude.{◌++◌};
-ghost use Rattle.texts.specs.Append.{Appends}ghost use Rattle.texts.specs.Append.{Appends};
-ghost use Rattle.report.specs.Answer.{head_text, verdict_text, outcome_text, refusal_text, value_text, truth_text, counted}ghost use Rattle.report.specs.Answer.{head_text, verdict_text, outcome_text, refusal_text, value_text, truth_text, counted};
+ghost use Rattle.std.specs.Prelude.{◌++◌};
+ghost use Rattle.texts.specs.Append.{Appends};
+ghost use Rattle.report.specs.Answer.{head_text, verdict_text, outcome_text, refusal_text, value_text, truth_text, counted};
 
 use calls::value::{Outcome, Value, Verdict};
 use calls::verdict;

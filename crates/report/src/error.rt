@@ -1,6 +1,6 @@
 // A parse error: its message, and its place in the rule.
-ghost use Rattle.texts.specs.Append.{Appends}ghost use Rattle.texts.specs.Append.{Appends};
-ghost use Rattle.report.specs.Error.{message_text, error_text}ghost use Rattle.report.specs.Error.{message_text, error_text};
+ghost use Rattle.texts.specs.Append.{Appends};
+ghost use Rattle.report.specs.Error.{message_text, error_text};
 
 use message::Message;
 use texts::place;

@@ -2,7 +2,7 @@
 // boards and the runs, and the file `stdout` the answers of the Rust, all written by the oracle. First stands the number of boards and a
 // line feed, then each board: `LENGTH:`, its bytes and a line feed. A run is `BOARD TOKENS TREE ERRORS COLLECTION LENGTH:`, the rule's
 // bytes and a line feed: the board by its index, the lengths of the four tables in numbers, and of the rule in bytes.
-ghost use Rattle.std.specs.Prelude.{◌≡◌, ◌≤◌, length}ghost use Rattle.std.specs.Prelude.{◌≡◌, ◌≤◌, length};
+ghost use Rattle.std.specs.Prelude.{◌≡◌, ◌≤◌, length};
 
 use calls::value::{Outcome, Value, Verdict};
 use libc::STDOUT_FILENO;

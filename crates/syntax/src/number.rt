@@ -1,5 +1,5 @@
 // Numbers.
-ghost use Rattle.std.specs.Prelude.{◌≡◌, min}ghost use Rattle.std.specs.Prelude.{◌≡◌, min};
+ghost use Rattle.std.specs.Prelude.{◌≡◌, min};
 
 // The lesser of two numbers.
 pub fn least(a: usize, b: usize) -> usize

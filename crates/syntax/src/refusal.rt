@@ -1,6 +1,6 @@
 // The refusals, in the order in which they are checked.
-ghost use Rattle.std.specs.Prelude.{◌≡◌}ghost use Rattle.std.specs.Prelude.{◌≡◌};
-ghost use Rattle.syntax.specs.Refusal.{refusal_number}ghost use Rattle.syntax.specs.Refusal.{refusal_number};
+ghost use Rattle.std.specs.Prelude.{◌≡◌};
+ghost use Rattle.syntax.specs.Refusal.{refusal_number};
 
 // Why a rule, its tables or a board image is turned away.
 #[derive(Drop)]

@@ -1,6 +1,6 @@
 // Texts as slices of bytes.
-ghost use Rattle.std.specs.Prelude.{◌≡◌}ghost use Rattle.std.specs.Prelude.{◌≡◌};
-ghost use Rattle.syntax.specs.Text.{same, bytes_between}ghost use Rattle.syntax.specs.Text.{same, bytes_between};
+ghost use Rattle.std.specs.Prelude.{◌≡◌};
+ghost use Rattle.syntax.specs.Text.{same, bytes_between};
 
 use crate::number;
 

@@ -1,8 +1,8 @@
 // UTF-8: whether bytes are a well-formed text. Most texts are ASCII alone, which one quick pass tells; any other is read byte by byte, with
 // nothing kept but what the next byte must be.
-ghost use Rattle.std.specs.Prelude.{◌≡◌, ◌<◌, max}ghost use Rattle.std.specs.Prelude.{◌≡◌, ◌<◌, max};
-ghost use Rattle.syntax.specs.Utf8.{utf8, is_ascii}ghost use Rattle.syntax.specs.Utf8.{utf8, is_ascii};
-ghost use Rattle.syntax.specs.Utf8Scan.{ILL, Steps, lead_count, lead_low, lead_high}ghost use Rattle.syntax.specs.Utf8Scan.{ILL, Steps, lead_count, lead_low, lead_high};
+ghost use Rattle.std.specs.Prelude.{◌≡◌, ◌<◌, max};
+ghost use Rattle.syntax.specs.Utf8.{utf8, is_ascii};
+ghost use Rattle.syntax.specs.Utf8Scan.{ILL, Steps, lead_count, lead_low, lead_high};
 
 // A count that says: no byte can mend what was read.
 const ILL: u8 = 4;

@@ -2,10 +2,10 @@
 // is cut.
 pub mod place;
 
-ghost use Rattle.std.specs.Prelude.{◌≡◌, [], ◌∷◌, ◌++◌}ghost use Rattle.std.specs.Prelude.{◌≡◌, [], ◌∷◌, ◌++◌};
-ghost use Rattle.texts.specs.Append.{Appends}ghost use Rattle.texts.specs.Append.{Appends};
-ghost use Rattle.texts.specs.Text.{number_text, shown_byte, shown}ghost use Rattle.texts.specs.Text.{number_text, shown_byte, shown};
-ghost use Rattle.texts.specs.Items.{item}ghost use Rattle.texts.specs.Items.{item};
+ghost use Rattle.std.specs.Prelude.{◌≡◌, [], ◌∷◌, ◌++◌};
+ghost use Rattle.texts.specs.Append.{Appends};
+ghost use Rattle.texts.specs.Text.{number_text, shown_byte, shown};
+ghost use Rattle.texts.specs.Items.{item};
 
 // The control character that stands above the letters.
 const DELETE: u8 = 0x7f;

@@ -1,9 +1,9 @@
 // The place of an error in a rule: its line, and a mark under the token found.
-ghost use Rattle.std.specs.Prelude.{◌≡◌, ◌++◌, ◌+◌, ◌≤◌, length}ghost use Rattle.std.specs.Prelude.{◌≡◌, ◌++◌, ◌+◌, ◌≤◌, length};
-ghost use Rattle.texts.specs.Append.{Appends}ghost use Rattle.texts.specs.Append.{Appends};
-ghost use Rattle.syntax.specs.Text.{ascii, bytes_between}ghost use Rattle.syntax.specs.Text.{ascii, bytes_between};
-ghost use Rattle.texts.specs.Text.{BLANK, shown, indented, line}ghost use Rattle.texts.specs.Text.{BLANK, shown, indented, line};
-ghost use Rattle.texts.specs.Place.{CARET, mark_place, line_start, line_end, mark_end, column, columns, place_text}ghost use Rattle.texts.specs.Place.{CARET, mark_place, line_start, line_end, mark_end, column, columns, place_text};
+ghost use Rattle.std.specs.Prelude.{◌≡◌, ◌++◌, ◌+◌, ◌≤◌, length};
+ghost use Rattle.texts.specs.Append.{Appends};
+ghost use Rattle.syntax.specs.Text.{ascii, bytes_between};
+ghost use Rattle.texts.specs.Text.{BLANK, shown, indented, line};
+ghost use Rattle.texts.specs.Place.{CARET, mark_place, line_start, line_end, mark_end, column, columns, place_text};
 
 use crate::{append, append_byte, write_shown};
 

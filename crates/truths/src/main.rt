@@ -2,7 +2,7 @@
 // `stdout` the answers of the Rust, both written by the oracle. A case is `IMAGE RULE SORT:`, the image's bytes, the rule's bytes and a
 // line feed: the lengths of image and rule in bytes, and the sort of the members, 0 components, 1 features, 2 diagnostics. The
 // predicate is that of the rule's last call.
-ghost use Rattle.std.specs.Prelude.{◌≡◌, ◌≤◌, length}ghost use Rattle.std.specs.Prelude.{◌≡◌, ◌≤◌, length};
+ghost use Rattle.std.specs.Prelude.{◌≡◌, ◌≤◌, length};
 
 use board::image;
 use board::image::Section;

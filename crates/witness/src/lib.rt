@@ -1,7 +1,7 @@
 // The rule that names the members for which a quantifier failed: `C.where(not (P))` for `C.all(P)`, `C.where(P)` for `C.none(P)`.
-ghost use Rattle.std.specs.Prelude.{◌≡◌, ◌+◌, ◌≤◌, get_or}ghost use Rattle.std.specs.Prelude.{◌≡◌, ◌+◌, ◌≤◌, get_or};
-ghost use Rattle.texts.specs.Append.{Appends}ghost use Rattle.texts.specs.Append.{Appends};
-ghost use Rattle.witness.specs.Witness.{last_call, later_call, args_text, by_word, witness_text}ghost use Rattle.witness.specs.Witness.{last_call, later_call, args_text, by_word, witness_text};
+ghost use Rattle.std.specs.Prelude.{◌≡◌, ◌+◌, ◌≤◌, get_or};
+ghost use Rattle.texts.specs.Append.{Appends};
+ghost use Rattle.witness.specs.Witness.{last_call, later_call, args_text, by_word, witness_text};
 
 use matching::search::Found;
 use predicate::node;

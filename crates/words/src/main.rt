@@ -1,7 +1,7 @@
 // Prints every text that a report is made of: each verdict and refusal, each kind of outcome, the members of a board that has each
 // word, and of the rules on standard input, which a line of `---` ends, the parse errors, or where there are none the rule that names the
 // members for which a quantifier fails.
-ghost use Rattle.std.specs.Prelude.{◌≡◌, ◌≤◌, length}ghost use Rattle.std.specs.Prelude.{◌≡◌, ◌≤◌, length};
+ghost use Rattle.std.specs.Prelude.{◌≡◌, ◌≤◌, length};
 
 use board::image::Section;
 use calls::value::{Outcome, Value, Verdict};
