@@ -2,28 +2,25 @@
 use mathlib.Core.Path.{◌≡◌, refl, sym, ap, ap₂, ◌∙◌, subst}
 use mathlib.Core.Bool.{Bool, true, false, ◌&&◌}
 use mathlib.Core.List.{List, [], ◌∷◌, ◌++◌, append_assoc, append-nil}
-use Prim.Native.Nat.{ℕ, zero, suc, ◌+◌, ◌*◌, ◌≤◌, ◌<◌}
+use Prim.Native.Nat.{ℕ, zero, suc, ◌+◌, ◌*◌, ◌≤◌}
 use native.Mathlib.Omega.{arith}
 use lib.Dec.{eqb, leb}
-use lib.ListN.{length, get_or, take, drop, length-append, length-take, get_or-append}
-use lib.Seq.{sets-eq, length-sets, take-append_seam, get_or-append-add}
+use lib.ListN.{length, take, drop, length-append, length-take}
+use lib.Seq.{sets-eq, length-sets, take-append_seam}
 use borrow.Author.Tests.{eqb-true, eqb-false, leb-true, leb-false, lt-leb}
 use Rattle.syntax.specs.Kind.{IDENT, ROOT, DOT_CALL, CALL_ARGS}
 use Rattle.syntax.proofs.BoolLaws.{whether, both}
 use Rattle.matching.specs.declared.search.Found.{Found}
-use Rattle.predicate.specs.declared.prepared.Prepared.{Prepared}
-use Rattle.predicate.specs.Truth.{first_text, truth}
+use Rattle.predicate.specs.Truth.{first_text}
 use Rattle.trees.specs.Green.{Forest}
 use Rattle.predicate.specs.Rows.{ROW, kind_at, level_at, text_at, forest_from, children_at, is_row, is_below, row_passes, of_kind, first_row}
 use Rattle.predicate.specs.Eval.{FoundAt, FoundNowhere}
 use Rattle.predicate.proofs.ForestLaws.{forest_below, forest_token, forest_node, forest_ends, children_none, found_level, found_kind, Ignores, ignored_none, ignored_found}
-use Rattle.predicate.specs.Prepared.{Prepares}
 use Rattle.predicate.proofs.NodeLaws.{row_found, row_absent}
-use Rattle.predicate.proofs.PreparedLaws.{prepared_truth_lem}
 use Rattle.meaning.specs.Calls.{Method, Where, All, Any, None, Count, Features, Diagnostics, Call, method_number}
 use Rattle.meaning.specs.Pipeline.{method_of, args_of, call_of, calls_of}
 use Rattle.calls.proofs.TableLaws.{method_at_lem}
-use Rattle.eval.specs.Ready.{CALL_ROW, call_in, calls_in, place_or, args_place, prepared_at, Answers, Asks, call_row, Puts, CallsFit, Putting, PutsRow, Holds}
+use Rattle.eval.specs.Ready.{CALL_ROW, call_in, calls_in, place_or, args_place, call_row, Puts, CallsFit, Putting, PutsRow, Holds}
 
 -- ---- the call that a row of the tree opens
 
@@ -74,11 +71,11 @@ args_small tree row = go (first_row (of_kind CALL_ARGS) tree (level_at tree row 
     go Found.Absent e = omega arith
 
 -- the row of a call stands for the call
-call_row_lem : (rule tree : List ℕ) (row : ℕ) (p : Prepared) → p.args ≡ args_place tree row → calls_in rule tree (call_row rule tree row p) ≡ call_of (children_at rule tree row) ∷ []
+call_row_lem : (rule tree : List ℕ) (row : ℕ) → calls_in rule tree (call_row rule tree row) ≡ call_of (children_at rule tree row) ∷ []
 unfolding calls_in
-call_row_lem rule tree row p e =
+call_row_lem rule tree row =
     ap (λ (c : Call). c ∷ [])
-    (λ i. record { method = method_at_lem (method_of (first_text IDENT (children_at rule tree row))) i; args = (ap (children_at rule tree) e ∙ args_placed rule tree row) i })
+    (λ i. record { method = method_at_lem (method_of (first_text IDENT (children_at rule tree row))) i; args = args_placed rule tree row i })
 
 pub method_small : (m : Method) {n : ℕ} → n ≡ method_number m → n ≤ method_number Diagnostics
 method_small Where e = omega arith
@@ -140,37 +137,9 @@ unfolding calls_in
 calls_append rule tree zero [] ys e = refl
 calls_append rule tree (suc k) [] ys e = absurd (omega arith)
 calls_append rule tree k (a ∷ []) ys e = absurd (omega arith)
-calls_append rule tree k (a ∷ b ∷ []) ys e = absurd (omega arith)
-calls_append rule tree k (a ∷ b ∷ c ∷ []) ys e = absurd (omega arith)
-calls_append rule tree zero (a ∷ b ∷ c ∷ d ∷ xs) ys e = absurd (omega arith)
-calls_append rule tree (suc k) (a ∷ b ∷ c ∷ d ∷ xs) ys e =
+calls_append rule tree zero (a ∷ b ∷ xs) ys e = absurd (omega arith)
+calls_append rule tree (suc k) (a ∷ b ∷ xs) ys e =
     ap (λ (cs : List Call). call_in rule tree a b ∷ cs) (calls_append rule tree k xs ys (omega (arith, e)))
-
--- a predicate made ready answers as the one in the CALL_ARGS of which it was made
-pub prepares_answers : {rule tree : List ℕ} {args : ℕ} {p : Prepared} → Prepares rule tree args p → Answers rule tree p
-prepares_answers {rule} {tree} r = record { so = λ image m. prepared_truth_lem r image m ∙ ap (λ (at : ℕ). truth image m (children_at rule tree at)) (sym r.place) }
-
--- a row behind others whose predicates are made ready
-pub asks_append : {rule tree : List ℕ} (k : ℕ) (xs : List ℕ) (method : ℕ) (p : Prepared) → length xs ≡ CALL_ROW * k → Asks rule tree xs → Answers rule tree p
-    → Asks rule tree (xs ++ (method ∷ p.args ∷ p.ask ∷ p.string ∷ []))
-asks_append {rule} {tree} k xs method p e a q = record { each = λ i h. whether (eqb i k) (here i) (before i h) }
-  where
-    ys : List ℕ
-    ys = method ∷ p.args ∷ p.ask ∷ p.string ∷ []
-
-    behind : (j : ℕ) → get_or (xs ++ ys) (CALL_ROW * k + j) 0 ≡ get_or ys j 0
-    behind j = ap (λ (n : ℕ). get_or (xs ++ ys) (n + j) 0) (sym e) ∙ get_or-append-add xs ys j 0
-
-    here : (i : ℕ) → eqb i k ≡ true → Answers rule tree (prepared_at (xs ++ ys) i)
-    here i t =
-        subst (λ (n : ℕ). Answers rule tree (prepared_at (xs ++ ys) n)) (sym (eqb-true i k t))
-        (subst (Answers rule tree) (λ n. record { args = sym (behind 1) n; ask = sym (behind 2) n; string = sym (behind 3) n }) q)
-
-    before : (i : ℕ) → CALL_ROW * i + CALL_ROW ≤ length (xs ++ ys) → eqb i k ≡ false → Answers rule tree (prepared_at (xs ++ ys) i)
-    before i h t =
-        let l : CALL_ROW * i + CALL_ROW ≤ length xs = omega (arith, e, h, length-append xs ys, eqb-false i k t) in
-        let same : (j : ℕ) → CALL_ROW * i + j < length xs → get_or xs (CALL_ROW * i + j) 0 ≡ get_or (xs ++ ys) (CALL_ROW * i + j) 0 = λ j s. sym (get_or-append xs ys 0 (CALL_ROW * i + j) s) in
-        subst (Answers rule tree) (λ n. record { args = same 1 (omega (arith, l)) n; ask = same 2 (omega (arith, l)) n; string = same 3 (omega (arith, l)) n }) (a.each i l)
 
 module _ (rule tree : List ℕ) (level row count : ℕ) {before : List ℕ} (h : row + ROW ≤ length tree) (f : CallsFit rule tree level row before count) where
   -- the row opens no call
@@ -183,7 +152,6 @@ module _ (rule tree : List ℕ) (level row count : ℕ) {before : List ℕ} (h :
           fit = record { room = subst (λ (cs : List Call). CALL_ROW * (count + length cs) ≤ length before) e f.room };
           number = subst (λ (cs : List Call). count + length cs ≡ length all) e q.number;
           calls = subst (λ (cs : List Call). calls_in rule tree (take (CALL_ROW * count) before) ++ cs ≡ all) e q.calls;
-          asks = q.asks;
         };
       }
 
@@ -207,27 +175,26 @@ module _ (rule tree : List ℕ) (level row count : ℕ) {before : List ℕ} (h :
                 ∙ append_assoc (calls_in rule tree (take (CALL_ROW * count) before)) (call_of (children_at rule tree row) ∷ []) (calls_of (forest_from rule tree level (row + ROW)))
                 ∙ ap (λ (cs : List Call). calls_in rule tree (take (CALL_ROW * count) before) ++ cs) (sym opens)
                 ∙ q.calls;
-            asks = subst (Asks rule tree) (sym taken) (asks_append count (take (CALL_ROW * count) before) _ w.prepared front q.asks w.answers);
           };
         }
       where
         long : length after ≡ length before
-        long = ap length w.rows ∙ length-sets before (CALL_ROW * count) (call_row rule tree row w.prepared)
+        long = ap length w.rows ∙ length-sets before (CALL_ROW * count) (call_row rule tree row)
 
         front : length (take (CALL_ROW * count) before) ≡ CALL_ROW * count
         front = length-take (CALL_ROW * count) before ∙ omega (arith, puts_room)
 
-        taken : take (CALL_ROW * (count + 1)) after ≡ take (CALL_ROW * count) before ++ call_row rule tree row w.prepared
+        taken : take (CALL_ROW * (count + 1)) after ≡ take (CALL_ROW * count) before ++ call_row rule tree row
         taken =
-            let n : CALL_ROW * (count + 1) ≡ length (take (CALL_ROW * count) before ++ call_row rule tree row w.prepared) = omega (arith, front, length-append (take (CALL_ROW * count) before) (call_row rule tree row w.prepared)) in
-            ap₂ take n (w.rows ∙ sets-eq (call_row rule tree row w.prepared) before (CALL_ROW * count) (omega (arith, puts_room)))
-            ∙ take-append_seam (take (CALL_ROW * count) before ++ call_row rule tree row w.prepared) (drop (CALL_ROW * count + length (call_row rule tree row w.prepared)) before)
+            let n : CALL_ROW * (count + 1) ≡ length (take (CALL_ROW * count) before ++ call_row rule tree row) = omega (arith, front, length-append (take (CALL_ROW * count) before) (call_row rule tree row)) in
+            ap₂ take n (w.rows ∙ sets-eq (call_row rule tree row) before (CALL_ROW * count) (omega (arith, puts_room)))
+            ∙ take-append_seam (take (CALL_ROW * count) before ++ call_row rule tree row) (drop (CALL_ROW * count + length (call_row rule tree row)) before)
 
         rows : calls_in rule tree (take (CALL_ROW * (count + 1)) after) ≡ calls_in rule tree (take (CALL_ROW * count) before) ++ (call_of (children_at rule tree row) ∷ [])
         rows =
             ap (calls_in rule tree) taken
-            ∙ calls_append rule tree count (take (CALL_ROW * count) before) (call_row rule tree row w.prepared) front
-            ∙ ap (λ (cs : List Call). calls_in rule tree (take (CALL_ROW * count) before) ++ cs) (call_row_lem rule tree row w.prepared w.place)
+            ∙ calls_append rule tree count (take (CALL_ROW * count) before) (call_row rule tree row) front
+            ∙ ap (λ (cs : List Call). calls_in rule tree (take (CALL_ROW * count) before) ++ cs) (call_row_lem rule tree row)
 
 -- ---- all calls of a pipeline
 
@@ -244,7 +211,7 @@ walking_start rule tree at level rows h e r =
     (record {
       within = h;
       long = refl;
-      putting = record { fit = record { room = omega (arith, r) }; number = omega arith; calls = refl; asks = record { each = λ i h. absurd (omega arith) } };
+      putting = record { fit = record { room = omega (arith, r) }; number = omega arith; calls = refl };
     })
 
 module _ {rule tree : List ℕ} {at level row : ℕ} {before rows : List ℕ} {count : ℕ} (w : Walking rule tree at level row before rows count) where
@@ -259,5 +226,4 @@ module _ {rule tree : List ℕ} {at level row : ℕ} {before rows : List ℕ} {c
         number = omega (arith, subst (λ (cs : List Call). count + length cs ≡ length (calls_of (children_at rule tree at))) none w.putting.number);
         room = omega (arith, subst (λ (cs : List Call). CALL_ROW * (count + length cs) ≤ length rows) none w.putting.fit.room);
         calls = sym (append-nil _) ∙ subst (λ (cs : List Call). calls_in rule tree (take (CALL_ROW * count) rows) ++ cs ≡ calls_of (children_at rule tree at)) none w.putting.calls;
-        asks = w.putting.asks;
       }

@@ -11,7 +11,7 @@ use lib.Seq.{length-take-le, get_or-drop, get_or-take, get_or-set_same, get_or-s
 use borrow.Author.Tests.{lt-ltb, le-ltb, le-leb, lt-leb, eq-eqb, ne_eqb, ltb-true, ltb-false, not-true, not-false}
 use Rattle.syntax.specs.Kind.{COMPARE_EXPR, CALL_EXPR, ROOT}
 use Rattle.syntax.specs.Text.{bytes_between}
-use Rattle.syntax.proofs.BoolLaws.{whether, both, one_small, one_same}
+use Rattle.syntax.proofs.BoolLaws.{whether, both}
 use Rattle.trees.specs.Green.{Forest, nil, leaf, node}
 use Rattle.board.specs.Image.{component_count}
 use Rattle.matching.specs.Search.{property_set_of, property_name_of}
@@ -36,6 +36,20 @@ NodesTold rule tree memo m (leaf t f) = NodesTold rule tree memo m f
 NodesTold rule tree memo m (node k s f) = Told rule tree memo m k s × (NodesTold rule tree memo m s × NodesTold rule tree memo m f)
 
 -- ---- the bits of a member
+
+-- 1 or 0 by a test
+abbrev one_if : Bool → ℕ
+one_if t = cond t 1 0
+
+one_small : (t : Bool) → one_if t ≤ 1
+one_small true = omega arith
+one_small false = omega arith
+
+one_same : (s t : Bool) → one_if s ≡ one_if t → s ≡ t
+one_same true true e = refl
+one_same true false e = absurd (omega arith)
+one_same false true e = absurd (omega arith)
+one_same false false e = refl
 
 bit_small : (memo : List ℕ) (most c j : ℕ) → bit_at memo most c j ≤ 1
 unfolding bit_at
@@ -124,28 +138,28 @@ bit_same memo most c d e j h = go j h
 module _ {rule image tree memo : List ℕ} (w : Marks rule image tree memo) where
   -- a bit by the `has` of its row
   module _ (j : ℕ) (h : PLACES + j < length memo) where
-    bit_component : (c : ℕ) → has_marks image c ≡ true → bit_at memo OF_COMPONENT c j ≡ cond (has image (Component c) (value_in rule tree memo j)) 1 0
+    bit_component : (c : ℕ) → has_marks image c ≡ true → bit_at memo OF_COMPONENT c j ≡ one_if (has image (Component c) (value_in rule tree memo j))
     unfolding bit_at has
     bit_component c i =
-        rw (lt-ltb (PLACES + j) (length memo) h, w.so j c h i, by (has_property_of image c (value_in rule tree memo j)) (has_feature image c (value_in rule tree memo j)))
+        rw (lt-ltb (PLACES + j) (length memo) h, w.so j c h i) (by (has_property_of image c (value_in rule tree memo j)) (has_feature image c (value_in rule tree memo j)))
       where
-        by : (p f : Bool) → not (eqb (mark_by p f) 0) && leb (mark_by p f) OF_COMPONENT ≡ p || f
+        by : (p f : Bool) → one_if (not (eqb (mark_by p f) 0) && leb (mark_by p f) OF_COMPONENT) ≡ one_if (p || f)
         by true f = refl
         by false true = refl
         by false false = refl
 
-    bit_feature : (c f : ℕ) → has_marks image c ≡ true → bit_at memo OF_FEATURE c j ≡ cond (has image (Feature c f) (value_in rule tree memo j)) 1 0
+    bit_feature : (c f : ℕ) → has_marks image c ≡ true → bit_at memo OF_FEATURE c j ≡ one_if (has image (Feature c f) (value_in rule tree memo j))
     unfolding bit_at has
     bit_feature c f i =
-        rw (lt-ltb (PLACES + j) (length memo) h, w.so j c h i, by (has_property_of image c (value_in rule tree memo j)) (has_feature image c (value_in rule tree memo j)))
+        rw (lt-ltb (PLACES + j) (length memo) h, w.so j c h i) (by (has_property_of image c (value_in rule tree memo j)) (has_feature image c (value_in rule tree memo j)))
       where
-        by : (p f : Bool) → not (eqb (mark_by p f) 0) && leb (mark_by p f) OF_FEATURE ≡ p
+        by : (p f : Bool) → one_if (not (eqb (mark_by p f) 0) && leb (mark_by p f) OF_FEATURE) ≡ one_if p
         by true f = refl
         by false true = refl
         by false false = refl
 
     -- what the bits of two components tell of this row is the same where their bits are
-    same_here : (most c d : ℕ) (s t : Bool) → (has_marks image c ≡ true → bit_at memo most c j ≡ cond s 1 0) → (has_marks image d ≡ true → bit_at memo most d j ≡ cond t 1 0)
+    same_here : (most c d : ℕ) (s t : Bool) → (has_marks image c ≡ true → bit_at memo most c j ≡ one_if s) → (has_marks image d ≡ true → bit_at memo most d j ≡ one_if t)
         → bits_at image memo most c ≡ bits_at image memo most d → bits_at image memo most c < NO_BITS → s ≡ t
     same_here most c d s t p q e l =
         let k : bits_at image memo most d < NO_BITS = omega arith in

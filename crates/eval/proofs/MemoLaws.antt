@@ -11,16 +11,13 @@ use lib.Seq.{get_or-set_same, get_or-set_other, get_or-take, take-set-lt}
 use Rattle.syntax.proofs.BoolLaws.{whether}
 use Rattle.instance.specs.Instance.{owners_wired}
 use Rattle.predicate.specs.declared.atom.Member.{Member}
-use Rattle.predicate.specs.declared.prepared.Prepared.{Prepared}
 use Rattle.predicate.specs.Truth.{truth}
 use Rattle.predicate.specs.Rows.{children_at}
-use Rattle.predicate.specs.Prepared.{prepared_truth}
 use Rattle.profile.specs.declared.Profile.{Profile}
 use Rattle.profile.specs.declared.Profile.TheVariants.{Number, Unknown}
 use Rattle.profile.specs.Profile.{PROFILES, WIRING_OF_FEATURES, holds, profile_of}
 use Rattle.profile.proofs.ProfileLaws.{profile_small}
 use Rattle.eval.specs.Marked.{NO_BITS, MARKS, PLACES, MEMO, bits_of, held_in, Marks, TellsBelow, Made}
-use Rattle.eval.specs.Ready.{CALL_ROW, prepared_at, Asks}
 use Rattle.eval.specs.Memo.{NOTED_CALLS, WAY_NOTES, PLAIN, NO_PLACE, NOT_KNOWN, known, args_of, byte_of, place_by, plain_place, place_of, note_in, Notes, Placed, Asked, Noted, kept, made}
 use Rattle.eval.proofs.MarkedLaws.{alike_has, told_rows, bits_nowhere, Kept, kept_set, marks_kept, bits_kept, marks_none, made_length, made_marks}
 
@@ -134,13 +131,12 @@ unfolding holds
 nothing_held h = false≢true h
 
 -- its first byte says what profiles hold
-module _ {rule image tree calls memo : List ℕ} (asks : Asks rule tree calls) (v : ℕ) (marks : Marks rule image tree memo) (room : 0 < length memo) (few : length memo ≤ MEMO)
+module _ {rule image tree memo : List ℕ} (calls : List ℕ) (v : ℕ) (marks : Marks rule image tree memo) (room : 0 < length memo) (few : length memo ≤ MEMO)
     (clear : (x : ℕ) → x < MARKS → get_or memo x 0 ≡ 0) (h : holds v WIRING_OF_FEATURES ≡ true → owners_wired image ≡ true) where
   notes_begun : Notes rule image tree calls (set memo 0 v)
   notes_begun =
       let long = length-set memo 0 v in
       record {
-        asks = asks;
         room = omega arith;
         marks = marks_kept (kept_set memo 0 v (omega arith)) marks;
         wired = λ l. h (ap (λ (x : ℕ). holds x WIRING_OF_FEATURES) (sym (get_or-set_same memo 0 v 0 (omega arith))) ∙ l);
@@ -150,21 +146,20 @@ module _ {rule image tree calls memo : List ℕ} (asks : Asks rule tree calls) (
       }
 
 -- one without marks
-module _ {rule tree calls : List ℕ} (image : List ℕ) (asks : Asks rule tree calls) where
+module _ (rule image tree calls : List ℕ) where
   blank_marks : (n : ℕ) → n ≤ PLAIN → Marks rule image tree (replicate n 0)
   blank_marks n h = marks_none rule image tree (replicate n 0) (omega (arith, length-replicate {A = ℕ} n 0))
 
   pub notes_plain : (v : ℕ) → (holds v WIRING_OF_FEATURES ≡ true → owners_wired image ≡ true) → Notes rule image tree calls (set (replicate PLAIN 0) 0 v)
   notes_plain v h =
       let long = length-replicate {A = ℕ} PLAIN 0 in
-      notes_begun asks v (blank_marks PLAIN (omega arith)) (omega arith) (omega arith) (λ x l. zeros PLAIN x) h
+      notes_begun calls v (blank_marks PLAIN (omega arith)) (omega arith) (omega arith) (λ x l. zeros PLAIN x) h
 
   -- in which nothing is held, of any length
   pub notes_none : (n : ℕ) → 0 < n → n ≤ PLAIN → Notes rule image tree calls (replicate n 0)
   notes_none n h l =
       let long = length-replicate {A = ℕ} n 0 in
       record {
-        asks = asks;
         room = omega arith;
         marks = blank_marks n l;
         wired = λ t. absurd (nothing_held (ap (λ (x : ℕ). holds x WIRING_OF_FEATURES) (sym (zeros n 0)) ∙ t));
@@ -176,17 +171,11 @@ module _ {rule image tree memo : List ℕ} {n : ℕ} (w : Made rule image tree m
   pub front_length : length (take (PLACES + n) (set memo 0 v)) ≡ PLACES + n
   front_length = ap length (take-set-lt (PLACES + n) memo 0 v (omega arith)) ∙ length-set (take (PLACES + n) memo) 0 v ∙ made_length w
 
-  pub notes_front : {calls : List ℕ} → Asks rule tree calls → (holds v WIRING_OF_FEATURES ≡ true → owners_wired image ≡ true) → Notes rule image tree calls (take (PLACES + n) (set memo 0 v))
-  notes_front {calls} asks h =
+  pub notes_front : (calls : List ℕ) → (holds v WIRING_OF_FEATURES ≡ true → owners_wired image ≡ true) → Notes rule image tree calls (take (PLACES + n) (set memo 0 v))
+  notes_front calls h =
       let long = made_length w in
       subst (Notes rule image tree calls) (sym (take-set-lt (PLACES + n) memo 0 v (omega arith)))
-      (notes_begun asks v (made_marks w) (omega arith) (omega (arith, w.most)) (λ x l. get_or-take (PLACES + n) memo x 0 (omega arith) ∙ w.clear x l) h)
-
--- ---- a predicate asked as it was made ready
-
-pub asked_value : {rule tree calls : List ℕ} → Asks rule tree calls → (image : List ℕ) (m : Member) (i : ℕ) {p : Prepared} {r : Bool} → CALL_ROW * i + CALL_ROW ≤ length calls → p ≡ prepared_at calls i
-    → r ≡ prepared_truth rule image tree m p → r ≡ truth image m (children_at rule tree (args_of calls i))
-asked_value {rule} {tree} a image m i h e t = t ∙ ap (prepared_truth rule image tree m) e ∙ (a.each i h).so image m
+      (notes_begun calls v (made_marks w) (omega arith) (omega (arith, w.most)) (λ x l. get_or-take (PLACES + n) memo x 0 (omega arith) ∙ w.clear x l) h)
 
 -- ---- a byte written
 
@@ -206,10 +195,6 @@ byte_says false false true e = absurd (omega arith)
 byte_says false false false e = (refl, refl)
 
 module _ {rule image tree calls memo : List ℕ} (n : Notes rule image tree calls memo) where
-  -- one that was asked, and is not noted
-  pub asked_plain : {i : ℕ} {m : Member} {r : Bool} → r ≡ truth image m (children_at rule tree (args_of calls i)) → Asked rule image tree calls i m memo memo r
-  asked_plain e = record { value = e; notes = n; held = refl; long = refl }
-
   -- an answer that was noted
   pub asked_known : {i place x : ℕ} {m : Member} {r : Bool} → Placed image memo m place → x ≡ note_in memo i place → x ≡ known r → Asked rule image tree calls i m memo memo r
   asked_known {i} {r = r} p e f = record { value = sym (p.told rule tree calls n i r (sym e ∙ f)); notes = n; held = refl; long = refl }
@@ -275,7 +260,6 @@ module _ {rule image tree calls memo : List ℕ} (n : Notes rule image tree call
     notes_noted : Notes rule image tree calls (set memo (place + PROFILES * i) (byte_of more r))
     notes_noted =
         record {
-          asks = n.asks;
           room = omega (arith, n.room, same.long);
           marks = marks_kept same n.marks;
           wired = λ l. n.wired (ap (λ (x : ℕ). holds x WIRING_OF_FEATURES) (sym held_kept) ∙ l);
@@ -284,11 +268,10 @@ module _ {rule image tree calls memo : List ℕ} (n : Notes rule image tree call
               ((λ t. note_in (set memo (place + PROFILES * i) (byte_of more r)) j (place_by (profile_of image (sym held_kept t) o) (sym (bits_kept same image o) t))) ∙ e);
         }
 
-  pub asked_noted : {i place args : ℕ} {m : Member} {r : Bool} {after : List ℕ} → Placed image memo m place → r ≡ truth image m (children_at rule tree (args_of calls i))
-      → args ≡ args_of calls i → Noted rule tree args m i place r memo after → Asked rule image tree calls i m memo after r
-  asked_noted p value is (kept e) = record { value = value; notes = subst (Notes rule image tree calls) (sym e) n; held = ap held_in e; long = ap length e }
-  asked_noted {i} {place} {args} {m} {r} p value is (made more s h tells e) =
-      let below : TellsBelow rule tree (args_of calls i) m memo more = subst (λ (at : ℕ). TellsBelow rule tree at m memo more) is tells in
+  pub asked_noted : {i place : ℕ} {m : Member} {r : Bool} {after : List ℕ} → Placed image memo m place → r ≡ truth image m (children_at rule tree (args_of calls i))
+      → Noted rule tree (args_of calls i) m i place r memo after → Asked rule image tree calls i m memo after r
+  asked_noted p value (kept e) = record { value = value; notes = subst (Notes rule image tree calls) (sym e) n; held = ap held_in e; long = ap length e }
+  asked_noted {i} {place} {m} {r} p value (made more s h below e) =
       record {
         value = value;
         notes = subst (Notes rule image tree calls) (sym e) (notes_noted i place m r more p s h value below);

@@ -20,7 +20,6 @@ use Rattle.predicate.specs.declared.atom.Member.TheVariants.{Component}
 use Rattle.predicate.specs.Truth.{first_text}
 use Rattle.predicate.specs.Rows.{ROW, kind_at as treeKind, level_at, children_at, of_node, first_row}
 use Rattle.predicate.specs.Eval.{FoundAt, FoundNowhere}
-use Rattle.predicate.specs.Prepared.{TREE, prepared_truth}
 use Rattle.predicate.proofs.NodeLaws.{row_absent}
 use Rattle.meaning.specs.Value.{Outcome, boolean, refused, Kind, sort_kind, collection_table, with_members}
 use Rattle.meaning.specs.Calls.{Method, Where, All, Any, None, Count, Features, Diagnostics, Call, next, calls_give, method_number, kind_number, true_for}
@@ -38,12 +37,12 @@ use Rattle.calls.specs.Table.{method_at, kind_at}
 use Rattle.calls.proofs.CompareLaws.{against_for, against_integer}
 use Rattle.calls.proofs.TableLaws.{method_at_lem, kind_at_lem}
 use Rattle.eval.specs.declared.walk.Tally.{Tally}
-use Rattle.eval.specs.Ready.{CALL_ROW, call_in, calls_in, Asks, source_sort, source_members, LastMethod, Ready, Refuses}
+use Rattle.eval.specs.Ready.{CALL_ROW, call_in, calls_in, source_sort, source_members, LastMethod, Ready, Refuses}
 use Rattle.eval.specs.Feed.{State, state_of, listed, decided, Decides, Stands, walked}
-use Rattle.eval.specs.Pipeline.{FewCalls, RoomForCalls, Evaluates, Counts, OperatorAt, Gives}
+use Rattle.eval.specs.Pipeline.{CALLS, FewCalls, Evaluates, Counts, OperatorAt, Gives}
 use Rattle.eval.proofs.ReadyLaws.{kind_number_lem, count_no_quantifier}
-use Rattle.eval.proofs.CallLaws.{calls_append, asks_append}
-use Rattle.eval.proofs.TableLaws.{call_put}
+use Rattle.eval.proofs.CallLaws.{calls_append}
+use Rattle.eval.proofs.TableLaws.{row_put}
 use Rattle.eval.proofs.PlanLaws.{node_first, node_none, source_found}
 
 -- ---- the calls of a tree are few
@@ -56,7 +55,7 @@ calls_fewer (node k s f) =
     let h = calls_fewer f in
     whether (eqb k DOT_CALL) (λ q. rw (q, calls_of) (omega arith)) (λ q. rw (q, calls_of) (omega arith))
 
-pub calls_room : (rule tree rows : List ℕ) (at : ℕ) → FewCalls rule tree at → RoomForCalls rule rows → CALL_ROW * (length (calls_of (children_at rule tree at)) + 1) ≤ length rows
+pub calls_room : (rule tree rows : List ℕ) (at : ℕ) → FewCalls rule tree at → CALLS ≤ length rows → CALL_ROW * (length (calls_of (children_at rule tree at)) + 1) ≤ length rows
 calls_room rule tree rows at h r = omega (arith, calls_fewer (children_at rule tree at), h.few)
 
 -- so are those of the first node in it
@@ -233,13 +232,13 @@ count_lists (c ∷ calls) call ms e = whether (is_last c.method) (λ q. rw q ref
 module _ (rule image tree : List ℕ) (source : ℕ) (rows : List ℕ) (count : ℕ) (h : CALL_ROW * (count + 1) ≤ length rows) where
   -- the rows with that of `count` behind the first ones
   abbrev counted : List ℕ
-  counted = set (set (set (set rows (CALL_ROW * count) (method_number Count)) (CALL_ROW * count + 1) 0) (CALL_ROW * count + 2) 0) (CALL_ROW * count + 3) 0
+  counted = set (set rows (CALL_ROW * count) (method_number Count)) (CALL_ROW * count + 1) 0
 
-  counted_is : counted ≡ sets rows (CALL_ROW * count) (method_number Count ∷ 0 ∷ 0 ∷ 0 ∷ [])
-  counted_is = call_put rows (CALL_ROW * count) (method_number Count) 0 0 0 refl refl refl refl
+  counted_is : counted ≡ sets rows (CALL_ROW * count) (method_number Count ∷ 0 ∷ [])
+  counted_is = row_put rows (CALL_ROW * count) (method_number Count) 0 refl refl
 
   pub counted_length : length counted ≡ length rows
-  counted_length = ap length counted_is ∙ length-sets rows (CALL_ROW * count) (method_number Count ∷ 0 ∷ 0 ∷ 0 ∷ [])
+  counted_length = ap length counted_is ∙ length-sets rows (CALL_ROW * count) (method_number Count ∷ 0 ∷ [])
 
   pub counted_part : CALL_ROW * count + CALL_ROW ≡ length (take (CALL_ROW * count + CALL_ROW) counted)
   counted_part = sym (length-take (CALL_ROW * count + CALL_ROW) counted ∙ omega (arith, counted_length, h))
@@ -247,22 +246,15 @@ module _ (rule image tree : List ℕ) (source : ℕ) (rows : List ℕ) (count : 
   front : length (take (CALL_ROW * count) rows) ≡ CALL_ROW * count
   front = length-take (CALL_ROW * count) rows ∙ omega (arith, h)
 
-  counted_taken : take (CALL_ROW * count + CALL_ROW) counted ≡ take (CALL_ROW * count) rows ++ (method_number Count ∷ 0 ∷ 0 ∷ 0 ∷ [])
+  counted_taken : take (CALL_ROW * count + CALL_ROW) counted ≡ take (CALL_ROW * count) rows ++ (method_number Count ∷ 0 ∷ [])
   counted_taken =
-      let n : CALL_ROW * count + CALL_ROW ≡ length (take (CALL_ROW * count) rows ++ (method_number Count ∷ 0 ∷ 0 ∷ 0 ∷ [])) = omega (arith, front, length-append (take (CALL_ROW * count) rows) (method_number Count ∷ 0 ∷ 0 ∷ 0 ∷ [])) in
-      ap₂ take n (counted_is ∙ sets-eq (method_number Count ∷ 0 ∷ 0 ∷ 0 ∷ []) rows (CALL_ROW * count) (omega (arith, h)))
-      ∙ take-append_seam (take (CALL_ROW * count) rows ++ (method_number Count ∷ 0 ∷ 0 ∷ 0 ∷ [])) (drop (CALL_ROW * count + CALL_ROW) rows)
+      let n : CALL_ROW * count + CALL_ROW ≡ length (take (CALL_ROW * count) rows ++ (method_number Count ∷ 0 ∷ [])) = omega (arith, front, length-append (take (CALL_ROW * count) rows) (method_number Count ∷ 0 ∷ [])) in
+      ap₂ take n (counted_is ∙ sets-eq (method_number Count ∷ 0 ∷ []) rows (CALL_ROW * count) (omega (arith, h)))
+      ∙ take-append_seam (take (CALL_ROW * count) rows ++ (method_number Count ∷ 0 ∷ [])) (drop (CALL_ROW * count + CALL_ROW) rows)
 
   counted_calls : calls_in rule tree (take (CALL_ROW * count + CALL_ROW) counted) ≡ calls_in rule tree (take (CALL_ROW * count) rows) ++ (call_in rule tree (method_number Count) 0 ∷ [])
   unfolding calls_in
-  counted_calls = ap (calls_in rule tree) counted_taken ∙ calls_append rule tree count (take (CALL_ROW * count) rows) (method_number Count ∷ 0 ∷ 0 ∷ 0 ∷ []) front
-
-  -- its predicate is not made ready: the tree is looked at
-  pub counted_asks : Asks rule tree (take (CALL_ROW * count) rows) → Asks rule tree (take (CALL_ROW * count + CALL_ROW) counted)
-  unfolding prepared_truth
-  counted_asks a =
-      subst (Asks rule tree) (sym counted_taken)
-      (asks_append count (take (CALL_ROW * count) rows) (method_number Count) (record { args = 0; ask = TREE; string = 0 }) front a (record { so = λ image m. refl }))
+  counted_calls = ap (calls_in rule tree) counted_taken ∙ calls_append rule tree count (take (CALL_ROW * count) rows) (method_number Count ∷ 0 ∷ []) front
 
   pub counts : {t : Tally} {table after : List ℕ}
       → Stands (method_at (method_number Count)) (state_of t after) (walked image (calls_in rule tree (take (CALL_ROW * count + CALL_ROW) counted)) (source_members image (treeKind tree source) (children_at rule tree source)) table)

@@ -24,18 +24,14 @@ calls_short : (rule tree rows : List ℕ) → length rows < CALL_ROW → calls_i
 unfolding calls_in
 calls_short rule tree [] h = refl
 calls_short rule tree (a ∷ []) h = refl
-calls_short rule tree (a ∷ b ∷ []) h = refl
-calls_short rule tree (a ∷ b ∷ c ∷ []) h = refl
-calls_short rule tree (a ∷ b ∷ c ∷ d ∷ rows) h = absurd (omega arith)
+calls_short rule tree (a ∷ b ∷ rows) h = absurd (omega arith)
 
 -- the rows from a place on: the row there, and those after it
 row_at : (rows : List ℕ) (i : ℕ) → CALL_ROW * i + CALL_ROW ≤ length rows
-    → drop (CALL_ROW * i) rows ≡ get_or rows (CALL_ROW * i) 0 ∷ get_or rows (CALL_ROW * i + 1) 0 ∷ get_or rows (CALL_ROW * i + 2) 0 ∷ get_or rows (CALL_ROW * i + 3) 0 ∷ drop (CALL_ROW * (i + 1)) rows
+    → drop (CALL_ROW * i) rows ≡ get_or rows (CALL_ROW * i) 0 ∷ get_or rows (CALL_ROW * i + 1) 0 ∷ drop (CALL_ROW * (i + 1)) rows
 row_at rows i h =
     one (CALL_ROW * i) (CALL_ROW * i + 1) (omega arith) (omega arith)
-    ∙ ap (λ (r : List ℕ). get_or rows (CALL_ROW * i) 0 ∷ r) (one (CALL_ROW * i + 1) (CALL_ROW * i + 2) (omega arith) (omega arith)
-    ∙ ap (λ (r : List ℕ). get_or rows (CALL_ROW * i + 1) 0 ∷ r) (one (CALL_ROW * i + 2) (CALL_ROW * i + 3) (omega arith) (omega arith)
-    ∙ ap (λ (r : List ℕ). get_or rows (CALL_ROW * i + 2) 0 ∷ r) (one (CALL_ROW * i + 3) (CALL_ROW * (i + 1)) (omega arith) (omega arith))))
+    ∙ ap (λ (r : List ℕ). get_or rows (CALL_ROW * i) 0 ∷ r) (one (CALL_ROW * i + 1) (CALL_ROW * (i + 1)) (omega arith) (omega arith))
   where
     one : (a b : ℕ) → suc a ≡ b → a < length rows → drop a rows ≡ get_or rows a 0 ∷ drop b rows
     one a b e l = drop-cons rows a 0 l ∙ ap (λ (n : ℕ). get_or rows a 0 ∷ drop n rows) e

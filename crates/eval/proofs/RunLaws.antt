@@ -68,7 +68,7 @@ module _ {rule tree : List ℕ} {rows errors : ℕ} (r : ReadRule rule tree rows
   pub read_few : errors ≡ 0 → FewCalls rule (take (TREE_ROW * rows) tree) 0
   read_few e =
       let root : children_at rule (take (TREE_ROW * rows) tree) 0 ≡ first_inner (parse_expr rule).made = ap (λ (t : List ℕ). children_at rule t 0) r.front ∙ root_children rule in
-      record { few = omega (arith, ap dot_calls root, inner-fewer (parse_expr rule).made, calls_bound rule, r.errors_are) }
+      record { few = omega (arith, ap dot_calls root, inner-fewer (parse_expr rule).made, calls_bound rule, r.short, r.errors_are) }
 
   pub read_given : {table after : List ℕ} {g : Given} → errors ≡ 0 → Evaluates (eval_node image (children_at rule (take (TREE_ROW * rows) tree) 0)) table after g
       → Evaluates (outcome image rule) table after g

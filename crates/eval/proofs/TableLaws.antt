@@ -92,14 +92,5 @@ row_put table at a b e f =
     let next : at + 1 ≡ suc at = omega arith in
     λ i. set (set table at (e i)) (next i) (f i)
 
--- a row of four
-pub call_put : (table : List ℕ) (at a b c d : ℕ) {k l m n : ℕ} → k ≡ a → l ≡ b → m ≡ c → n ≡ d
-    → set (set (set (set table at k) (at + 1) l) (at + 2) m) (at + 3) n ≡ sets table at (a ∷ b ∷ c ∷ d ∷ [])
-call_put table at a b c d e f g h =
-    let one : at + 1 ≡ suc at = omega arith in
-    let two : at + 2 ≡ suc (suc at) = omega arith in
-    let three : at + 3 ≡ suc (suc (suc at)) = omega arith in
-    λ i. set (set (set (set table at (e i)) (one i) (f i)) (two i) (g i)) (three i) (h i)
-
 pub put_row : (m : Member) (table : List ℕ) (at a b : ℕ) → row_of m ≡ a ∷ b ∷ [] → set (set table at a) (at + 1) b ≡ sets table at (row_of m)
 put_row m table at a b e = row_put table at a b refl refl ∙ ap (sets table at) (sym e)

@@ -8,7 +8,7 @@ use Rattle.predicate.specs.Rows.{children_at}
 use Rattle.profile.specs.declared.Profile.{Profile}
 use Rattle.profile.specs.declared.Profile.TheVariants.{Number, Unknown}
 use Rattle.profile.specs.Profile.{PROFILES, WIRING_OF_FEATURES, holds, profile_of}
-use Rattle.eval.specs.Ready.{CALL_ROW, Asks}
+use Rattle.eval.specs.Ready.{CALL_ROW}
 use Rattle.eval.specs.Marked.{NO_BITS, bits_of, held_in, Marks, TellsBelow}
 
 -- the calls whose predicates are noted
@@ -68,10 +68,9 @@ place_of image memo m = place_by (profile_of image (held_in memo) m) (bits_of im
 unfoldable pub note_in : List ℕ → ℕ → ℕ → ℕ
 note_in memo i place = cond (ltb i NOTED_CALLS) (get_or memo (place + PROFILES * i) NOT_KNOWN) NOT_KNOWN
 
--- what rows of calls and a memo say is so: the predicates that were made ready, the marks, that the owner of every connection is wired where the wiring of features is held, and each truth that is
+-- what a memo says is so: its marks, that the owner of every connection is wired where the wiring of features is held, and each truth that is
 -- noted at a member's place
 pub record Notes (rule image tree calls memo : List ℕ) : Type 0 where
-  pub asks : Asks rule tree calls
   pub room : 0 < length memo
   pub marks : Marks rule image tree memo
   pub wired : holds (held_in memo) WIRING_OF_FEATURES ≡ true → owners_wired image ≡ true

@@ -1,5 +1,6 @@
 -- What the functions of `pipeline` ask and give; no public contract needs this file. Assumes nothing: these are definitions.
 use Rattle.std.specs.Prelude.{ℕ, ◌+◌, ◌*◌, ◌≤◌, ◌≡◌, List, [], length, take}
+use Rattle.lexer.specs.Read.{MAX_RULE}
 use Rattle.trees.specs.Green.{dot_calls}
 use Rattle.board.specs.WellFormed.{WellFormed, Room}
 use Rattle.predicate.specs.declared.atom.Member.{Member}
@@ -18,13 +19,13 @@ use Rattle.eval.specs.Ready.{CALL_ROW, calls_in, source_members}
 abbrev pub MAX_ROWS : ℕ
 MAX_ROWS = 14020
 
--- the node whose row is at a place has a call for two bytes of the rule at most
-pub record FewCalls (rule tree : List ℕ) (at : ℕ) : Type 0 where
-  pub few : 2 * dot_calls (children_at rule tree at) ≤ length rule
+-- the numbers of the rows of as many calls as the longest rule may have, one for two bytes, and of one more
+abbrev pub CALLS : ℕ
+CALLS = MAX_RULE + CALL_ROW
 
--- a table has room for the rows of so many calls, and of one more
-abbrev pub RoomForCalls : (rule rows : List ℕ) → Type 0
-RoomForCalls rule rows = 2 * length rule + CALL_ROW ≤ length rows
+-- the node whose row is at a place has a call for two bytes of the longest rule at most
+pub record FewCalls (rule tree : List ℕ) (at : ℕ) : Type 0 where
+  pub few : 2 * dot_calls (children_at rule tree at) ≤ MAX_RULE
 
 -- the board is well formed, and the collection table has room for what it holds
 pub record Lent (image table : List ℕ) : Type 0 where

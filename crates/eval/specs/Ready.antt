@@ -1,6 +1,6 @@
--- The calls of a pipeline made ready for members: rows of four numbers, the call's number and three of its predicate made ready. Assumes
--- nothing: these are definitions.
-use Rattle.std.specs.Prelude.{ℕ, ◌+◌, ◌*◌, ◌≤◌, List, [], ◌∷◌, ◌++◌, map, cond, ◌≡◌, eqb, length, get_or, take, drop}
+-- The calls of a pipeline made ready for members: rows of two numbers, the call's number and the place of its CALL_ARGS in the tree
+-- table. Assumes nothing: these are definitions.
+use Rattle.std.specs.Prelude.{ℕ, ◌+◌, ◌*◌, ◌≤◌, List, [], ◌∷◌, ◌++◌, map, cond, ◌≡◌, eqb, length, take, drop}
 use Rattle.std.proofs.lemmas.List.Edits.{sets}
 use Rattle.syntax.specs.Kind.{IDENT, CALL_ARGS, IDENT_EXPR}
 use Rattle.syntax.specs.declared.refusal.Refusal.{Refusal}
@@ -9,12 +9,10 @@ use Rattle.trees.specs.Green.{Forest}
 use Rattle.board.specs.Image.{component_count, diagnostic_count}
 use Rattle.predicate.specs.declared.atom.Member.{Member}
 use Rattle.predicate.specs.declared.atom.Member.TheVariants.{Component, Diagnostic}
-use Rattle.predicate.specs.declared.prepared.Prepared.{Prepared}
-use Rattle.predicate.specs.Truth.{first_text, literal_of, truth}
+use Rattle.predicate.specs.Truth.{first_text, literal_of}
 use Rattle.predicate.specs.Rows.{ROW, level_at, forest_from, children_at, first_row, of_kind, of_node}
 use Rattle.predicate.specs.Rows.{kind_at as treeKind}
 use Rattle.predicate.specs.Eval.{FoundAt}
-use Rattle.predicate.specs.Prepared.{prepared_truth}
 use Rattle.meaning.specs.Value.{Sort, components, diagnostics, sort_kind, refused}
 use Rattle.meaning.specs.Calls.{Call, method_number, next, kept, up_from}
 use Rattle.meaning.specs.Pipeline.{is_of_analysis, method_of, calls_of, eval_pipeline}
@@ -25,7 +23,7 @@ use Rattle.calls.specs.Table.{next_of, method_at, kind_at}
 
 -- the numbers of a row
 abbrev pub CALL_ROW : ℕ
-CALL_ROW = 4
+CALL_ROW = 2
 
 -- the call that a row stands for
 abbrev pub call_in : (rule tree : List ℕ) → (method args : ℕ) → Call
@@ -40,9 +38,7 @@ unfoldable pub calls_in : (rule tree : List ℕ) → List ℕ → List Call
 unfolding method_at
 calls_in rule tree [] = []
 calls_in rule tree (method ∷ []) = []
-calls_in rule tree (method ∷ args ∷ []) = []
-calls_in rule tree (method ∷ args ∷ ask ∷ []) = []
-calls_in rule tree (method ∷ args ∷ ask ∷ string ∷ rows) = call_in rule tree method args ∷ calls_in rule tree rows
+calls_in rule tree (method ∷ args ∷ rows) = call_in rule tree method args ∷ calls_in rule tree rows
 
 -- from a place on
 unfoldable pub calls_from : (rule tree rows : List ℕ) → ℕ → List Call
@@ -58,28 +54,12 @@ unfoldable pub args_place : List ℕ → ℕ → ℕ
 unfolding first_row
 args_place tree row = place_or (length tree) (first_row (of_kind CALL_ARGS) tree (level_at tree row + 1) (row + ROW))
 
--- the predicate of call i, as its row has it made ready
-abbrev pub prepared_at : List ℕ → ℕ → Prepared
-prepared_at rows i =
-    record { args = get_or rows (CALL_ROW * i + 1) 0; ask = get_or rows (CALL_ROW * i + 2) 0; string = get_or rows (CALL_ROW * i + 3) 0 }
-
--- a predicate made ready has the truth of the one in its CALL_ARGS
-pub record Answers (rule tree : List ℕ) (p : Prepared) : Type 0 where
-  pub so : (image : List ℕ) (m : Member) → prepared_truth rule image tree m p ≡ truth image m (children_at rule tree p.args)
-
--- and so has that of each row
-pub record Asks (rule tree rows : List ℕ) : Type 0 where
-  pub each : (i : ℕ) → CALL_ROW * i + CALL_ROW ≤ length rows → Answers rule tree (prepared_at rows i)
-
--- the row of a DOT_CALL of the tree is written behind others, with its predicate made ready
-abbrev pub call_row : (rule tree : List ℕ) → ℕ → Prepared → List ℕ
-call_row rule tree row p = method_number (method_of (first_text IDENT (children_at rule tree row))) ∷ p.args ∷ p.ask ∷ p.string ∷ []
+-- the row of a DOT_CALL of the tree is written behind others
+abbrev pub call_row : (rule tree : List ℕ) → ℕ → List ℕ
+call_row rule tree row = method_number (method_of (first_text IDENT (children_at rule tree row))) ∷ args_place tree row ∷ []
 
 pub record Puts (rule tree : List ℕ) (row count : ℕ) (before after : List ℕ) : Type 0 where
-  pub prepared : Prepared
-  pub place : prepared.args ≡ args_place tree row
-  pub answers : Answers rule tree prepared
-  pub rows : after ≡ sets before (CALL_ROW * count) (call_row rule tree row prepared)
+  pub rows : after ≡ sets before (CALL_ROW * count) (call_row rule tree row)
 
 -- there is room for the calls at a level from a row of the tree on
 pub record CallsFit (rule tree : List ℕ) (level row : ℕ) (rows : List ℕ) (count : ℕ) : Type 0 where
@@ -90,7 +70,6 @@ pub record Putting (rule tree : List ℕ) (all : List Call) (level row : ℕ) (r
   pub fit : CallsFit rule tree level row rows count
   pub number : count + length (calls_of (forest_from rule tree level row)) ≡ length all
   pub calls : calls_in rule tree (take (CALL_ROW * count) rows) ++ calls_of (forest_from rule tree level row) ≡ all
-  pub asks : Asks rule tree (take (CALL_ROW * count) rows)
 
 -- one row of the tree further
 pub record PutsRow (rule tree : List ℕ) (level row : ℕ) (before : List ℕ) (count : ℕ) (after : List ℕ) (r : ℕ) : Type 0 where
@@ -102,7 +81,6 @@ pub record Holds (rule tree : List ℕ) (at : ℕ) (rows : List ℕ) (count : �
   pub number : count ≡ length (calls_of (children_at rule tree at))
   pub room : CALL_ROW * count ≤ length rows
   pub calls : calls_in rule tree (take (CALL_ROW * count) rows) ≡ calls_of (children_at rule tree at)
-  pub asks : Asks rule tree (take (CALL_ROW * count) rows)
 
 -- the kind after all calls, or the refusal of the leftmost that may not stand where it stands; and the last call. The rows say it without
 -- rule and tree

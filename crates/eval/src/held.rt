@@ -7,9 +7,9 @@ ghost use Rattle.profile.specs.Profile.{WIRING, WIRING_OF_FEATURES, CATEGORY, KI
 use crate::{marked, ready};
 use calls::method;
 use instance;
-use predicate::{atom, node, prepared, rows};
+use predicate::{node, rows};
 use profile;
-use syntax::kind;
+use syntax::{kind, text};
 
 // What a rule asks for: whether there was an IDENT_EXPR, which is the source's, and another, which is `connected`; and the fields that it
 // compares.
@@ -26,39 +26,19 @@ struct Asked {
 pub(crate) fn held(rule: &[u8], image: &[u8], tree: &[u32], calls: &[u32]) -> u8
     ensures { holds result WIRING_OF_FEATURES ≡ true → owners_wired image.now ≡ true }
 {
-    let asked = asked_by(rule, tree, calls);
+    let asked = asked_in(rule, tree);
     wiring_held(image, calls, asked.connected) + fields_held(asked)
 }
 
-fn nothing() -> Asked {
-    Asked {
+// What the first rows of a tree ask for.
+fn asked_in(rule: &[u8], tree: &[u32]) -> Asked {
+    let mut asked = Asked {
         source: false,
         connected: false,
         category: false,
         kind: false,
         direction: false,
-    }
-}
-
-// What the predicates of calls ask for: by their numbers, or by the tree's rows where one of them is no single atom.
-fn asked_by(rule: &[u8], tree: &[u32], calls: &[u32]) -> Asked {
-    let mut asked = nothing();
-    let count = calls.len() / ready::CALL_ROW;
-    let mut i = 0;
-    while i < count {
-        let ask = calls[ready::CALL_ROW * i + 2];
-        if ask == prepared::TREE {
-            return asked_in(rule, tree);
-        }
-        asked = with_atom(ask % prepared::NOT, asked);
-        i += 1;
-    }
-    asked
-}
-
-// What the first rows of a tree ask for.
-fn asked_in(rule: &[u8], tree: &[u32]) -> Asked {
-    let mut asked = nothing();
+    };
     let mut row = 0;
     while row < marked::ROWS {
         if tree.len() <= rows::ROW * row {
@@ -73,7 +53,7 @@ fn asked_in(rule: &[u8], tree: &[u32]) -> Asked {
 // With what a row of a kind asks for.
 fn with_row(rule: &[u8], tree: &[u32], at: usize, kind: u32, asked: Asked) -> Asked {
     if kind == kind::COMPARE_EXPR {
-        return with_atom(atom::field_number(node::ident(rule, tree, at)), asked);
+        return with_field(node::ident(rule, tree, at), asked);
     }
     if kind == kind::IDENT_EXPR {
         return Asked {
@@ -87,15 +67,23 @@ fn with_row(rule: &[u8], tree: &[u32], at: usize, kind: u32, asked: Asked) -> As
     asked
 }
 
-// With what an atom with this number asks for.
-fn with_atom(number: u32, asked: Asked) -> Asked {
+// With a field that is compared.
+fn with_field(field: &[u8], asked: Asked) -> Asked {
     Asked {
         source: asked.source,
-        connected: asked.connected || number == atom::CONNECTED,
-        category: asked.category || number == atom::CATEGORY,
-        kind: asked.kind || number == atom::KIND,
-        direction: asked.direction || number == atom::DIRECTION,
+        connected: asked.connected,
+        category: is_either(asked.category, field, b"category"),
+        kind: is_either(asked.kind, field, b"kind"),
+        direction: is_either(asked.direction, field, b"direction"),
     }
+}
+
+// Whether a field was compared before, or this is it.
+fn is_either(before: bool, field: &[u8], name: &[u8]) -> bool {
+    if before {
+        return true;
+    }
+    text::same(field, name)
 }
 
 // The part of the wiring.

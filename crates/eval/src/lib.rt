@@ -111,5 +111,5 @@ fn run_read(
         return Outcome::Refused(Refusal::ParseErrors);
     }
     let end = TREE_ROW * tree_rows;
-    pipeline::eval_root(rule, image, &tree[..end], collection)
+    pipeline::eval_node(rule, image, &tree[..end], collection)
 }

@@ -7,8 +7,8 @@ ghost use Rattle.eval.specs.Marked.{held_in};
 ghost use Rattle.eval.specs.Memo.{NO_PLACE, plain_place, byte_of, note_in, Notes, Placed, Asked, Noted};
 
 use crate::{marked, ready};
+use predicate;
 use predicate::atom::Member;
-use predicate::prepared;
 use profile;
 use profile::Profile;
 
@@ -88,9 +88,9 @@ pub(crate) fn ask(
     requires { (CALL_ROW * (i + 1) ≤ length calls.now) × Notes rule.now image.now tree.now calls.now memo.old }
     ensures { Asked rule.now image.now tree.now calls.now i member memo.old memo.new result }
 {
-    let prepared = ready::prepared_at(calls, i);
+    let args = calls[ready::CALL_ROW * i + 1] as usize;
     if memo.len() < PLAIN {
-        return prepared::eval_prepared(rule, image, tree, member, prepared);
+        return predicate::eval_args(rule, image, tree, member, args);
     }
     let profile = profile::profile_of(image, memo[0], member);
     let place = marked_place(image, member, profile, memo);
@@ -101,9 +101,9 @@ pub(crate) fn ask(
     if known == KNOWN_FALSE {
         return false;
     }
-    let value = prepared::eval_prepared(rule, image, tree, member, prepared);
+    let value = predicate::eval_args(rule, image, tree, member, args);
     if known == NOT_KNOWN {
-        note(rule, tree, prepared.args, member, i, place, value, memo);
+        note(rule, tree, args, member, i, place, value, memo);
     }
     value
 }

@@ -1,14 +1,13 @@
 // eval.rs, "Pipeline evaluation": what the tree of a rule without parse errors comes to on a board. All refusals are settled before a row
 // of the collection table is written.
-ghost use Rattle.std.specs.Prelude.{◌≡◌, ◌+◌, ◌*◌, ◌≤◌, length, take};
-ghost use Rattle.lexer.specs.Read.{MAX_RULE};
+ghost use Rattle.std.specs.Prelude.{◌≡◌, ◌+◌, ◌*◌, ◌≤◌, length};
 ghost use Rattle.trees.specs.Look.{is_comparison};
 ghost use Rattle.predicate.specs.Rows.{ROW, children_at, row_passes};
 ghost use Rattle.meaning.specs.Pipeline.{eval_pipeline};
 ghost use Rattle.meaning.specs.Outcome.{eval_count_compare, eval_node};
 ghost use Rattle.calls.specs.Answer.{boolean_of};
-ghost use Rattle.eval.specs.Ready.{CALL_ROW, LAST_KIND, Asks};
-ghost use Rattle.eval.specs.Pipeline.{MAX_ROWS, FewCalls, RoomForCalls, Lent, Evaluates, Counts, OperatorAt, Gives, Judges};
+ghost use Rattle.eval.specs.Ready.{CALL_ROW, LAST_KIND};
+ghost use Rattle.eval.specs.Pipeline.{MAX_ROWS, CALLS, FewCalls, Lent, Evaluates, Counts, OperatorAt, Gives, Judges};
 
 use crate::ready::Planned;
 use crate::walk::Tally;
@@ -22,45 +21,22 @@ use syntax::kind;
 use syntax::refusal::Refusal;
 
 // The room for the rows of calls: a rule has two bytes for each, a dot and a method's first, and a count may stand behind them.
-const CALLS: usize = 2 * MAX_RULE + ready::CALL_ROW;
-
-// Most rules are no longer than this, and a table with less room for them is cleared sooner.
-const SHORT_RULE: usize = 64;
-
-const SHORT_CALLS: usize = 2 * SHORT_RULE + ready::CALL_ROW;
-
-// What a rule's tree comes to on a board.
-pub(crate) fn eval_root(rule: &[u8], image: &[u8], tree: &[u32], collection: &mut [u32]) -> Outcome
-    requires { (length rule.now ≤ MAX_RULE) × (length tree.now ≤ MAX_ROWS) × Lent image.now collection.old × FewCalls rule.now tree.now 0 }
-    ensures { Evaluates (eval_node image.now (children_at rule.now tree.now 0)) collection.old collection.new result }
-{
-    if rule.len() <= SHORT_RULE {
-        let mut calls = [0u32; SHORT_CALLS];
-        return eval_node(rule, image, tree, &mut calls, collection);
-    }
-    let mut calls = [0u32; CALLS];
-    eval_node(rule, image, tree, &mut calls, collection)
-}
+const CALLS: usize = MAX_RULE + ready::CALL_ROW;
 
 // `eval_node`: the first node in the root, a comparison or a pipeline.
-fn eval_node(
-    rule: &[u8],
-    image: &[u8],
-    tree: &[u32],
-    calls: &mut [u32],
-    collection: &mut [u32],
-) -> Outcome
-    requires { (length tree.now ≤ MAX_ROWS) × RoomForCalls rule.now calls.old × Lent image.now collection.old × FewCalls rule.now tree.now 0 }
+pub(crate) fn eval_node(rule: &[u8], image: &[u8], tree: &[u32], collection: &mut [u32]) -> Outcome
+    requires { (length tree.now ≤ MAX_ROWS) × Lent image.now collection.old × FewCalls rule.now tree.now 0 }
     ensures { Evaluates (eval_node image.now (children_at rule.now tree.now 0)) collection.old collection.new result }
 {
     let found = node::first_child(tree, 0);
     let Found::At(at) = found else {
         return Outcome::Refused(Refusal::ParseErrors);
     };
+    let mut calls = [0u32; CALLS];
     if tree[at] == kind::COUNT_COMPARE_EXPR {
-        return eval_count_compare(rule, image, tree, at, calls, collection);
+        return eval_count_compare(rule, image, tree, at, &mut calls, collection);
     }
-    eval_pipeline(rule, image, tree, at, calls, collection)
+    eval_pipeline(rule, image, tree, at, &mut calls, collection)
 }
 
 // `eval_pipeline`, of the PIPELINE_EXPR whose row is at a place.
@@ -72,7 +48,7 @@ fn eval_pipeline(
     calls: &mut [u32],
     collection: &mut [u32],
 ) -> Outcome
-    requires { (at + ROW ≤ length tree.now) × (length tree.now ≤ MAX_ROWS) × RoomForCalls rule.now calls.old × Lent image.now collection.old × FewCalls rule.now tree.now at }
+    requires { (at + ROW ≤ length tree.now) × (length tree.now ≤ MAX_ROWS) × (CALLS ≤ length calls.old) × Lent image.now collection.old × FewCalls rule.now tree.now at }
     ensures { Evaluates (eval_pipeline image.now (children_at rule.now tree.now at)) collection.old collection.new result }
 {
     match ready::plan(rule, tree, at, calls) {
@@ -100,7 +76,7 @@ fn eval_count_compare(
     calls: &mut [u32],
     collection: &mut [u32],
 ) -> Outcome
-    requires { (at + ROW ≤ length tree.now) × (length tree.now ≤ MAX_ROWS) × RoomForCalls rule.now calls.old × Lent image.now collection.old × FewCalls rule.now tree.now at }
+    requires { (at + ROW ≤ length tree.now) × (length tree.now ≤ MAX_ROWS) × (CALLS ≤ length calls.old) × Lent image.now collection.old × FewCalls rule.now tree.now at }
     ensures { Evaluates (eval_count_compare image.now (children_at rule.now tree.now at)) collection.old collection.new result }
 {
     let found = node::first_child(tree, at);
@@ -137,14 +113,12 @@ fn count_members(
     count: usize,
     collection: &mut [u32],
 ) -> usize
-    requires { (source + ROW ≤ length tree.now) × (CALL_ROW * (count + 1) ≤ length calls.old) × Lent image.now collection.old × Asks rule.now tree.now (take (CALL_ROW * count) calls.old) }
+    requires { (source + ROW ≤ length tree.now) × (CALL_ROW * (count + 1) ≤ length calls.old) × Lent image.now collection.old }
     ensures { Counts rule.now image.now tree.now source calls.old count collection.old collection.new result }
 {
     let last = ready::CALL_ROW * count;
     calls[last] = method::COUNT as u32;
     calls[last + 1] = 0;
-    calls[last + 2] = 0;
-    calls[last + 3] = 0;
     let end = last + ready::CALL_ROW;
     let tally = walk::walk(
         rule,

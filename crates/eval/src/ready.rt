@@ -1,4 +1,4 @@
-// The calls of a pipeline made ready for members: rows of four numbers, the call's number and three of its predicate made ready.
+// The calls of a pipeline made ready for members: rows of two numbers, the call's number and the place of its CALL_ARGS in the tree table.
 // Whether each call may stand where it stands is settled here, from the kinds alone.
 ghost use Rattle.std.specs.Prelude.{◌≡◌, ◌+◌, ◌*◌, ◌≤◌, ◌<◌, ◌^◌, length};
 ghost use Rattle.predicate.specs.Rows.{ROW, level_at, kind_at, children_at, row_passes, of_kind};
@@ -8,13 +8,12 @@ ghost use Rattle.meaning.specs.Calls.{kind_number};
 ghost use Rattle.meaning.specs.Pipeline.{calls_of};
 ghost use Rattle.meaning.specs.Walk.{is_last};
 ghost use Rattle.calls.specs.Table.{method_at};
-ghost use Rattle.eval.specs.Ready.{CALL_ROW, LAST_KIND, KindAfter, LastMethod, source_sort, args_place, prepared_at, Puts, CallsFit, PutsRow, Holds, Plans};
+ghost use Rattle.eval.specs.Ready.{CALL_ROW, LAST_KIND, KindAfter, LastMethod, source_sort, args_place, Puts, CallsFit, PutsRow, Holds, Plans};
 
 use calls::table::Next;
 use calls::{method, table};
 use matching::search::Found;
-use predicate::prepared::Prepared;
-use predicate::{node, prepared, rows};
+use predicate::{node, rows};
 use syntax::kind;
 use syntax::refusal::Refusal;
 
@@ -113,24 +112,8 @@ fn put_call(rule: &[u8], tree: &[u32], row: usize, calls: &mut [u32], count: usi
     ensures { Puts rule.now tree.now row count calls.old calls.new }
 {
     let at = CALL_ROW * count;
-    let prepared = prepared::prepare(rule, tree, args_place(tree, row));
     calls[at] = method::method_number(node::ident(rule, tree, row)) as u32;
-    calls[at + 1] = prepared.args as u32;
-    calls[at + 2] = prepared.ask;
-    calls[at + 3] = prepared.string as u32;
-}
-
-// The predicate of call i, made ready.
-pub(crate) fn prepared_at(calls: &[u32], i: usize) -> Prepared
-    requires { CALL_ROW * i + CALL_ROW ≤ length calls.now }
-    ensures { result ≡ prepared_at calls.now i }
-{
-    let at = CALL_ROW * i;
-    Prepared {
-        args: calls[at + 1] as usize,
-        ask: calls[at + 2],
-        string: calls[at + 3] as usize,
-    }
+    calls[at + 1] = args_place(tree, row) as u32;
 }
 
 // The place of the CALL_ARGS of the DOT_CALL whose row is at a place; where there is none, past all rows.
@@ -144,7 +127,7 @@ fn args_place(tree: &[u32], row: usize) -> usize
 }
 
 // The numbers of a row.
-pub(crate) const CALL_ROW: usize = 4;
+pub(crate) const CALL_ROW: usize = 2;
 
 // The kind after all calls, or the refusal of the leftmost that may not stand where it stands.
 pub(crate) fn kind_after(calls: &[u32], source: usize) -> Next

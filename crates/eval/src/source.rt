@@ -5,7 +5,7 @@ ghost use Rattle.board.specs.Image.{component_count, diagnostic_count};
 ghost use Rattle.meaning.specs.Calls.{keep, kept, up_from};
 ghost use Rattle.meaning.specs.Pipeline.{is_of_analysis};
 ghost use Rattle.calls.specs.Table.{method_at};
-ghost use Rattle.eval.specs.Ready.{calls_from, Asks};
+ghost use Rattle.eval.specs.Ready.{calls_from};
 ghost use Rattle.eval.specs.Memo.{Notes};
 ghost use Rattle.eval.specs.Feed.{state_of, begin, fed, Fits, Stands, KNOWN, Known, IsFeatures};
 
@@ -38,7 +38,7 @@ pub(crate) fn feed_components(
     last: usize,
     collection: &mut [u32],
 ) -> Tally
-    requires { Fits (method_at last) image.now (calls_from rule.now tree.now calls.now 0) (map Member.Component (up_from 0 (component_count image.now))) (begin collection.old) × Asks rule.now tree.now calls.now }
+    requires { Fits (method_at last) image.now (calls_from rule.now tree.now calls.now 0) (map Member.Component (up_from 0 (component_count image.now))) (begin collection.old) }
     ensures { Stands (method_at last) (state_of result collection.new) (fed image.now (calls_from rule.now tree.now calls.now 0) (map Member.Component (up_from 0 (component_count image.now))) (begin collection.old)) }
 {
     if calls.len() < ready::CALL_ROW {
@@ -79,7 +79,7 @@ fn feed_noted(
     last: usize,
     collection: &mut [u32],
 ) -> Tally
-    requires { Fits (method_at last) image.now (calls_from rule.now tree.now calls.now 0) (map Member.Component (up_from 0 (component_count image.now))) (begin collection.old) × Asks rule.now tree.now calls.now }
+    requires { Fits (method_at last) image.now (calls_from rule.now tree.now calls.now 0) (map Member.Component (up_from 0 (component_count image.now))) (begin collection.old) }
     ensures { Stands (method_at last) (state_of result collection.new) (fed image.now (calls_from rule.now tree.now calls.now 0) (map Member.Component (up_from 0 (component_count image.now))) (begin collection.old)) }
 {
     let asks_has = marked::next_row(tree, kind::CALL_EXPR, 0) < marked::ROWS;
@@ -118,7 +118,7 @@ fn feed_few(
     last: usize,
     collection: &mut [u32],
 ) -> Tally
-    requires { Fits (method_at last) image.now (calls_from rule.now tree.now calls.now 0) (map Member.Component (up_from 0 (component_count image.now))) (begin collection.old) × Asks rule.now tree.now calls.now }
+    requires { Fits (method_at last) image.now (calls_from rule.now tree.now calls.now 0) (map Member.Component (up_from 0 (component_count image.now))) (begin collection.old) }
     ensures { Stands (method_at last) (state_of result collection.new) (fed image.now (calls_from rule.now tree.now calls.now 0) (map Member.Component (up_from 0 (component_count image.now))) (begin collection.old)) }
 {
     let count = image::record_count(image, Section::Components);
@@ -129,8 +129,17 @@ fn feed_few(
     };
     let mut component = 0;
     while component < count {
-        tally = feed_asked(
-            rule, image, tree, calls, last, component, collection, &mut none, tally,
+        tally = walk::feed(
+            rule,
+            image,
+            tree,
+            calls,
+            last,
+            0,
+            Member::Component(component),
+            collection,
+            &mut none,
+            tally,
         );
         if walk::is_decided(last, tally) {
             return tally;
@@ -138,31 +147,6 @@ fn feed_few(
         component += 1;
     }
     tally
-}
-
-// Sends one component by asking; one whose features come on the way goes from call to call.
-fn feed_asked(
-    rule: &[u8],
-    image: &[u8],
-    tree: &[u32],
-    calls: &[u32],
-    last: usize,
-    component: u32,
-    collection: &mut [u32],
-    notes: &mut [u8],
-    tally: Tally,
-) -> Tally
-    requires { Fits (method_at last) image.now (calls_from rule.now tree.now calls.now 0) (Member.Component component ∷ []) (state_of tally collection.old) × Notes rule.now image.now tree.now calls.now notes.old }
-    ensures { Stands (method_at last) (state_of result collection.new) (fed image.now (calls_from rule.now tree.now calls.now 0) (Member.Component component ∷ []) (state_of tally collection.old)) × Notes rule.now image.now tree.now calls.now notes.new }
-{
-    let member = Member::Component(component);
-    let step = step::step_asked(rule, image, tree, calls, member);
-    if step::is_open(step) {
-        return walk::feed(
-            rule, image, tree, calls, last, 0, member, collection, notes, tally,
-        );
-    }
-    step::take(step, member, collection, tally)
 }
 
 // Sends every component through the calls, with the marks made.
@@ -174,7 +158,7 @@ fn feed_marked(
     last: usize,
     collection: &mut [u32],
 ) -> Tally
-    requires { Fits (method_at last) image.now (calls_from rule.now tree.now calls.now 0) (map Member.Component (up_from 0 (component_count image.now))) (begin collection.old) × Asks rule.now tree.now calls.now }
+    requires { Fits (method_at last) image.now (calls_from rule.now tree.now calls.now 0) (map Member.Component (up_from 0 (component_count image.now))) (begin collection.old) }
     ensures { Stands (method_at last) (state_of result collection.new) (fed image.now (calls_from rule.now tree.now calls.now 0) (map Member.Component (up_from 0 (component_count image.now))) (begin collection.old)) }
 {
     let mut notes = [0u8; marked::MEMO];
@@ -278,7 +262,7 @@ pub(crate) fn feed_diagnostics(
     last: usize,
     collection: &mut [u32],
 ) -> Tally
-    requires { Fits (method_at last) image.now (calls_from rule.now tree.now calls.now 0) (kept (is_of_analysis image.now name.now) (map Member.Diagnostic (up_from 0 (diagnostic_count image.now)))) (begin collection.old) × Asks rule.now tree.now calls.now }
+    requires { Fits (method_at last) image.now (calls_from rule.now tree.now calls.now 0) (kept (is_of_analysis image.now name.now) (map Member.Diagnostic (up_from 0 (diagnostic_count image.now)))) (begin collection.old) }
     ensures { Stands (method_at last) (state_of result collection.new) (fed image.now (calls_from rule.now tree.now calls.now 0) (kept (is_of_analysis image.now name.now) (map Member.Diagnostic (up_from 0 (diagnostic_count image.now)))) (begin collection.old)) }
 {
     let count = image::record_count(image, Section::Diagnostics);

@@ -1,16 +1,14 @@
-// What becomes of a member on its way through the calls: as far as the notes tell, or by asking.
+// What becomes of a member on its way through the calls, as far as the notes tell: nothing is asked.
 ghost use Rattle.std.specs.Prelude.{◌≡◌, true, ◌+◌, ◌*◌, ◌≤◌, length};
 ghost use Rattle.board.specs.Check.{COLLECTION_ROW};
 ghost use Rattle.eval.specs.Memo.{NO_PLACE};
 ghost use Rattle.eval.specs.Feed.{state_of};
-ghost use Rattle.eval.specs.Ready.{calls_from, Asks};
-ghost use Rattle.eval.specs.Step.{is_open, arrives, after, at_false, StepIs, Steps};
+ghost use Rattle.eval.specs.Step.{is_open, arrives, after, at_false, Steps};
 
 use crate::walk::Tally;
 use crate::{memo, ready, walk};
 use calls::method;
 use predicate::atom::Member;
-use predicate::prepared;
 
 // A `where` drops it, it passes all calls and has a row, or the last call counts it, with whether its predicate is true; or the notes do
 // not tell.
@@ -45,42 +43,6 @@ pub(crate) fn step_of(calls: &[u32], from: usize, place: usize, notes: &[u8]) ->
             }
             if known != memo::KNOWN_TRUE {
                 return Step::Open;
-            }
-            if method != method::WHERE {
-                return Step::Counted(true);
-            }
-            i += 1;
-        }
-    }
-    Step::Listed
-}
-
-// The same of a member by all calls, whose predicates are asked; not told where its features come on the way.
-pub(crate) fn step_asked(
-    rule: &[u8],
-    image: &[u8],
-    tree: &[u32],
-    calls: &[u32],
-    member: Member,
-) -> Step
-    requires { Asks rule.now tree.now calls.now }
-    ensures { StepIs image.now (calls_from rule.now tree.now calls.now 0) member result }
-{
-    let mut i = 0;
-    while i < calls.len() / ready::CALL_ROW {
-        let method = calls[ready::CALL_ROW * i] as usize;
-        if method::FEATURES < method {
-            i += 1;
-        } else {
-            if method == method::COUNT {
-                return Step::Counted(false);
-            }
-            if method == method::FEATURES {
-                return Step::Open;
-            }
-            let prepared = ready::prepared_at(calls, i);
-            if !prepared::eval_prepared(rule, image, tree, member, prepared) {
-                return at_false(method);
             }
             if method != method::WHERE {
                 return Step::Counted(true);

@@ -10,7 +10,7 @@ ghost use Rattle.meaning.specs.Value.{row_of, whole_rows};
 ghost use Rattle.meaning.specs.Calls.{features_of};
 ghost use Rattle.meaning.specs.Walk.{is_last};
 ghost use Rattle.calls.specs.Table.{method_at};
-ghost use Rattle.eval.specs.Ready.{CALL_ROW, calls_in, calls_from, source_members, Asks};
+ghost use Rattle.eval.specs.Ready.{CALL_ROW, calls_in, calls_from, source_members};
 ghost use Rattle.eval.specs.Marked.{held_in};
 ghost use Rattle.eval.specs.Memo.{args_of, Notes};
 ghost use Rattle.eval.specs.Feed.{state_of, fed, decided, Decides, Fits, Stands, Arrives, walked};
@@ -47,7 +47,7 @@ pub(crate) fn walk(
     last: usize,
     collection: &mut [u32],
 ) -> Tally
-    requires { (source + ROW ≤ length tree.now) × WellFormed image.now × Room image.now (length collection.old) × Decides (method_at last) (calls_in rule.now tree.now calls.now) × Asks rule.now tree.now calls.now }
+    requires { (source + ROW ≤ length tree.now) × WellFormed image.now × Room image.now (length collection.old) × Decides (method_at last) (calls_in rule.now tree.now calls.now) }
     ensures { Stands (method_at last) (state_of result collection.new) (walked image.now (calls_in rule.now tree.now calls.now) (source_members image.now (kind_at tree.now source) (children_at rule.now tree.now source)) collection.old) }
 {
     clear(collection);

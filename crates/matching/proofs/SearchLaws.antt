@@ -3,20 +3,18 @@
 use mathlib.Core.Path.{◌≡◌, refl, sym, ◌∙◌}
 use mathlib.Core.Bool.{Bool, true, false, and-false, false≢true}
 use mathlib.Core.List.{List, [], ◌∷◌}
-use Prim.Native.Nat.{ℕ, zero, suc, ◌+◌, ◌≤◌, ◌<◌}
+use Prim.Native.Nat.{ℕ, suc, ◌+◌, ◌≤◌, ◌<◌}
 use native.Mathlib.Numerals.{add-one}
 use native.Mathlib.Omega.{arith}
 use native.Mathlib.Nat.{le_of_suc-le-suc}
-use borrow.Author.Tests.{eq-eqb, ne_eqb, eqb-true}
+use borrow.Author.Tests.{eq-eqb, ne_eqb}
 use lib.Dec.{eqb}
 use lib.ListN.{length, drop, get_or, drop_of_length-le, length-drop}
-use lib.Seq.{get_or-drop}
-use Rattle.syntax.proofs.BoolLaws.{both, whether}
+use Rattle.syntax.proofs.BoolLaws.{both}
 use Rattle.syntax.proofs.TextLaws.{from}
 use Rattle.matching.specs.declared.search.Found.{Found}
 use Rattle.matching.specs.Search.{starts_with, find_from, find, contains}
-use Rattle.matching.specs.SearchScan.{Skipped}
-use Rattle.matching.specs.SearchScan.Skipped.{none, past}
+use Rattle.matching.specs.SearchScan.{Passed}
 
 -- a text at least as long as a part begins with i bytes of it: what is left of both decides
 pub record Starting (part text : List ℕ) (i : ℕ) : Type 0 where
@@ -71,46 +69,42 @@ found_nowhere part n [] h = rw (starting_short part [] h, find_from)
 found_nowhere part n (y ∷ text) h =
     found_later part n y text (starting_short part (y ∷ text) h) ∙ found_nowhere part (suc n) text (omega arith)
 
--- places passed over, one run of them after another
-pub skipped_over : {part text : List ℕ} {first at later : ℕ} → Skipped part text first at → Skipped part text at later → Skipped part text first later
-skipped_over s none = s
-skipped_over s (past t h e) = past (skipped_over s t) h e
+-- a part stands at no place before `at`: it is where it is in the text from there on
+pub record Seeking (part text : List ℕ) (at : ℕ) : Type 0 where
+  pub rest : find_from part at (drop at text) ≡ find part text
 
-pub skipped_onward : {part text : List ℕ} {first at : ℕ} → Skipped part text first at → first ≤ at
-skipped_onward none = omega arith
-skipped_onward (past s h e) = omega (arith, skipped_onward s)
-
--- a part that begins at no place before `at` is where it is in the text from there on
-skipped_rest : {part text : List ℕ} {at : ℕ} → Skipped part text 0 at → find_from part at (drop at text) ≡ find part text
+pub seeking_start : {part text : List ℕ} → Seeking part text 0
 unfolding find
-skipped_rest none = refl
-skipped_rest {part} {text} (past {at} s h e) = sym on ∙ skipped_rest s
-  where
-    on : find_from part at (drop at text) ≡ find_from part (at + 1) (drop (at + 1) text)
-    on = rw (from text at h, add-one at) (found_later part at (get_or text at 0) (drop (suc at) text) (rw (from text at h, add-one at) at e))
+seeking_start = record { rest = refl }
 
-module _ {part text : List ℕ} {at : ℕ} (s : Skipped part text 0 at) where
-  pub skipped_found : starts_with part (drop at text) ≡ true → Found.At at ≡ find part text
-  skipped_found e = sym (found_here part at (drop at text) e) ∙ skipped_rest s
+module _ {part text : List ℕ} {at : ℕ} (c : Seeking part text at) where
+  pub seeking_found : starts_with part (drop at text) ≡ true → Found.At at ≡ find part text
+  seeking_found e = sym (found_here part at (drop at text) e) ∙ c.rest
 
-  pub skipped_absent : length text < at + length part → 0 < length part → Found.Absent ≡ find part text
-  skipped_absent h k = sym (found_nowhere part at (drop at text) (rw length-drop (omega arith))) ∙ skipped_rest s
+  pub seeking_on : at < length text → starts_with part (drop at text) ≡ false → Seeking part text (at + 1)
+  seeking_on h e = record { rest = sym on ∙ c.rest }
+    where
+      on : find_from part at (drop at text) ≡ find_from part (at + 1) (drop (at + 1) text)
+      on = rw (from text at h, add-one at) (found_later part at (get_or text at 0) (drop (suc at) text) (rw (from text at h, add-one at) at e))
 
--- a part that begins at a place has each of its bytes there, so it does not begin where one of them is not
-starting_bytes : (part text : List ℕ) (i : ℕ) → starts_with part text ≡ true → i < length part → get_or text i 0 ≡ get_or part i 0
+  pub seeking_absent : length text < at + length part → 0 < length part → Found.Absent ≡ find part text
+  seeking_absent h k = sym (found_nowhere part at (drop at text) (rw length-drop (omega arith))) ∙ c.rest
+
+-- a part does not stand where its first byte does not, so such places may be passed over
+starting_unlike : (part text : List ℕ) (at : ℕ) → 0 < length part → at < length text → (get_or text at 0 ≡ get_or part 0 0 → ⊥)
+    → starts_with part (drop at text) ≡ false
 unfolding starts_with
-starting_bytes [] text i e h = absurd (omega arith)
-starting_bytes (x ∷ part) [] i e h = absurd (false≢true e)
-starting_bytes (x ∷ part) (y ∷ text) zero e h = sym (eqb-true x y (both (eqb x y) (starts_with part text) e).0)
-starting_bytes (x ∷ part) (y ∷ text) (suc i) e h =
-    starting_bytes part text i (both (eqb x y) (starts_with part text) e).1 (le_of_suc-le-suc h)
+starting_unlike [] text at k h e = absurd (omega arith)
+starting_unlike (x ∷ part) text at k h e = rw (from text at h, ne_eqb x (get_or text at 0) (λ d. e (sym d)))
 
-pub skipped_past : {part text : List ℕ} {first at next : ℕ} → Skipped part text first at → at < length text → next ≡ at + 1
-    → (((i k : ℕ) → k ≡ at + i → i < length part → get_or text k 0 ≡ get_or part i 0) → ⊥) → Skipped part text first next
-skipped_past {part} {text} {first} {at} s h e f = rw e (past s h (whether (starts_with part (drop at text)) (λ y. absurd (f (stands y))) (λ n. n)))
-  where
-    stands : starts_with part (drop at text) ≡ true → (i k : ℕ) → k ≡ at + i → i < length part → get_or text k 0 ≡ get_or part i 0
-    stands y i k d l = rw d (rw get_or-drop at (starting_bytes part (drop at text) i y l))
+pub seeking_over : {part text : List ℕ} {first at : ℕ} → 0 < length part → Seeking part text first → Passed text (get_or part 0 0) first at
+    → Seeking part text at
+seeking_over k s Passed.none = s
+seeking_over {part} {text} k s (Passed.past {at} p h e) = seeking_on (seeking_over k s p) h (starting_unlike part text at k h e)
+
+pub passed_onward : {text : List ℕ} {byte first at : ℕ} → Passed text byte first at → first ≤ at
+passed_onward Passed.none = omega arith
+passed_onward (Passed.past p h e) = omega (arith, passed_onward p)
 
 -- a part that has a place, and one that has none
 module _ {found : Found} (part text : List ℕ) (e : found ≡ find part text) where

@@ -1,10 +1,7 @@
 // A text searched for in another: what eval.rs asks of `str::contains` and `str::split_once`.
-ghost use Rattle.std.specs.Prelude.{◌≡◌, false, ◌+◌, ◌<◌, ◌≤◌, length, drop};
+ghost use Rattle.std.specs.Prelude.{◌≡◌, ◌+◌, ◌<◌, ◌≤◌, length, drop};
 ghost use Rattle.matching.specs.Search.{starts_with, find, contains};
-ghost use Rattle.matching.specs.SearchScan.{Skipped, block};
-
-// How many places are passed over at once.
-const BLOCK: usize = 16;
+ghost use Rattle.matching.specs.SearchScan.{Passed};
 
 // Where a part stands in a text: its first place, or nowhere.
 #[derive(Drop)]
@@ -13,7 +10,7 @@ pub enum Found {
     Absent,
 }
 
-// The first place at which a part stands in a text; an empty one stands at 0. Only places where the part may begin are compared.
+// The first place at which a part stands in a text; an empty one stands at 0. Only places of the part's first byte are compared.
 pub fn find(text: &[u8], part: &[u8]) -> Found
     ensures { result ≡ find part.now text.now }
 {
@@ -24,9 +21,10 @@ pub fn find(text: &[u8], part: &[u8]) -> Found
         return Found::Absent;
     }
     let last = text.len() - part.len();
+    let first = part[0];
     let mut at = 0;
     while at <= last {
-        let here = next_place(text, part, at, last);
+        let here = next_byte(text, at, last, first);
         if last < here {
             return Found::Absent;
         }
@@ -49,57 +47,14 @@ pub fn contains(text: &[u8], part: &[u8]) -> bool
     }
 }
 
-// The next place where the part may begin, from one place of a text to the last where it has room; past them where there is none. Blocks of
-// places at which it does not begin are passed over at once.
-fn next_place(text: &[u8], part: &[u8], from: usize, last: usize) -> usize
-    requires { (0 < length part.now) × (last + length part.now ≡ length text.now) × (from ≤ last) }
-    ensures { Skipped part.now text.now from result }
+// The next place of a byte, from one place of a text to another; past them where it is at none.
+fn next_byte(text: &[u8], from: usize, to: usize, byte: u8) -> usize
+    requires { to < length text.now }
+    ensures { Passed text.now byte from result }
 {
-    let mut at = from;
-    while at + BLOCK <= last + 1 && !may_begin(text, part, at) {
-        at += BLOCK;
-    }
-    next_first(text, part, at, last)
-}
-
-// Whether the part may begin at a place of a block, each with room for it: its first and its last byte stand there. It only saves work: where it
-// says no, the part begins at none of them. The loop goes to its end in any case, so that the compiler takes a block at once.
-fn may_begin(text: &[u8], part: &[u8], at: usize) -> bool
-    requires { (0 < length part.now) × (at + block + length part.now ≤ length text.now + 1) }
-    ensures { result ≡ false → Skipped part.now text.now at (at + block) }
-{
-    let first = part[0];
-    let end = part.len() - 1;
-    let last = part[end];
-    let ahead = at + end;
-    let mut hit = false;
-    let mut i = 0;
-    while i < BLOCK {
-        if both_same(text[at + i], first, text[ahead + i], last) {
-            hit = true;
-        }
-        i += 1;
-    }
-    hit
-}
-
-// Whether two bytes are two others. Both are read before either is compared: a read under a condition would keep the compiler from taking a
-// block at once.
-fn both_same(a: u8, first: u8, b: u8, last: u8) -> bool
-    ensures { result ≡ false → a ≡ first → b ≡ last → ⊥ }
-{
-    a == first && b == last
-}
-
-// The next place of the part's first byte, from one place of a text to another; past them where it is at none.
-fn next_first(text: &[u8], part: &[u8], from: usize, to: usize) -> usize
-    requires { (0 < length part.now) × (to < length text.now) }
-    ensures { Skipped part.now text.now from result }
-{
-    let first = part[0];
     let mut at = from;
     while at <= to {
-        if text[at] == first {
+        if text[at] == byte {
             return at;
         }
         at += 1;

@@ -1,19 +1,20 @@
 -- A text found in another, and the truth of a node by its kind. Assumes nothing.
 use mathlib.Core.Path.{◌≡◌, sym, ap, ◌∙◌}
-use mathlib.Core.Bool.{Bool, cond}
+use mathlib.Core.Bool.{Bool, false, cond}
 use mathlib.Core.List.{List, []}
 use Prim.Native.Nat.{ℕ, ◌+◌, ◌-◌, ◌≤◌}
 use native.Mathlib.Omega.{arith}
 use lib.ListN.{length, take, drop, length-drop}
 use lib.Seq.{take_all}
-use borrow.Author.Tests.{le-leb}
+use borrow.Author.Tests.{le-leb, ne_eqb}
+use Rattle.syntax.specs.Kind.{BINARY_EXPR, UNARY_EXPR, COMPARE_EXPR, CALL_EXPR, PAREN_EXPR, IDENT_EXPR, CONTAINS_EXPR}
 use Rattle.syntax.specs.Text.{ascii}
 use Rattle.trees.specs.Green.{nil, node}
 use Rattle.matching.specs.declared.search.Found.{Found}
 use Rattle.matching.specs.Search.{find, set_before, name_after, property_set_of, property_name_of}
 use Rattle.instance.specs.Instance.{has_property}
 use Rattle.predicate.specs.declared.atom.Member.{Member}
-use Rattle.predicate.specs.Truth.{has_property_of, sort_of, settle, truths, truth}
+use Rattle.predicate.specs.Truth.{literal_of, field_of, connected, has_property_of, has, compares, message_contains, sort_of, settle, truths, truth}
 use Rattle.predicate.specs.Rows.{ROW, kind_at, children_at, node_at}
 
 -- a component's property by a text: parted where `::` was found, whole where it was not
@@ -44,3 +45,28 @@ module _ (rule image tree : List ℕ) (m : Member) (at : ℕ) (h : at + ROW ≤ 
   of_kind_lem e =
       sym (node_truth
       ∙ ap (λ (k : ℕ). settle image m (sort_of k) (children_at rule tree at) (truths image m (children_at rule tree at))) e)
+
+  pub truth_ident : kind_at tree at ≡ IDENT_EXPR → connected image m ≡ truth image m (node_at rule tree at)
+  unfolding sort_of settle
+  truth_ident e = of_kind_lem e
+
+  -- by the texts inside
+  module _ {value : List ℕ} (v : value ≡ literal_of (children_at rule tree at)) where
+    pub truth_call : kind_at tree at ≡ CALL_EXPR → has image m value ≡ truth image m (node_at rule tree at)
+    unfolding sort_of settle
+    truth_call e = ap (has image m) v ∙ of_kind_lem e
+
+    pub truth_contains : kind_at tree at ≡ CONTAINS_EXPR → message_contains image m value ≡ truth image m (node_at rule tree at)
+    unfolding sort_of settle
+    truth_contains e = ap (message_contains image m) v ∙ of_kind_lem e
+
+    pub truth_compare : {field : List ℕ} → kind_at tree at ≡ COMPARE_EXPR → field ≡ field_of (children_at rule tree at) → compares image m field value ≡ truth image m (node_at rule tree at)
+    unfolding sort_of settle
+    truth_compare {field} e f = ap (compares image m field) v ∙ ap (λ (x : List ℕ). compares image m x (literal_of (children_at rule tree at))) f ∙ of_kind_lem e
+
+  pub truth_other : (kind_at tree at ≡ BINARY_EXPR → ⊥) → (kind_at tree at ≡ UNARY_EXPR → ⊥) → (kind_at tree at ≡ PAREN_EXPR → ⊥) → (kind_at tree at ≡ IDENT_EXPR → ⊥)
+      → (kind_at tree at ≡ CALL_EXPR → ⊥) → (kind_at tree at ≡ CONTAINS_EXPR → ⊥) → (kind_at tree at ≡ COMPARE_EXPR → ⊥) → false ≡ truth image m (node_at rule tree at)
+  unfolding sort_of settle
+  truth_other b u p i c n q =
+      sym (node_truth
+      ∙ rw (ne_eqb _ BINARY_EXPR b, ne_eqb _ UNARY_EXPR u, ne_eqb _ PAREN_EXPR p, ne_eqb _ IDENT_EXPR i, ne_eqb _ CALL_EXPR c, ne_eqb _ CONTAINS_EXPR n, ne_eqb _ COMPARE_EXPR q))

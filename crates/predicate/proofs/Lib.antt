@@ -2,6 +2,5 @@ pub mod RowLaws
 pub mod ForestLaws
 pub mod NodeLaws
 pub mod AtomLaws
-pub mod PreparedLaws
 pub mod EvalLaws
 pub mod ReadBackLaws

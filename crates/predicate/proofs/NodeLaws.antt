@@ -5,15 +5,14 @@ use mathlib.Core.List.{List, [], ◌∷◌, cons≢nil}
 use Prim.Native.Nat.{ℕ, suc, ◌+◌, ◌-◌, ◌≤◌, ◌<◌}
 use native.Mathlib.Omega.{arith}
 use lib.Dec.{eqb, ltb}
-use lib.ListN.{length, get_or, get_or-eq_default, take, drop, length-drop, drop_of_length-le}
+use lib.ListN.{length, take, drop, length-drop, drop_of_length-le}
 use lib.Seq.{drop-drop}
 use borrow.Author.Tests.{eqb-true}
 use Rattle.syntax.specs.Kind.{STRING_LIT, ROOT, LITERAL}
-use Rattle.syntax.specs.Text.{bytes_between}
 use Rattle.matching.specs.declared.search.Found.{Found}
 use Rattle.predicate.specs.Truth.{content, first_text, literal_of}
 use Rattle.predicate.specs.Rows.{ROW, kind_at, level_at, text_at, forest_from, children_at, is_row, of_kind, rows_from, place_in, first_row}
-use Rattle.predicate.specs.Eval.{FoundAt, FoundNowhere, Finds, HasString}
+use Rattle.predicate.specs.Eval.{FoundAt, FoundNowhere, Finds}
 use Rattle.predicate.proofs.RowLaws.{row_missing, row_and, drop_row}
 use Rattle.predicate.proofs.ForestLaws.{forest_token, forest_node, found_level, found_kind, Ignores, ignored_none, ignored_found}
 
@@ -137,44 +136,15 @@ literal_ignores : Ignores (of_kind LITERAL) literal_of
 unfolding literal_of
 literal_ignores = record { tokens = λ t f e. refl; nodes = λ k s f l e. rw (e, literal_of) }
 
-literal_none : (rule : List ℕ) {tree : List ℕ} {level from : ℕ} → FoundNowhere (of_kind LITERAL) tree level from → [] ≡ literal_of (forest_from rule tree level from)
+pub literal_none : (rule : List ℕ) {tree : List ℕ} {level from : ℕ} → FoundNowhere (of_kind LITERAL) tree level from → [] ≡ literal_of (forest_from rule tree level from)
 unfolding literal_of
 literal_none rule h = sym (ignored_none literal_ignores rule h)
 
 -- the string in the literal found is the first inside it
-literal_found : (rule : List ℕ) {tree : List ℕ} {level from at : ℕ} → FoundAt (of_kind LITERAL) tree level from at → content (first_text STRING_LIT (children_at rule tree at)) ≡ literal_of (forest_from rule tree level from)
+pub literal_found : (rule : List ℕ) {tree : List ℕ} {level from at : ℕ} → FoundAt (of_kind LITERAL) tree level from at → content (first_text STRING_LIT (children_at rule tree at)) ≡ literal_of (forest_from rule tree level from)
 unfolding literal_of
 literal_found rule {tree} {level} {from} {at} f =
     ap (λ (l : ℕ). content (first_text STRING_LIT (forest_from rule tree (l + 1) (at + ROW)))) (found_level f)
     ∙ sym (ignored_found literal_ignores rule f
     ∙ ap literal_of (forest_node rule tree level at f.whole (found_level f) (omega (arith, eqb-true (kind_at tree at) LITERAL (found_kind f))))
     ∙ rw (found_kind f, literal_of))
-
--- no text is at a place where no whole row is
-text_missing : (rule tree : List ℕ) (at : ℕ) → length tree < at + ROW → [] ≡ text_at rule tree at
-text_missing rule tree at h = sym (ap (bytes_between rule (get_or tree (at + 2) 0)) (get_or-eq_default tree 0 (omega arith)) ∙ before_all)
-  where
-    before_all : bytes_between rule (get_or tree (at + 2) 0) 0 ≡ []
-    before_all =
-        let e : 0 - get_or tree (at + 2) 0 ≡ 0 = omega arith in
-        ap (λ (n : ℕ). take n (drop (get_or tree (at + 2) 0) rule)) e
-
-pub string_missing : (rule tree : List ℕ) (at : ℕ) → is_row tree at ≡ false → [] ≡ content (text_at rule tree at)
-unfolding content
-string_missing rule tree at h = ap content (text_missing rule tree at (row_missing tree at h))
-
--- a node's string, where it has a literal that has one
-pub past_all : (rule tree : List ℕ) → content (text_at rule tree (length tree)) ≡ []
-unfolding content
-past_all rule tree = sym (ap content (text_missing rule tree (length tree) (omega arith)))
-
-pub has_none : {tree : List ℕ} {at : ℕ} → FoundNowhere (of_kind LITERAL) tree (level_at tree at + 1) (at + ROW) → HasString tree at (length tree)
-has_none {tree} h = record { string = λ rule. past_all rule tree ∙ literal_none rule h; within = omega arith }
-
-module _ {tree : List ℕ} {at row : ℕ} (l : FoundAt (of_kind LITERAL) tree (level_at tree at + 1) (at + ROW) row) where
-  pub has_empty : FoundNowhere (of_kind STRING_LIT) tree (level_at tree row + 1) (row + ROW) → HasString tree at (length tree)
-  unfolding content
-  has_empty h = record { string = λ rule. past_all rule tree ∙ ap content (text_none rule STRING_LIT h) ∙ literal_found rule l; within = omega arith }
-
-  pub has_string : {place : ℕ} → FoundAt (of_kind STRING_LIT) tree (level_at tree row + 1) (row + ROW) place → HasString tree at place
-  has_string f = record { string = λ rule. ap content (text_found rule STRING_LIT (omega arith) f) ∙ literal_found rule l; within = omega (arith, f.whole) }

@@ -5,8 +5,8 @@ use Rattle.trees.specs.Green.{Forest}
 use Rattle.predicate.specs.declared.atom.Member.{Member}
 use Rattle.predicate.specs.declared.Truth.{Truth}
 use Rattle.predicate.specs.declared.Operands.{Operands}
-use Rattle.predicate.specs.Truth.{content, literal_of, truths, truth, joined}
-use Rattle.predicate.specs.Rows.{ROW, level_at, text_at, forest_from, children_at, node_at, is_below, rows_from, past_below}
+use Rattle.predicate.specs.Truth.{truths, truth, joined}
+use Rattle.predicate.specs.Rows.{ROW, level_at, forest_from, node_at, is_below, rows_from, past_below}
 
 -- the first row at a level from a place on that passes a test is found at a place, or nowhere
 pub record FoundAt (test : ℕ → Bool) (tree : List ℕ) (level from at : ℕ) : Type 0 where
@@ -20,11 +20,6 @@ pub record FoundNowhere (test : ℕ → Bool) (tree : List ℕ) (level from : �
 abbrev pub Finds : (test : ℕ → Bool) (tree : List ℕ) (level from : ℕ) → Found → Type 0
 Finds test tree level from (Found.At at) = FoundAt test tree level from at
 Finds test tree level from Found.Absent = FoundNowhere test tree level from
-
--- a string's row is found in the node whose row is at a place; past all rows where there is none
-pub record HasString (tree : List ℕ) (at r : ℕ) : Type 0 where
-  pub string : (rule : List ℕ) → content (text_at rule tree r) ≡ literal_of (children_at rule tree at)
-  pub within : r ≤ length tree
 
 -- the rows below a level from a place on are passed over
 pub record Skips (tree : List ℕ) (level from next : ℕ) : Type 0 where

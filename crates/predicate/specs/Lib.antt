@@ -1,4 +1,3 @@
 pub mod Truth
 pub mod Rows
 pub mod Eval
-pub mod Prepared

@@ -2,7 +2,6 @@
 // one, as they differ only in the atoms, which `atom` has. It reads the rows of the predicate's tree once, in their order.
 pub mod atom;
 pub mod node;
-pub mod prepared;
 pub mod rows;
 
 ghost use Rattle.std.specs.Prelude.{◌≡◌, ◌+◌, ◌≤◌, ◌<◌, ◌^◌, length};
@@ -44,6 +43,7 @@ pub fn eval_predicate(rule: &[u8], image: &[u8], tree: &[u32], member: Member, a
 }
 
 // The same of the first node inside the one whose row is at a place, as the predicate in a CALL_ARGS; false where there is none.
+#[cycle(eval_alone_eval_args)]
 pub fn eval_args(rule: &[u8], image: &[u8], tree: &[u32], member: Member, at: usize) -> bool
     ensures { result ≡ truth image.now member (children_at rule.now tree.now at) }
 {
@@ -55,8 +55,21 @@ pub fn eval_args(rule: &[u8], image: &[u8], tree: &[u32], member: Member, at: us
     let Found::At(predicate) = found else {
         return false;
     };
-    let node = eval_node(rule, image, tree, member, predicate);
-    node.value
+    eval_alone(rule, image, tree, member, predicate)
+}
+
+// The truth of a node after which no row is looked at, so that its rows need not be passed over.
+#[cycle(eval_alone_eval_args)]
+fn eval_alone(rule: &[u8], image: &[u8], tree: &[u32], member: Member, at: usize) -> bool
+    requires { at + ROW ≤ length tree.now }
+    ensures { result ≡ truth image.now member (node_at rule.now tree.now at) }
+{
+    match tree[at] {
+        kind::BINARY_EXPR => eval_node(rule, image, tree, member, at).value,
+        kind::UNARY_EXPR => !eval_args(rule, image, tree, member, at),
+        kind::PAREN_EXPR => eval_args(rule, image, tree, member, at),
+        _ => atom::eval_atom(rule, image, tree, member, at),
+    }
 }
 
 #[cycle(eval_inner_eval_node_eval_operand_eval_operands)]

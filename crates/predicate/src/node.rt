@@ -4,7 +4,6 @@ ghost use Rattle.std.specs.Prelude.{◌≡◌, ◌+◌, ◌≤◌, ◌<◌, leng
 ghost use Rattle.syntax.specs.Kind.{IDENT, INT_LIT, ROOT};
 ghost use Rattle.predicate.specs.Truth.{content, first_text, literal_of};
 ghost use Rattle.predicate.specs.Rows.{ROW, level_at, text_at, children_at, of_kind, of_node, first_row};
-ghost use Rattle.predicate.specs.Eval.{HasString};
 
 use crate::rows;
 use matching::search::Found;
@@ -50,33 +49,11 @@ pub fn integer<'a>(rule: &'a [u8], tree: &[u32], at: usize) -> &'a [u8]
 pub fn find_string_literal<'a>(rule: &'a [u8], tree: &[u32], at: usize) -> &'a [u8]
     ensures { result.now ≡ literal_of (children_at rule.now tree.now at) }
 {
-    let string = string_place(tree, at);
-    string_at(rule, tree, string)
-}
-
-// The row of the string inside; where there is none, past all rows.
-pub(crate) fn string_place(tree: &[u32], at: usize) -> usize
-    ensures { HasString tree.now at result }
-{
     let literal = child_of_kind(tree, at, kind::LITERAL);
     let Found::At(row) = literal else {
-        return tree.len();
-    };
-    let string = child_of_kind(tree, row, kind::STRING_LIT);
-    let Found::At(place) = string else {
-        return tree.len();
-    };
-    place
-}
-
-// The content of the string whose row is at a place, a part of the rule.
-pub(crate) fn string_at<'a>(rule: &'a [u8], tree: &[u32], at: usize) -> &'a [u8]
-    ensures { result.now ≡ content (text_at rule.now tree.now at) }
-{
-    if !rows::is_row(tree, at) {
         return &rule[0..0];
-    }
-    content(token_text(rule, tree, at))
+    };
+    content(first_text(rule, tree, row, kind::STRING_LIT))
 }
 
 // The text of the first token of a kind inside.

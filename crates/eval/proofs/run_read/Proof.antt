@@ -10,19 +10,19 @@ returns c = read_errors c.before.before.before.before.before.requires.0 c.before
 mul-end : tie.Need-overflow-mul-end
 mul-end c = search rules
 
-slice-aggregate-eval-root : tie.Need-slice-aggregate-eval-root
-slice-aggregate-eval-root c = read_part c.before.before.before.before.before.before.requires.0 c.before.before.before.before.before.before.args.image.now
+slice-aggregate-eval-node : tie.Need-slice-aggregate-eval-node
+slice-aggregate-eval-node c = read_part c.before.before.before.before.before.before.requires.0 c.before.before.before.before.before.before.args.image.now
 
-eval-root-requires : tie.Need-eval-root-requires
-eval-root-requires c κs = (c.before.before.before.before.before.before.before.requires.0.short, read_short c.before.before.before.before.before.before.before.requires.0 c.before.before.before.before.before.before.before.args.image.now, c.before.before.before.before.before.before.before.requires.1, read_few c.before.before.before.before.before.before.before.requires.0 c.before.before.before.before.before.before.before.args.image.now c.before.before.if1.false)
+eval-node-requires : tie.Need-eval-node-requires
+eval-node-requires c κs = (read_short c.before.before.before.before.before.before.before.requires.0 c.before.before.before.before.before.before.before.args.image.now, c.before.before.before.before.before.before.before.requires.1, read_few c.before.before.before.before.before.before.before.requires.0 c.before.before.before.before.before.before.before.args.image.now c.before.before.if1.false)
 
 same_length : tie.Need-same-length
 same_length c = search rules
 
 returns-2 : tie.Need-returns-2
-returns-2 c = read_given c.before.before.before.before.before.before.before.before.before.before.requires.0 c.before.before.before.before.before.before.before.before.before.before.args.image.now c.before.before.before.before.before.if1.false c.before.before.eval-root.ensures
+returns-2 c = read_given c.before.before.before.before.before.before.before.before.before.before.requires.0 c.before.before.before.before.before.before.before.before.before.before.args.image.now c.before.before.before.before.before.if1.false c.before.before.eval-node.ensures
 
 pub run-read-spec : {M : Type 1} → statement M
 run-read-spec =
     tie.close
-    (tie.spec returns mul-end slice-aggregate-eval-root eval-root-requires same_length returns-2)
+    (tie.spec returns mul-end slice-aggregate-eval-node eval-node-requires same_length returns-2)

@@ -12,9 +12,6 @@ invariant-loop rule tree asked₀ row₀ asked row = Unit {0}
 abbrev decreases-loop : tie.decreases-loop
 decreases-loop rule tree asked₀ row₀ asked row = ROWS - row
 
-nothing-requires : tie.Need-nothing-requires invariant-loop decreases-loop
-nothing-requires c κs = search rules
-
 loop-holds : tie.Need-loop-init invariant-loop decreases-loop
 loop-holds c = tt
 
@@ -57,7 +54,6 @@ asked-in-spec =
     (tie.spec
     invariant-loop
     decreases-loop
-    nothing-requires
     loop-holds
     mul-if1
     returns

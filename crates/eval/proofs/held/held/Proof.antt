@@ -5,8 +5,8 @@ use borrow.Author.Rules.{rules}
 use Rattle.eval.proofs.held.held.Statement.{statement}
 use Rattle.eval.proofs.held.held.Tie as tie
 
-asked-by-requires : tie.Need-asked-by-requires
-asked-by-requires c κs = search rules
+asked-in-requires : tie.Need-asked-in-requires
+asked-in-requires c κs = search rules
 
 wiring-held-requires : tie.Need-wiring-held-requires
 wiring-held-requires c κs = search rules
@@ -23,4 +23,4 @@ returns c = λ h. c.before.wiring-held.ensures.1 (wiring_part _ _ c.before.wirin
 pub held_spec : {M : Type 1} → statement M
 held_spec =
     tie.close
-    (tie.spec asked-by-requires wiring-held-requires fields-held-requires add-result returns)
+    (tie.spec asked-in-requires wiring-held-requires fields-held-requires add-result returns)

@@ -1,9 +1,8 @@
 -- `count_members` sends all members to a `count` behind the calls. Assumes nothing.
-use Rattle.eval.proofs.PipelineLaws.{count_decides, counted_length, counted_part, counted_asks, counts}
-use lib.ListN.{set, length-set}
+use Rattle.eval.proofs.PipelineLaws.{count_decides, counted_length, counted_part, counts}
+use lib.ListN.{length-set}
 use native.Mathlib.Omega.{arith}
-use Rattle.eval.specs.Ready.{CALL_ROW}
-use Prim.Native.Nat.{◌+◌, ◌*◌}
+use Prim.Native.Nat.{◌*◌}
 use borrow.Author.Rules.{rules}
 use Rattle.eval.proofs.pipeline.count_members.Statement.{statement}
 use Rattle.eval.proofs.pipeline.count_members.Tie as tie
@@ -27,25 +26,7 @@ mul-calls-2 : tie.Need-overflow-mul-calls-2
 mul-calls-2 c = search rules
 
 slice-write-calls-2 : tie.Need-slice-write-calls-2
-slice-write-calls-2 c = omega (arith, c.before.before.before.before.before.requires.1, length-set c.before.before.before.before.before.args.calls.now (CALL_ROW * c.before.before.before.before.before.args.count) 4)
-
-add-calls-2 : tie.Need-overflow-add-calls-2
-add-calls-2 c = search rules
-
-mul-calls-3 : tie.Need-overflow-mul-calls-3
-mul-calls-3 c = search rules
-
-slice-write-calls-3 : tie.Need-slice-write-calls-3
-slice-write-calls-3 c = omega (arith, c.before.before.before.before.before.requires.1, length-set c.before.before.before.before.before.args.calls.now (CALL_ROW * c.before.before.before.before.before.args.count) 4, length-set (set c.before.before.before.before.before.args.calls.now (CALL_ROW * c.before.before.before.before.before.args.count) 4) (CALL_ROW * c.before.before.before.before.before.args.count + 1) 0)
-
-add-calls-3 : tie.Need-overflow-add-calls-3
-add-calls-3 c = search rules
-
-mul-calls-4 : tie.Need-overflow-mul-calls-4
-mul-calls-4 c = search rules
-
-slice-write-calls-4 : tie.Need-slice-write-calls-4
-slice-write-calls-4 c = omega (arith, c.before.before.before.before.before.requires.1, length-set c.before.before.before.before.before.args.calls.now (CALL_ROW * c.before.before.before.before.before.args.count) 4, length-set (set c.before.before.before.before.before.args.calls.now (CALL_ROW * c.before.before.before.before.before.args.count) 4) (CALL_ROW * c.before.before.before.before.before.args.count + 1) 0, length-set (set (set c.before.before.before.before.before.args.calls.now (CALL_ROW * c.before.before.before.before.before.args.count) 4) (CALL_ROW * c.before.before.before.before.before.args.count + 1) 0) (CALL_ROW * c.before.before.before.before.before.args.count + 2) 0)
+slice-write-calls-2 c = omega (arith, c.before.before.before.before.before.requires.1, length-set c.before.before.before.before.before.args.calls.now (2 * c.before.before.before.before.before.args.count) 4)
 
 add-end : tie.Need-overflow-add-end
 add-end c = search rules
@@ -57,7 +38,7 @@ slice-aggregate-walk : tie.Need-slice-aggregate-walk
 slice-aggregate-walk c = counted_part c.before.before.before.before.before.before.args.rule.now c.before.before.before.before.before.before.args.image.now c.before.before.before.before.before.before.args.tree.now c.before.before.before.before.before.before.args.source c.before.before.before.before.before.before.args.calls.now c.before.before.before.before.before.before.args.count c.before.before.before.before.before.before.requires.1
 
 walk-requires : tie.Need-walk-requires
-walk-requires c κs = (c.before.before.before.before.before.before.before.requires.0, c.before.before.before.before.before.before.before.requires.2.well, c.before.before.before.before.before.before.before.requires.2.room, count_decides _, counted_asks c.before.before.before.before.before.before.before.args.rule.now c.before.before.before.before.before.before.before.args.image.now c.before.before.before.before.before.before.before.args.tree.now c.before.before.before.before.before.before.before.args.source c.before.before.before.before.before.before.before.args.calls.now c.before.before.before.before.before.before.before.args.count c.before.before.before.before.before.before.before.requires.1 c.before.before.before.before.before.before.before.requires.3)
+walk-requires c κs = (c.before.before.before.before.before.before.before.requires.0, c.before.before.before.before.before.before.before.requires.2.well, c.before.before.before.before.before.before.before.requires.2.room, count_decides _)
 
 same_length : tie.Need-same-length
 same_length c = search rules
@@ -79,12 +60,6 @@ count-members-spec =
     add-calls
     mul-calls-2
     slice-write-calls-2
-    add-calls-2
-    mul-calls-3
-    slice-write-calls-3
-    add-calls-3
-    mul-calls-4
-    slice-write-calls-4
     add-end
     slice-reshare-prefix-walk
     slice-aggregate-walk

@@ -54,7 +54,7 @@ returns-3 : tie.Need-returns-3
 returns-3 c = compare_large c.before.before.before.before.before.before.before.before.before.before.before.before.before.before.before.before.before.before.before.before.before.args.rule.now c.before.before.before.before.before.before.before.before.before.before.before.before.before.before.before.before.before.before.before.before.before.args.image.now c.before.before.before.before.before.before.before.before.before.before.before.before.before.before.before.before.before.before.before.before.before.args.tree.now c.before.before.before.before.before.before.before.before.before.before.before.before.before.before.before.before.before.before.before.before.before.args.at (source_at c.before.before.before.before.before.before.before.before.before.before.before.before.before.before.before.before.before.before.before.before.before.args.rule.now c.before.before.before.before.before.before.before.before.before.before.before.before.before.before.before.before.before.before.before.before.before.args.tree.now c.before.before.before.before.before.before.before.before.before.before.before.before.before.before.before.before.before.before.before.before.before.args.at c.before.before.before.before.before.before.before.before.before.before.before.before.before.before.before.first-child.ensures c.before.before.before.before.before.before.before.before.before.before.before.before.before.found.given.1) (subst (Plans _ _ _ _) c.before.before.before.before.before.before.source.given.1 c.before.before.before.before.before.before.before.before.before.before.plan.ensures) c.before.before.before.before.if1.false c.before.before.before.integer.ensures c.before.before.integer2.ensures c.enum-told2.given.1
 
 count-members-requires : tie.Need-count-members-requires
-count-members-requires c κs = ((subst (Plans _ _ _ _) c.before.before.before.before.before.before.before.before.before.source.given.1 c.before.before.before.before.before.before.before.before.before.before.before.before.before.plan.ensures).found.whole, omega (arith, calls_room c.before.before.before.before.before.before.before.before.before.before.before.before.before.before.before.before.before.before.before.before.before.before.before.before.args.rule.now c.before.before.before.before.before.before.before.before.before.before.before.before.before.before.before.before.before.before.before.before.before.before.before.before.args.tree.now c.before.before.before.before.before.before.before.before.before.before.before.before.before.before.before.before.before.before.before.before.before.before.before.before.args.calls.now c.before.before.before.before.before.before.before.before.before.before.before.before.before.before.before.before.found.given.0.0 (inner-few c.before.before.before.before.before.before.before.before.before.before.before.before.before.before.before.before.before.before.before.before.before.before.before.before.requires.4 (source_at c.before.before.before.before.before.before.before.before.before.before.before.before.before.before.before.before.before.before.before.before.before.before.before.before.args.rule.now c.before.before.before.before.before.before.before.before.before.before.before.before.before.before.before.before.before.before.before.before.before.before.before.before.args.tree.now c.before.before.before.before.before.before.before.before.before.before.before.before.before.before.before.before.before.before.before.before.before.before.before.before.args.at c.before.before.before.before.before.before.before.before.before.before.before.before.before.before.before.before.before.before.first-child.ensures c.before.before.before.before.before.before.before.before.before.before.before.before.before.before.before.before.found.given.1)) c.before.before.before.before.before.before.before.before.before.before.before.before.before.before.before.before.before.before.before.before.before.before.before.before.requires.2, (subst (Plans _ _ _ _) c.before.before.before.before.before.before.before.before.before.source.given.1 c.before.before.before.before.before.before.before.before.before.before.before.before.before.plan.ensures).holds.number), c.before.before.before.before.before.before.before.before.before.before.before.before.before.before.before.before.before.before.before.before.before.before.before.before.requires.3, (subst (Plans _ _ _ _) c.before.before.before.before.before.before.before.before.before.source.given.1 c.before.before.before.before.before.before.before.before.before.before.before.before.before.plan.ensures).holds.asks)
+count-members-requires c κs = ((subst (Plans _ _ _ _) c.before.before.before.before.before.before.before.before.before.source.given.1 c.before.before.before.before.before.before.before.before.before.before.before.before.before.plan.ensures).found.whole, omega (arith, calls_room c.before.before.before.before.before.before.before.before.before.before.before.before.before.before.before.before.before.before.before.before.before.before.before.before.args.rule.now c.before.before.before.before.before.before.before.before.before.before.before.before.before.before.before.before.before.before.before.before.before.before.before.before.args.tree.now c.before.before.before.before.before.before.before.before.before.before.before.before.before.before.before.before.before.before.before.before.before.before.before.before.args.calls.now c.before.before.before.before.before.before.before.before.before.before.before.before.before.before.before.before.found.given.0.0 (inner-few c.before.before.before.before.before.before.before.before.before.before.before.before.before.before.before.before.before.before.before.before.before.before.before.before.requires.4 (source_at c.before.before.before.before.before.before.before.before.before.before.before.before.before.before.before.before.before.before.before.before.before.before.before.before.args.rule.now c.before.before.before.before.before.before.before.before.before.before.before.before.before.before.before.before.before.before.before.before.before.before.before.before.args.tree.now c.before.before.before.before.before.before.before.before.before.before.before.before.before.before.before.before.before.before.before.before.before.before.before.before.args.at c.before.before.before.before.before.before.before.before.before.before.before.before.before.before.before.before.before.before.first-child.ensures c.before.before.before.before.before.before.before.before.before.before.before.before.before.before.before.before.found.given.1)) c.before.before.before.before.before.before.before.before.before.before.before.before.before.before.before.before.before.before.before.before.before.before.before.before.requires.2, (subst (Plans _ _ _ _) c.before.before.before.before.before.before.before.before.before.source.given.1 c.before.before.before.before.before.before.before.before.before.before.before.before.before.plan.ensures).holds.number), c.before.before.before.before.before.before.before.before.before.before.before.before.before.before.before.before.before.before.before.before.before.before.before.before.requires.3)
 
 operator-requires : tie.Need-operator-requires
 operator-requires c κs = c.before.before.before.before.before.before.before.before.before.before.before.before.before.before.before.before.before.before.before.before.before.before.before.before.before.before.before.before.before.requires.0

@@ -39,7 +39,7 @@ slice-aggregate-walk : tie.Need-slice-aggregate-walk
 slice-aggregate-walk c = calls_taken (subst (Plans _ _ _ _) c.before.before.before.before.source.given.1 c.before.before.before.before.before.before.before.before.plan.ensures).holds
 
 walk-requires : tie.Need-walk-requires
-walk-requires c κs = ((subst (Plans _ _ _ _) c.before.before.before.before.before.source.given.1 c.before.before.before.before.before.before.before.before.before.plan.ensures).found.whole, c.before.before.before.before.before.before.before.before.before.before.before.before.before.before.before.before.requires.3.well, c.before.before.before.before.before.before.before.before.before.before.before.before.before.before.before.before.requires.3.room, last_decides _ _ c.before.before.last-method.ensures, (subst (Plans _ _ _ _) c.before.before.before.before.before.source.given.1 c.before.before.before.before.before.before.before.before.before.plan.ensures).holds.asks)
+walk-requires c κs = ((subst (Plans _ _ _ _) c.before.before.before.before.before.source.given.1 c.before.before.before.before.before.before.before.before.before.plan.ensures).found.whole, c.before.before.before.before.before.before.before.before.before.before.before.before.before.before.before.before.requires.3.well, c.before.before.before.before.before.before.before.before.before.before.before.before.before.before.before.before.requires.3.room, last_decides _ _ c.before.before.last-method.ensures)
 
 value-requires : tie.Need-value-requires
 value-requires c κs = (subst (Plans _ _ _ _) c.before.before.before.before.before.before.before.before.source.given.1 c.before.before.before.before.before.before.before.before.before.before.before.before.plan.ensures).small

@@ -26,7 +26,7 @@ shared-slice-read-next-kind : tie.Need-shared-slice-read-next-kind invariant-loo
 shared-slice-read-next-kind c = omega arith
 
 cast-next-kind : tie.Need-overflow-cast-next-kind invariant-loop decreases-loop
-cast-next-kind c = omega (arith, c.shared-slice-known2.given (4 * c.before.before.loop.i))
+cast-next-kind c = omega (arith, c.shared-slice-known2.given (2 * c.before.before.loop.i))
 
 next-kind-requires : tie.Need-next-kind-requires invariant-loop decreases-loop
 next-kind-requires c κs = search rules

@@ -31,7 +31,7 @@ record-count-requires : tie.Need-record-count-requires invariant-loop decreases-
 record-count-requires c κs = search rules
 
 loop-holds : tie.Need-loop-init invariant-loop decreases-loop
-loop-holds c = (known_none _ _, length-replicate {A = ℕ} KNOWN 0, all_start c.before.before.before.before.before.before.before.args.image.now (calls_from c.before.before.before.before.before.before.before.args.rule.now c.before.before.before.before.before.before.before.args.tree.now c.before.before.before.before.before.before.before.args.calls.now 0) (λ ns. kept (is_of_analysis c.before.before.before.before.before.before.before.args.image.now c.before.before.before.before.before.before.before.args.name.now) (map Diagnostic ns)) (begin c.before.before.before.before.before.before.before.args.collection.now) _ _ c.record-count.ensures c.before.before.before.before.before.before.before.requires.0, notes_none _ c.before.before.before.before.before.before.before.requires.1 PLAIN (omega arith) (omega arith), length-replicate {A = ℕ} PLAIN 0)
+loop-holds c = (known_none _ _, length-replicate {A = ℕ} KNOWN 0, all_start c.before.before.before.before.before.before.before.args.image.now (calls_from c.before.before.before.before.before.before.before.args.rule.now c.before.before.before.before.before.before.before.args.tree.now c.before.before.before.before.before.before.before.args.calls.now 0) (λ ns. kept (is_of_analysis c.before.before.before.before.before.before.before.args.image.now c.before.before.before.before.before.before.before.args.name.now) (map Diagnostic ns)) (begin c.before.before.before.before.before.before.before.args.collection.now) _ _ c.record-count.ensures c.before.before.before.before.before.before.before.requires, notes_none _ _ _ _ PLAIN (omega arith) (omega arith), length-replicate {A = ℕ} PLAIN 0)
 
 slice-aggregate-is-of-analysis : tie.Need-slice-aggregate-is-of-analysis invariant-loop decreases-loop
 slice-aggregate-is-of-analysis c = omega (arith, c.before.before.loop.invariant.1)

@@ -29,22 +29,22 @@ record-count-requires : tie.Need-record-count-requires invariant-loop decreases-
 record-count-requires c κs = search rules
 
 loop-holds : tie.Need-loop-init invariant-loop decreases-loop
-loop-holds c = (all_start c.before.before.before.before.before.before.args.image.now (calls_from c.before.before.before.before.before.before.args.rule.now c.before.before.before.before.before.before.args.tree.now c.before.before.before.before.before.before.args.calls.now 0) (map Component) (begin c.before.before.before.before.before.before.args.collection.now) _ _ c.record-count.ensures c.before.before.before.before.before.before.requires.0, notes_none _ c.before.before.before.before.before.before.requires.1 1 (omega arith) (omega arith), refl)
+loop-holds c = (all_start c.before.before.before.before.before.before.args.image.now (calls_from c.before.before.before.before.before.before.args.rule.now c.before.before.before.before.before.before.args.tree.now c.before.before.before.before.before.before.args.calls.now 0) (map Component) (begin c.before.before.before.before.before.before.args.collection.now) _ _ c.record-count.ensures c.before.before.before.before.before.before.requires, notes_none _ _ _ _ 1 (omega arith) (omega arith), refl)
 
-slice-aggregate-feed-asked : tie.Need-slice-aggregate-feed-asked invariant-loop decreases-loop
-slice-aggregate-feed-asked c = omega (arith, c.before.before.before.loop.invariant.2)
+slice-aggregate-feed : tie.Need-slice-aggregate-feed invariant-loop decreases-loop
+slice-aggregate-feed c = omega (arith, c.before.before.before.loop.invariant.2)
 
-feed-asked-requires : tie.Need-feed-asked-requires invariant-loop decreases-loop
-feed-asked-requires c κs = (fits_first (turn _ _ Component _ _ c.before.before.loop-test.true) c.before.before.before.loop.invariant.0.fits, c.before.before.before.loop.invariant.1)
+feed-requires : tie.Need-feed-requires invariant-loop decreases-loop
+feed-requires c κs = (fits_first (turn _ _ Component _ _ c.before.before.loop-test.true) c.before.before.before.loop.invariant.0.fits, c.before.before.before.loop.invariant.1)
 
 is-decided-requires : tie.Need-is-decided-requires invariant-loop decreases-loop
 is-decided-requires c κs = search rules
 
 same-length-1 : tie.Need-same-length invariant-loop decreases-loop
-same-length-1 c = same_length _ _ _ (begin c.before.before.before.before.before.before.before.before.before.before.before.before.before.before.before.before.args.collection.now) (feeding_stop c.before.before.before.before.before.before.before.before.before.loop.invariant.0 (turn _ _ Component _ _ c.before.before.before.before.before.before.before.before.loop-test.true) c.before.before.before.before.before.feed-asked.ensures.0 (sym c.before.is-decided.ensures ∙ c.if1.true))
+same-length-1 c = same_length _ _ _ (begin c.before.before.before.before.before.before.before.before.before.before.before.before.before.before.before.before.args.collection.now) (feeding_stop c.before.before.before.before.before.before.before.before.before.loop.invariant.0 (turn _ _ Component _ _ c.before.before.before.before.before.before.before.before.loop-test.true) c.before.before.before.before.before.feed.ensures.0 (sym c.before.is-decided.ensures ∙ c.if1.true))
 
 returns : tie.Need-returns invariant-loop decreases-loop
-returns c = feeding_stop c.before.before.before.before.before.before.before.before.before.loop.invariant.0 (turn _ _ Component _ _ c.before.before.before.before.before.before.before.before.loop-test.true) c.before.before.before.before.before.feed-asked.ensures.0 (sym c.before.is-decided.ensures ∙ c.if1.true)
+returns c = feeding_stop c.before.before.before.before.before.before.before.before.before.loop.invariant.0 (turn _ _ Component _ _ c.before.before.before.before.before.before.before.before.loop-test.true) c.before.before.before.before.before.feed.ensures.0 (sym c.before.is-decided.ensures ∙ c.if1.true)
 
 add-component : tie.Need-overflow-add-component invariant-loop decreases-loop
 add-component c = omega (arith, c.before.before.before.before.before.before.before.before.loop-test.true)
@@ -53,7 +53,7 @@ loop-less : tie.Need-loop-smaller invariant-loop decreases-loop
 loop-less c = omega (arith, c.before.before.before.before.before.before.before.before.loop-test.true)
 
 loop-again : tie.Need-loop-preserved invariant-loop decreases-loop
-loop-again c = (feeding_on c.before.before.before.before.before.before.before.before.before.loop.invariant.0 (turn _ _ Component _ _ c.before.before.before.before.before.before.before.before.loop-test.true) c.before.before.before.before.before.feed-asked.ensures.0 (sym c.before.is-decided.ensures ∙ c.if1.false), c.before.before.before.before.before.feed-asked.ensures.1, omega (arith, c.before.before.before.before.before.before.before.before.before.loop.invariant.2))
+loop-again c = (feeding_on c.before.before.before.before.before.before.before.before.before.loop.invariant.0 (turn _ _ Component _ _ c.before.before.before.before.before.before.before.before.loop-test.true) c.before.before.before.before.before.feed.ensures.0 (sym c.before.is-decided.ensures ∙ c.if1.false), c.before.before.before.before.before.feed.ensures.1, omega (arith, c.before.before.before.before.before.before.before.before.before.loop.invariant.2))
 
 same-length-2 : tie.Need-same-length-2 invariant-loop decreases-loop
 same-length-2 c = feeding_length c.before.loop.invariant.0
@@ -69,8 +69,8 @@ feed-few-spec =
     decreases-loop
     record-count-requires
     loop-holds
-    slice-aggregate-feed-asked
-    feed-asked-requires
+    slice-aggregate-feed
+    feed-requires
     is-decided-requires
     same-length-1
     returns

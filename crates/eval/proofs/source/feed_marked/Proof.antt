@@ -29,7 +29,7 @@ slice-aggregate-feed-each-component : tie.Need-slice-aggregate-feed-each-compone
 slice-aggregate-feed-each-component c = sym (front_length c.before.before.before.before.make-marks.ensures _)
 
 feed-each-component-requires : tie.Need-feed-each-component-requires
-feed-each-component-requires c κs = (c.before.before.before.before.before.before.before.before.before.before.before.requires.0, notes_front c.before.before.before.before.make-marks.ensures _ c.before.before.before.before.before.before.before.before.before.before.before.requires.1 c.before.before.held.ensures)
+feed-each-component-requires c κs = (c.before.before.before.before.before.before.before.before.before.before.before.requires, notes_front c.before.before.before.before.make-marks.ensures _ _ c.before.before.held.ensures)
 
 same_length : tie.Need-same-length
 same_length c = search rules

@@ -38,7 +38,7 @@ slice-aggregate-feed-each-component : tie.Need-slice-aggregate-feed-each-compone
 slice-aggregate-feed-each-component c = search rules
 
 feed-each-component-requires : tie.Need-feed-each-component-requires
-feed-each-component-requires c κs = (c.before.before.before.before.before.before.before.before.before.before.before.before.requires.0, notes_plain _ c.before.before.before.before.before.before.before.before.before.before.before.before.requires.1 _ c.before.before.held.ensures)
+feed-each-component-requires c κs = (c.before.before.before.before.before.before.before.before.before.before.before.before.requires, notes_plain _ _ _ _ _ c.before.before.held.ensures)
 
 same-length-3 : tie.Need-same-length-3
 same-length-3 c = search rules

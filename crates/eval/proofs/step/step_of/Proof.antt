@@ -28,7 +28,7 @@ shared-slice-read-method : tie.Need-shared-slice-read-method invariant-loop decr
 shared-slice-read-method c = omega (arith, c.before.loop-test.true)
 
 cast-method : tie.Need-overflow-cast-method invariant-loop decreases-loop
-cast-method c = omega (arith, c.shared-slice-known3.given (4 * c.before.before.loop.i))
+cast-method c = omega (arith, c.shared-slice-known3.given (2 * c.before.before.loop.i))
 
 add-i : tie.Need-overflow-add-i invariant-loop decreases-loop
 add-i c = omega (arith, c.before.before.loop-test.true)

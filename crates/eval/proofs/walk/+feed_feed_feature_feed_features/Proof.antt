@@ -116,7 +116,7 @@ feed-shared-slice-read-method : (t : ℕ) → feed-lts.Need-shared-slice-read-me
 feed-shared-slice-read-method t c = omega (arith, c.before.if1.false)
 
 feed-cast-method : (t : ℕ) → feed-lts.Need-overflow-cast-method (feed-calls t) (feed-at t) feed.Post
-feed-cast-method t c = omega (arith, c.shared-slice-known5.given (4 * c.before.before.before.before.before.before.before.before.args.i))
+feed-cast-method t c = omega (arith, c.shared-slice-known5.given (2 * c.before.before.before.before.before.before.before.before.args.i))
 
 feed-add-next : (t : ℕ) → feed-lts.Need-overflow-add-next (feed-calls t) (feed-at t) feed.Post
 feed-add-next t c = omega (arith, c.before.if1.false)

@@ -17,7 +17,7 @@ shared-slice-read-if1 : tie.Need-shared-slice-read-if1
 shared-slice-read-if1 c = search rules
 
 feed-components-requires : tie.Need-feed-components-requires
-feed-components-requires c κs = (rows_fits (components_fit_lem c.before.before.before.before.before.before.before.before.before.before.before.before.args.rule.now c.before.before.before.before.before.before.before.before.before.before.before.before.args.image.now c.before.before.before.before.before.before.before.before.before.before.before.before.args.tree.now c.before.before.before.before.before.before.before.before.before.before.before.before.args.calls.now c.before.before.before.before.before.before.before.before.before.before.before.before.args.collection.now (kind_at c.before.before.before.before.before.before.before.before.before.before.before.before.args.tree.now c.before.before.before.before.before.before.before.before.before.before.before.before.args.source) (children_at c.before.before.before.before.before.before.before.before.before.before.before.before.args.rule.now c.before.before.before.before.before.before.before.before.before.before.before.before.args.tree.now c.before.before.before.before.before.before.before.before.before.before.before.before.args.source) c.before.before.before.before.before.before.before.before.before.before.before.before.requires.1 c.before.before.before.before.before.before.before.before.before.before.before.before.requires.2) (decides_all c.before.before.before.before.before.before.before.before.before.before.before.before.args.rule.now c.before.before.before.before.before.before.before.before.before.before.before.before.args.tree.now c.before.before.before.before.before.before.before.before.before.before.before.before.args.calls.now c.before.before.before.before.before.before.before.before.before.before.before.before.requires.3) c.before.before.before.before.before.clear.ensures, c.before.before.before.before.before.before.before.before.before.before.before.before.requires.4)
+feed-components-requires c κs = rows_fits (components_fit_lem c.before.before.before.before.before.before.before.before.before.before.before.before.args.rule.now c.before.before.before.before.before.before.before.before.before.before.before.before.args.image.now c.before.before.before.before.before.before.before.before.before.before.before.before.args.tree.now c.before.before.before.before.before.before.before.before.before.before.before.before.args.calls.now c.before.before.before.before.before.before.before.before.before.before.before.before.args.collection.now (kind_at c.before.before.before.before.before.before.before.before.before.before.before.before.args.tree.now c.before.before.before.before.before.before.before.before.before.before.before.before.args.source) (children_at c.before.before.before.before.before.before.before.before.before.before.before.before.args.rule.now c.before.before.before.before.before.before.before.before.before.before.before.before.args.tree.now c.before.before.before.before.before.before.before.before.before.before.before.before.args.source) c.before.before.before.before.before.before.before.before.before.before.before.before.requires.1 c.before.before.before.before.before.before.before.before.before.before.before.before.requires.2) (decides_all c.before.before.before.before.before.before.before.before.before.before.before.before.args.rule.now c.before.before.before.before.before.before.before.before.before.before.before.before.args.tree.now c.before.before.before.before.before.before.before.before.before.before.before.before.args.calls.now c.before.before.before.before.before.before.before.before.before.before.before.before.requires.3) c.before.before.before.before.before.clear.ensures
 
 same_length : tie.Need-same-length
 same_length c = search rules
@@ -29,7 +29,7 @@ find-string-literal-requires : tie.Need-find-string-literal-requires
 find-string-literal-requires c κs = search rules
 
 feed-diagnostics-requires : tie.Need-feed-diagnostics-requires
-feed-diagnostics-requires c κs = (rows_fits (diagnostics_fit_lem c.before.before.before.before.before.before.before.before.before.before.before.before.before.args.rule.now c.before.before.before.before.before.before.before.before.before.before.before.before.before.args.image.now c.before.before.before.before.before.before.before.before.before.before.before.before.before.args.tree.now c.before.before.before.before.before.before.before.before.before.before.before.before.before.args.calls.now c.before.before.before.before.before.before.before.before.before.before.before.before.before.args.collection.now (kind_at c.before.before.before.before.before.before.before.before.before.before.before.before.before.args.tree.now c.before.before.before.before.before.before.before.before.before.before.before.before.before.args.source) (children_at c.before.before.before.before.before.before.before.before.before.before.before.before.before.args.rule.now c.before.before.before.before.before.before.before.before.before.before.before.before.before.args.tree.now c.before.before.before.before.before.before.before.before.before.before.before.before.before.args.source) c.before.find-string-literal.result.now c.before.before.before.before.before.before.before.before.before.before.before.before.before.requires.2) (decides_all c.before.before.before.before.before.before.before.before.before.before.before.before.before.args.rule.now c.before.before.before.before.before.before.before.before.before.before.before.before.before.args.tree.now c.before.before.before.before.before.before.before.before.before.before.before.before.before.args.calls.now c.before.before.before.before.before.before.before.before.before.before.before.before.before.requires.3) c.before.before.before.before.before.before.clear.ensures, c.before.before.before.before.before.before.before.before.before.before.before.before.before.requires.4)
+feed-diagnostics-requires c κs = rows_fits (diagnostics_fit_lem c.before.before.before.before.before.before.before.before.before.before.before.before.before.args.rule.now c.before.before.before.before.before.before.before.before.before.before.before.before.before.args.image.now c.before.before.before.before.before.before.before.before.before.before.before.before.before.args.tree.now c.before.before.before.before.before.before.before.before.before.before.before.before.before.args.calls.now c.before.before.before.before.before.before.before.before.before.before.before.before.before.args.collection.now (kind_at c.before.before.before.before.before.before.before.before.before.before.before.before.before.args.tree.now c.before.before.before.before.before.before.before.before.before.before.before.before.before.args.source) (children_at c.before.before.before.before.before.before.before.before.before.before.before.before.before.args.rule.now c.before.before.before.before.before.before.before.before.before.before.before.before.before.args.tree.now c.before.before.before.before.before.before.before.before.before.before.before.before.before.args.source) c.before.find-string-literal.result.now c.before.before.before.before.before.before.before.before.before.before.before.before.before.requires.2) (decides_all c.before.before.before.before.before.before.before.before.before.before.before.before.before.args.rule.now c.before.before.before.before.before.before.before.before.before.before.before.before.before.args.tree.now c.before.before.before.before.before.before.before.before.before.before.before.before.before.args.calls.now c.before.before.before.before.before.before.before.before.before.before.before.before.before.requires.3) c.before.before.before.before.before.before.clear.ensures
 
 same-length-2 : tie.Need-same-length-2
 same-length-2 c = search rules

@@ -1,8 +1,6 @@
 -- `atom::compares` gives `compares`, by the sort of member. Assumes nothing.
-use borrow.Author.Tests.{eq-eqb, ne_eqb}
+use borrow.Author.Tests.{not-true, not-false}
 use Rattle.predicate.specs.Truth.{compares}
-use Rattle.predicate.specs.Prepared.{SEVERITY}
-use Rattle.predicate.proofs.PreparedLaws.{is_severity}
 use borrow.Author.Rules.{rules}
 use Rattle.predicate.proofs.atom.compares.Statement.{statement}
 use Rattle.predicate.proofs.atom.compares.Tie as tie
@@ -22,9 +20,15 @@ feature-compares-requires c κs = search rules
 enum-known-member-3 : tie.Need-enum-known-member-3
 enum-known-member-3 c = search rules
 
+slice-aggregate-same : tie.Need-slice-aggregate-same
+slice-aggregate-same c = search rules
+
+same-requires : tie.Need-same-requires
+same-requires c κs = search rules
+
 returns : tie.Need-returns
 unfolding compares
-returns c = rw (c.before.before.member3.given.1, is_severity c.before.before.before.before.before.before.args.ask, ne_eqb _ SEVERITY c.if1.true)
+returns c = rw (c.before.before.before.before.member3.given.1, ← c.before.same.ensures, not-true c.before.same.result c.if1.true)
 
 field-requires : tie.Need-field-requires
 field-requires c κs = search rules
@@ -42,7 +46,7 @@ returns-3 c = rw c.before.before.member2.given.1 c.feature-compares.ensures
 
 returns-4 : tie.Need-returns-4
 unfolding compares
-returns-4 c = rw (c.before.before.before.before.member3.given.1, is_severity c.before.before.before.before.before.before.before.before.args.ask, eq-eqb _ SEVERITY c.before.before.if1.false, ← c.before.field.ensures) c.severity-matches.ensures
+returns-4 c = rw (c.before.before.before.before.before.before.member3.given.1, ← c.before.before.before.same.ensures, not-false c.before.before.before.same.result c.before.before.if1.false, ← c.before.field.ensures) c.severity-matches.ensures
 
 pub compares-spec : {M : Type 1} → statement M
 compares-spec =
@@ -53,6 +57,8 @@ compares-spec =
     enum-known-member-2
     feature-compares-requires
     enum-known-member-3
+    slice-aggregate-same
+    same-requires
     returns
     field-requires
     severity-matches-requires

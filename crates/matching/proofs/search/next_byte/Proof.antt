@@ -1,22 +1,18 @@
--- `search::next_first` passes over places where a part's first byte is not, at none of which it begins. Assumes nothing.
+-- `search::next_byte` passes over places with another byte. Assumes nothing.
 use Prim.Native.Nat.{◌-◌}
 use native.Mathlib.Omega.{arith}
 use lib.ListN.{length}
-use Rattle.matching.specs.SearchScan.{Skipped}
-use Rattle.matching.specs.SearchScan.Skipped.{none}
-use Rattle.matching.proofs.SearchLaws.{skipped_past}
+use Rattle.matching.specs.SearchScan.{Passed}
+use Rattle.matching.specs.SearchScan.Passed.{none, past}
 use borrow.Author.Rules.{rules}
-use Rattle.matching.proofs.search.next_first.Statement.{statement}
-use Rattle.matching.proofs.search.next_first.Tie as tie
+use Rattle.matching.proofs.search.next_byte.Statement.{statement}
+use Rattle.matching.proofs.search.next_byte.Tie as tie
 
 abbrev invariant-loop : tie.invariant-loop
-invariant-loop text part from to first at₀ at = Skipped part text from at
+invariant-loop text from to byte at₀ at = Passed text byte from at
 
 abbrev decreases-loop : tie.decreases-loop
-decreases-loop text part from to first at₀ at = length text - at
-
-shared-slice-read-first : tie.Need-shared-slice-read-first invariant-loop decreases-loop
-shared-slice-read-first c = search rules
+decreases-loop text from to byte at₀ at = length text - at
 
 loop-holds : tie.Need-loop-init invariant-loop decreases-loop
 loop-holds c = none
@@ -34,18 +30,17 @@ loop-less : tie.Need-loop-smaller invariant-loop decreases-loop
 loop-less c = search rules
 
 loop-again : tie.Need-loop-preserved invariant-loop decreases-loop
-loop-again c = skipped_past c.before.before.before.loop.invariant (omega arith) (omega arith) (λ all. c.if1.false (all 0 _ (omega arith) (omega arith)))
+loop-again c = past c.before.before.before.loop.invariant (omega arith) c.if1.false
 
 returns-2 : tie.Need-returns-2 invariant-loop decreases-loop
 returns-2 c = c.before.loop.invariant
 
-pub next-first-spec : {M : Type 1} → statement M
-next-first-spec =
+pub next-byte-spec : {M : Type 1} → statement M
+next-byte-spec =
     tie.close
     (tie.spec
     invariant-loop
     decreases-loop
-    shared-slice-read-first
     loop-holds
     shared-slice-read-if1
     returns
