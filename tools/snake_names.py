@@ -19,7 +19,8 @@ import sys
 WORD = re.compile(r"--[^\n]*|//[^\n]*|\"(?:[^\"\\]|\\.)*\"|[^\s(){};,@\"«»\[\]\\.|`]+")
 IMPORT = re.compile(r"(?ms)^(?:ghost |pub )?use ([^\s{;]+?)\.?(?:\{([^}]*)\})?(?: as (\S+))?;?$")
 # Names that are called otherwise than by the rule.
-OTHERWISE = {}
+OTHERWISE = {"textOrEOF": "text_or_eof", "text_orEOF": "text_or_eof"}
+KEYWORDS = set("use pub let in where module open ruleset abbrev unfoldable record data mutual".split())
 
 
 def read(path):
@@ -67,7 +68,8 @@ def declared(text):
         two = re.match(r"\s*(?:abbrev |unfoldable )?(?:pub )?(?:record |data )?([^\s(){};,:.λ=]+) .*?: ", line)
         if two:
             found.add(two[1])
-    return {it for it in found if not it.startswith(("--", "→", "λ", "×", "∙", "use", "pub", "let", "in", "where", "module", "open", "ruleset"))}
+    found.update(re.findall(r" as ([a-z]\w*[A-Z]\w*)", text))
+    return {it for it in found if it not in KEYWORDS and not re.match(r"--|[→λ×∙]", it)}
 
 
 def own_crates(root):

@@ -1,4 +1,6 @@
 // The static library for C and Rust: what the crates below do, over plain numbers and slices. A slice passes as a pointer and a length.
+#![tactic(auto)]
+
 mod answer;
 
 ghost use Rattle.std.specs.Prelude.{◌≡◌, length};

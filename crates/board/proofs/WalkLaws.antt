@@ -88,11 +88,11 @@ module _ {image : List ℕ} {from count at left : ℕ} (fit : (sections_fit imag
 
 -- the letters, by the numbers that were read
 module _ (image : List ℕ) {from size : ℕ} (o : from ≡ section_offset image Letters) (l : size ≡ section_length image Letters) where
-  pub letters-in : sections_fit image ≡ true → from + size ≤ length image
-  letters-in fit = rw (o, l) (section_within_lem image fit Letters)
+  pub letters_in : sections_fit image ≡ true → from + size ≤ length image
+  letters_in fit = rw (o, l) (section_within_lem image fit Letters)
 
-  pub letters-here : letters image ≡ take (from + size - from) (drop from image)
-  letters-here = rw (← o, ← l, less)
+  pub letters_here : letters image ≡ take (from + size - from) (drop from image)
+  letters_here = rw (← o, ← l, less)
     where
       less : from + size - from ≡ size
       less = omega arith

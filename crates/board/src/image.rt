@@ -4,7 +4,7 @@ ghost use Rattle.std.specs.Prelude.{◌≡◌, ◌+◌, ◌*◌, ◌<◌, ◌≤
 ghost use Rattle.board.specs.Image.{NUMBER_SIZE, word, section_number, record_size, LARGEST_RECORD, SECTIONS, section_offset, section_length, record_count, field, text};
 
 // The sections, in the order in which the image has them.
-#[derive(Drop)]
+#[derive(Clone, Copy)]
 pub enum Section {
     Letters,
     Strings,

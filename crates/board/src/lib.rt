@@ -1,5 +1,7 @@
 // The board image, checked: refusals 5 to 8. Nothing is altered. Each section is passed over once; the strings once more where their
 // letters are not ASCII alone.
+#![tactic(auto)]
+
 pub mod image;
 
 ghost use Rattle.std.specs.Prelude.{◌≡◌, true, ◌+◌, ◌≤◌, length};

@@ -14,7 +14,7 @@ use Rattle.syntax.specs.declared.refusal.Refusal.TheVariants.{IntegerTooLarge}
 use Rattle.meaning.specs.Value.{Outcome, boolean, refused}
 use Rattle.meaning.specs.Compare.{MAX_INTEGER, BASE, decimal_from, decimal, operator_holds, against}
 use Rattle.calls.specs.declared.value.Integer.{Integer}
-use Rattle.calls.specs.Integer.{digit_of, integerFor}
+use Rattle.calls.specs.Integer.{digit_of, integer_for}
 
 -- a digit more makes no number smaller
 grows : (n : ℕ) (digits : List ℕ) → n ≤ decimal_from n digits
@@ -42,16 +42,16 @@ module _ {digits : List ℕ} {n i : ℕ} (r : ReadTo digits n i) where
   read_more digit h e l = record { within = omega arith; small = l; rest = rw e (step h) }
 
   -- it is too large
-  pub read_large : (digit : ℕ) → i < length digits → digit ≡ digit_of (get_or digits i 0) → MAX_INTEGER < BASE * n + digit → Integer.TooLarge ≡ integerFor digits
-  unfolding integerFor
+  pub read_large : (digit : ℕ) → i < length digits → digit ≡ digit_of (get_or digits i 0) → MAX_INTEGER < BASE * n + digit → Integer.TooLarge ≡ integer_for digits
+  unfolding integer_for
   read_large digit h e l =
       let g : BASE * n + digit_of (get_or digits i 0) ≤ decimal digits = rw (step h) at (grows (BASE * n + digit_of (get_or digits i 0)) (drop (i + 1) digits)) in
       let large : MAX_INTEGER < decimal digits = omega arith in
       sym (rw (lt-leb (decimal digits) MAX_INTEGER large))
 
   -- all are read
-  pub read_whole : length digits ≤ i → Integer.Fits n ≡ integerFor digits
-  unfolding integerFor decimal_from
+  pub read_whole : length digits ≤ i → Integer.Fits n ≡ integer_for digits
+  unfolding integer_for decimal_from
   read_whole h =
       let whole : n ≡ decimal digits = rw (drop_of_length-le digits h) at r.rest in
       let fits : decimal digits ≤ MAX_INTEGER = omega (arith, r.small) in
@@ -63,8 +63,8 @@ against_for operator left (Integer.Fits right) = boolean (operator_holds operato
 against_for operator left Integer.TooLarge = refused IntegerTooLarge
 
 -- a comparison with the number that digits write, by what the code makes of them
-pub against_integer : (operator left : ℕ) (digits : List ℕ) → against operator left (decimal digits) ≡ against_for operator left (integerFor digits)
-unfolding against integerFor
+pub against_integer : (operator left : ℕ) (digits : List ℕ) → against operator left (decimal digits) ≡ against_for operator left (integer_for digits)
+unfolding against integer_for
 against_integer operator left digits =
     whether (leb (decimal digits) MAX_INTEGER) (λ e. rw (e, le-ltb MAX_INTEGER (decimal digits) (leb-true _ _ e)))
     (λ e. rw (e, lt-ltb MAX_INTEGER (decimal digits) (leb-false _ _ e)))

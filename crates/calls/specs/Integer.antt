@@ -5,9 +5,9 @@ use Rattle.meaning.specs.Compare.{MAX_INTEGER, decimal}
 use Rattle.calls.specs.declared.value.Integer.{Integer}
 
 -- the number that digits write, where it is not above the largest
-unfoldable pub integerFor : List ℕ → Integer
+unfoldable pub integer_for : List ℕ → Integer
 unfolding decimal
-integerFor digits = cond (leb (decimal digits) MAX_INTEGER) (Integer.Fits (decimal digits)) Integer.TooLarge
+integer_for digits = cond (leb (decimal digits) MAX_INTEGER) (Integer.Fits (decimal digits)) Integer.TooLarge
 
 -- what a byte counts in it
 abbrev pub digit_of : ℕ → ℕ

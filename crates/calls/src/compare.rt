@@ -1,7 +1,7 @@
 // `eval_count_compare`: the integer of a comparison, and its operator.
 ghost use Rattle.std.specs.Prelude.{◌≡◌};
 ghost use Rattle.meaning.specs.Compare.{operator_holds};
-ghost use Rattle.calls.specs.Integer.{integerFor, digit_of};
+ghost use Rattle.calls.specs.Integer.{integer_for, digit_of};
 
 use crate::value::Integer;
 use syntax::kind;
@@ -13,7 +13,7 @@ const BASE: u64 = 10;
 
 // The number that digits write, in one pass: it ends where a digit more is too large, as no later one makes it smaller.
 pub fn integer(digits: &[u8]) -> Integer
-    ensures { result ≡ integerFor digits.now }
+    ensures { result ≡ integer_for digits.now }
 {
     let mut n = 0;
     let mut i = 0;

@@ -21,7 +21,7 @@ pub const COUNT: usize = 4;
 const FIRST_REFUSAL: u8 = 10;
 
 // What a call gives: a value of the kind with this number, or a refusal.
-#[derive(Drop)]
+#[derive(Clone, Copy)]
 pub enum Next {
     Kind(usize),
     Refused(Refusal),

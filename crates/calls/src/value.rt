@@ -3,7 +3,7 @@ use syntax::refusal::Refusal;
 
 // A collection by the number of its members, which stand in the collection table; a boolean, or one that is warned because it is said
 // of an empty collection; or a count.
-#[derive(Drop)]
+#[derive(Clone, Copy)]
 pub enum Value {
     Components(usize),
     Features(usize),
@@ -14,14 +14,14 @@ pub enum Value {
 }
 
 // What running a rule gives: a value, or a refusal.
-#[derive(Drop)]
+#[derive(Clone, Copy)]
 pub enum Outcome {
     Given(Value),
     Refused(Refusal),
 }
 
 // What an outcome says of a board. Open: neither true nor false.
-#[derive(Drop)]
+#[derive(Clone, Copy)]
 pub enum Verdict {
     Pass,
     Fail,
@@ -30,7 +30,7 @@ pub enum Verdict {
 }
 
 // What the digits of an integer come to.
-#[derive(Drop)]
+#[derive(Clone, Copy)]
 pub enum Integer {
     Fits(u64),
     TooLarge,

@@ -28,7 +28,7 @@ use Rattle.predicate.specs.Truth.{literal_of}
 use Rattle.meaning.specs.Value.{Sort, components, diagnostics, Outcome, collection, boolean, refused, Kind, sort_kind}
 use Rattle.meaning.specs.Calls.{Method, Where, All, Any, None, Count, Entry, next, refuse, Call, is_empty, call_gives, calls_give}
 use Rattle.meaning.specs.Pipeline.{all_components, is_of_analysis, diagnostics_of, source_of, calls_of, eval_pipeline}
-use Rattle.meaning.specs.Compare.{MAX_INTEGER, operator_holds, against, compared, operator_of, integerOf}
+use Rattle.meaning.specs.Compare.{MAX_INTEGER, operator_holds, against, compared, operator_of, integer_of}
 use Rattle.meaning.specs.Outcome.{Lent, first_kind, first_inner, eval_count_compare, eval_node, outcome_of, outcome, then_check, check_run, after_check, run}
 use Rattle.meaning.specs.Walk.{plan_of, arrivals, last_method, last_test, how_many, judged, settled}
 use Rattle.meaning.proofs.WalkLaws.{calls_refused, calls_settled, components_fit_lem, diagnostics_fit_lem}
@@ -147,7 +147,7 @@ module _ (image : List ℕ) (w : WellFormed image) where
   unfolding eval_node eval_count_compare
   node_few f =
       whether (eqb (first_kind f) COUNT_COMPARE_EXPR)
-      (λ q. rw q (compared_few (operator_of (first_inner f)) (integerOf (first_inner f)) (eval_pipeline image (first_inner (first_inner f)))))
+      (λ q. rw q (compared_few (operator_of (first_inner f)) (integer_of (first_inner f)) (eval_pipeline image (first_inner (first_inner f)))))
       (λ q. rw q (pipeline_few (first_inner f)))
 
   pub outcome_few : (rule : List ℕ) → Few (outcome image rule)

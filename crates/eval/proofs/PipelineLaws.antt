@@ -18,13 +18,13 @@ use Rattle.matching.specs.declared.search.Found.{Found}
 use Rattle.predicate.specs.declared.atom.Member.{Member}
 use Rattle.predicate.specs.declared.atom.Member.TheVariants.{Component}
 use Rattle.predicate.specs.Truth.{first_text}
-use Rattle.predicate.specs.Rows.{ROW, kind_at as treeKind, level_at, children_at, of_node, first_row}
+use Rattle.predicate.specs.Rows.{ROW, kind_at as tree_kind, level_at, children_at, of_node, first_row}
 use Rattle.predicate.specs.Eval.{FoundAt, FoundNowhere}
 use Rattle.predicate.proofs.NodeLaws.{row_absent}
 use Rattle.meaning.specs.Value.{Outcome, boolean, refused, Kind, sort_kind, collection_table, with_members}
 use Rattle.meaning.specs.Calls.{Method, Where, All, Any, None, Count, Features, Diagnostics, Call, next, calls_give, method_number, kind_number, true_for}
 use Rattle.meaning.specs.Pipeline.{calls_of, source_of, eval_pipeline}
-use Rattle.meaning.specs.Compare.{operator_holds, against, compared, operator_of, integerOf}
+use Rattle.meaning.specs.Compare.{operator_holds, against, compared, operator_of, integer_of}
 use Rattle.meaning.specs.Outcome.{first_kind, first_inner, eval_count_compare, eval_node}
 use Rattle.meaning.specs.Walk.{is_last, is_quantifier, plan_of, arrivals, arrive_by, last_call, method_in, last_method, last_test, how_many, judged, settled}
 use Rattle.meaning.proofs.WalkLaws.{Ends, calls_settled, plan_ends, how_many_most}
@@ -32,7 +32,7 @@ use Rattle.calls.specs.declared.value.Outcome.{Outcome as Answer}
 use Rattle.calls.specs.declared.value.Value.{Value}
 use Rattle.calls.specs.declared.value.Integer.{Integer}
 use Rattle.calls.specs.Answer.{answer_of}
-use Rattle.calls.specs.Integer.{integerFor}
+use Rattle.calls.specs.Integer.{integer_for}
 use Rattle.calls.specs.Table.{method_at, kind_at}
 use Rattle.calls.proofs.CompareLaws.{against_for, against_integer}
 use Rattle.calls.proofs.TableLaws.{method_at_lem, kind_at_lem}
@@ -59,16 +59,16 @@ pub calls_room : (rule tree rows : List ℕ) (at : ℕ) → FewCalls rule tree a
 calls_room rule tree rows at h r = omega (arith, calls_fewer (children_at rule tree at), h.few)
 
 -- so are those of the first node in it
-pub inner-fewer : (f : Forest) → dot_calls (first_inner f) ≤ dot_calls f
+pub inner_fewer : (f : Forest) → dot_calls (first_inner f) ≤ dot_calls f
 unfolding first_inner dot_calls
-inner-fewer nil = omega arith
-inner-fewer (leaf t f) = inner-fewer f
-inner-fewer (node k s f) = omega arith
+inner_fewer nil = omega arith
+inner_fewer (leaf t f) = inner_fewer f
+inner_fewer (node k s f) = omega arith
 
-pub inner-few : {rule tree : List ℕ} {at inner : ℕ} → FewCalls rule tree at → FoundAt of_node tree (level_at tree at + 1) (at + ROW) inner → FewCalls rule tree inner
+pub inner_few : {rule tree : List ℕ} {at inner : ℕ} → FewCalls rule tree at → FoundAt of_node tree (level_at tree at + 1) (at + ROW) inner → FewCalls rule tree inner
 unfolding first_inner
-inner-few {rule} {tree} {at} h f =
-    record { few = omega (arith, h.few, inner-fewer (children_at rule tree at), ap dot_calls (node_first first_inner (λ t g. refl) rule f)) }
+inner_few {rule} {tree} {at} h f =
+    record { few = omega (arith, h.few, inner_fewer (children_at rule tree at), ap dot_calls (node_first first_inner (λ t g. refl) rule f)) }
 
 -- ---- a pipeline
 
@@ -149,7 +149,7 @@ refuses image {table = table} {r = r} f =
 -- one that is ready, and the members that arrive
 module _ (rule image tree : List ℕ) (at : ℕ) {rows : List ℕ} {source count kind : ℕ} (p : Ready rule tree at rows source count kind) where
   abbrev members : List Member
-  members = source_members image (treeKind tree source) (children_at rule tree source)
+  members = source_members image (tree_kind tree source) (children_at rule tree source)
 
   abbrev calls : List Call
   calls = calls_in rule tree (take (CALL_ROW * count) rows)
@@ -157,18 +157,18 @@ module _ (rule image tree : List ℕ) (at : ℕ) {rows : List ℕ} {source count
   abbrev came : List Member
   came = arrivals image calls members
 
-  plan_is : plan_of (sort_kind (source_sort (treeKind tree source))) calls ≡ next (kind_at kind)
-  plan_is = ap (plan_of (sort_kind (source_sort (treeKind tree source)))) p.holds.calls ∙ p.plan
+  plan_is : plan_of (sort_kind (source_sort (tree_kind tree source))) calls ≡ next (kind_at kind)
+  plan_is = ap (plan_of (sort_kind (source_sort (tree_kind tree source)))) p.holds.calls ∙ p.plan
 
   pub pipeline_settled : eval_pipeline image (children_at rule tree at)
       ≡ settled (kind_at kind) (last_method calls) (length came) (how_many (last_test image calls) came) came
   unfolding eval_pipeline
   pipeline_settled =
       ap₂ (calls_give image) (sym p.holds.calls) (source_found rule image tree at p.found)
-      ∙ calls_settled image calls (source_sort (treeKind tree source)) members (kind_at kind) plan_is
+      ∙ calls_settled image calls (source_sort (tree_kind tree source)) members (kind_at kind) plan_is
 
   ends : Ends (kind_at kind) (last_call calls)
-  ends = plan_ends calls (source_sort (treeKind tree source)) (kind_at kind) plan_is
+  ends = plan_ends calls (source_sort (tree_kind tree source)) (kind_at kind) plan_is
 
   abbrev passing : ℕ
   passing = how_many (last_test image calls) came
@@ -257,7 +257,7 @@ module _ (rule image tree : List ℕ) (source : ℕ) (rows : List ℕ) (count : 
   counted_calls = ap (calls_in rule tree) counted_taken ∙ calls_append rule tree count (take (CALL_ROW * count) rows) (method_number Count ∷ 0 ∷ []) front
 
   pub counts : {t : Tally} {table after : List ℕ}
-      → Stands (method_at (method_number Count)) (state_of t after) (walked image (calls_in rule tree (take (CALL_ROW * count + CALL_ROW) counted)) (source_members image (treeKind tree source) (children_at rule tree source)) table)
+      → Stands (method_at (method_number Count)) (state_of t after) (walked image (calls_in rule tree (take (CALL_ROW * count + CALL_ROW) counted)) (source_members image (tree_kind tree source) (children_at rule tree source)) table)
       → Counts rule image tree source rows count table after t.arrived
   unfolding walked
   counts {t} {table} {after} w =
@@ -273,7 +273,7 @@ module _ (rule image tree : List ℕ) (source : ℕ) (rows : List ℕ) (count : 
       }
     where
       ms : List Member
-      ms = source_members image (treeKind tree source) (children_at rule tree source)
+      ms = source_members image (tree_kind tree source) (children_at rule tree source)
 
       first : List Call
       first = calls_in rule tree (take (CALL_ROW * count) rows)
@@ -316,21 +316,21 @@ module _ (rule image tree : List ℕ) (at : ℕ) where
   unfolding eval_count_compare eval_pipeline first_inner calls_of calls_give source_of compared
   compare_none e h =
       as_refused ParseErrors
-      (ap (λ (f : Forest). compared (operator_of (children_at rule tree at)) (integerOf (children_at rule tree at)) (eval_pipeline image f))
+      (ap (λ (f : Forest). compared (operator_of (children_at rule tree at)) (integer_of (children_at rule tree at)) (eval_pipeline image f))
       (node_none first_inner (λ t f. refl) rule (row_absent (sym e ∙ h))))
 
   -- the pipeline in it
   module _ {pipeline : ℕ} (f : FoundAt of_node tree (level_at tree at + 1) (at + ROW) pipeline) where
-    inner-is : first_inner (children_at rule tree at) ≡ children_at rule tree pipeline
+    inner_is : first_inner (children_at rule tree at) ≡ children_at rule tree pipeline
     unfolding first_inner
-    inner-is = node_first first_inner (λ t g. refl) rule f
+    inner_is = node_first first_inner (λ t g. refl) rule f
 
     abbrev compared_with : Outcome → Outcome
-    compared_with o = compared (operator_of (children_at rule tree at)) (integerOf (children_at rule tree at)) o
+    compared_with o = compared (operator_of (children_at rule tree at)) (integer_of (children_at rule tree at)) o
 
     by_pipeline : {o : Outcome} → eval_pipeline image (children_at rule tree pipeline) ≡ o → comparison ≡ compared_with o
     unfolding eval_count_compare
-    by_pipeline e = ap compared_with (ap (eval_pipeline image) inner-is ∙ e)
+    by_pipeline e = ap compared_with (ap (eval_pipeline image) inner_is ∙ e)
 
     pub compare_refused : {r : Refusal} {table : List ℕ} → Refuses rule tree pipeline r → Evaluates comparison table table (Answer.Refused r)
     unfolding compared
@@ -342,7 +342,7 @@ module _ (rule image tree : List ℕ) (at : ℕ) where
       compare_boolean e =
           as_refused ComparisonNotCountable
           (by_pipeline (pipeline_settled rule image tree pipeline p ∙ ap (λ (k : Kind). settled k method (length ms) passed ms) (ap kind_at e ∙ kind_at_lem Kind.Boolean))
-          ∙ boolean_compared (operator_of (children_at rule tree at)) (integerOf (children_at rule tree at)) method (length ms) passed)
+          ∙ boolean_compared (operator_of (children_at rule tree at)) (integer_of (children_at rule tree at)) method (length ms) passed)
         where
           ms : List Member
           ms = came rule image tree pipeline p
@@ -354,17 +354,17 @@ module _ (rule image tree : List ℕ) (at : ℕ) where
           passed = how_many (last_test image (calls rule image tree pipeline p)) (came rule image tree pipeline p)
 
       -- what else is countable
-      module _ (h : kind ≡ kind_number Kind.Boolean → ⊥) {digits : List ℕ} {integer : Integer} (d : digits ≡ first_text INT_LIT (children_at rule tree at)) (n : integer ≡ integerFor digits) where
+      module _ (h : kind ≡ kind_number Kind.Boolean → ⊥) {digits : List ℕ} {integer : Integer} (d : digits ≡ first_text INT_LIT (children_at rule tree at)) (n : integer ≡ integer_for digits) where
         countable : kind_at kind ≡ Kind.Boolean → ⊥
         countable e = h (sym (kind_number_lem kind p.small) ∙ ap kind_number e)
 
         against_is : comparison ≡ against_for (operator_of (children_at rule tree at)) (length (came rule image tree pipeline p)) integer
-        unfolding integerOf
+        unfolding integer_of
         against_is =
             by_pipeline (pipeline_settled rule image tree pipeline p)
-            ∙ settled_compared (operator_of (children_at rule tree at)) (integerOf (children_at rule tree at)) (kind_at kind) _ _ (came rule image tree pipeline p) countable
+            ∙ settled_compared (operator_of (children_at rule tree at)) (integer_of (children_at rule tree at)) (kind_at kind) _ _ (came rule image tree pipeline p) countable
             ∙ against_integer (operator_of (children_at rule tree at)) (length (came rule image tree pipeline p)) (first_text INT_LIT (children_at rule tree at))
-            ∙ ap (against_for (operator_of (children_at rule tree at)) (length (came rule image tree pipeline p))) (sym (n ∙ ap integerFor d))
+            ∙ ap (against_for (operator_of (children_at rule tree at)) (length (came rule image tree pipeline p))) (sym (n ∙ ap integer_for d))
 
         pub compare_large : {table : List ℕ} → integer ≡ Integer.TooLarge → Evaluates comparison table table (Answer.Refused IntegerTooLarge)
         compare_large e = as_refused IntegerTooLarge (against_is ∙ ap (against_for (operator_of (children_at rule tree at)) (length (came rule image tree pipeline p))) e)
@@ -396,7 +396,7 @@ module _ (rule image tree : List ℕ) where
       is = rw (node_none first_kind (λ t f. refl) rule nowhere, node_none first_inner (λ t f. refl) rule nowhere) refl
 
   module _ {at : ℕ} (f : FoundAt of_node tree (level_at tree 0 + 1) ROW at) where
-    kind_is : first_kind (children_at rule tree 0) ≡ treeKind tree at
+    kind_is : first_kind (children_at rule tree 0) ≡ tree_kind tree at
     unfolding first_kind
     kind_is = node_first first_kind (λ t g. refl) rule f
 
@@ -404,18 +404,18 @@ module _ (rule image tree : List ℕ) where
     unfolding first_inner
     children_are = node_first first_inner (λ t g. refl) rule f
 
-    pub node_compare : {table after : List ℕ} {r : Answer} → treeKind tree at ≡ COUNT_COMPARE_EXPR → Evaluates (eval_count_compare image (children_at rule tree at)) table after r
+    pub node_compare : {table after : List ℕ} {r : Answer} → tree_kind tree at ≡ COUNT_COMPARE_EXPR → Evaluates (eval_count_compare image (children_at rule tree at)) table after r
         → Evaluates (eval_node image (children_at rule tree 0)) table after r
     unfolding eval_node
     node_compare {table} {after} {r} e v = subst (λ (o : Outcome). Evaluates o table after r) (sym is) v
       where
         is : eval_node image (children_at rule tree 0) ≡ eval_count_compare image (children_at rule tree at)
-        is = rw (kind_is, eq-eqb (treeKind tree at) COUNT_COMPARE_EXPR e, children_are) refl
+        is = rw (kind_is, eq-eqb (tree_kind tree at) COUNT_COMPARE_EXPR e, children_are) refl
 
-    pub node_pipeline : {table after : List ℕ} {r : Answer} → (treeKind tree at ≡ COUNT_COMPARE_EXPR → ⊥) → Evaluates (eval_pipeline image (children_at rule tree at)) table after r
+    pub node_pipeline : {table after : List ℕ} {r : Answer} → (tree_kind tree at ≡ COUNT_COMPARE_EXPR → ⊥) → Evaluates (eval_pipeline image (children_at rule tree at)) table after r
         → Evaluates (eval_node image (children_at rule tree 0)) table after r
     unfolding eval_node
     node_pipeline {table} {after} {r} e v = subst (λ (o : Outcome). Evaluates o table after r) (sym is) v
       where
         is : eval_node image (children_at rule tree 0) ≡ eval_pipeline image (children_at rule tree at)
-        is = rw (kind_is, ne_eqb (treeKind tree at) COUNT_COMPARE_EXPR e, children_are) refl
+        is = rw (kind_is, ne_eqb (tree_kind tree at) COUNT_COMPARE_EXPR e, children_are) refl

@@ -14,7 +14,7 @@ use Rattle.syntax.specs.declared.refusal.Refusal.TheVariants.{ParseErrors}
 use Rattle.lexer.specs.Read.{MAX_RULE, TREE_ROW, check_rule}
 use Rattle.lexer.proofs.ReadLaws.{passed_lengths}
 use Rattle.trees.specs.Green.{size, dot_calls}
-use Rattle.trees.specs.Parse.{Error, parse_root, parse_expr, inNode}
+use Rattle.trees.specs.Parse.{Error, parse_root, parse_expr, in_node}
 use Rattle.trees.specs.Rows.{tree_rows}
 use Rattle.trees.specs.Read.{Reads, check_tables, rows_read, tree_table}
 use Rattle.trees.specs.declared.Reading.{Reading}
@@ -35,13 +35,13 @@ use Rattle.calls.proofs.AnswerLaws.{verdict_is}
 use Rattle.eval.specs.declared.Answer.{Answer}
 use Rattle.eval.specs.Pipeline.{MAX_ROWS, FewCalls, Lent, Evaluates}
 use Rattle.eval.specs.Run.{lent, Runs, Answers, ReadRule}
-use Rattle.eval.proofs.PipelineLaws.{inner-fewer}
+use Rattle.eval.proofs.PipelineLaws.{inner_fewer}
 
 -- ---- a rule that was read
 
 -- the rows of the tree stand for it: the root's children
 pub root_children : (rule : List ℕ) → children_at rule (tree_rows 0 0 (parse_expr rule).made) 0 ≡ first_inner (parse_expr rule).made
-unfolding forest_from forest place_of tree_rows parse_expr parse_root inNode first_inner
+unfolding forest_from forest place_of tree_rows parse_expr parse_root in_node first_inner
 root_children rule = ap first_inner (read_back rule)
 
 module _ {rule tree : List ℕ} {rows errors : ℕ} (r : ReadRule rule tree rows errors) (image : List ℕ) where
@@ -68,7 +68,7 @@ module _ {rule tree : List ℕ} {rows errors : ℕ} (r : ReadRule rule tree rows
   pub read_few : errors ≡ 0 → FewCalls rule (take (TREE_ROW * rows) tree) 0
   read_few e =
       let root : children_at rule (take (TREE_ROW * rows) tree) 0 ≡ first_inner (parse_expr rule).made = ap (λ (t : List ℕ). children_at rule t 0) r.front ∙ root_children rule in
-      record { few = omega (arith, ap dot_calls root, inner-fewer (parse_expr rule).made, calls_bound rule, r.short, r.errors_are) }
+      record { few = omega (arith, ap dot_calls root, inner_fewer (parse_expr rule).made, calls_bound rule, r.short, r.errors_are) }
 
   pub read_given : {table after : List ℕ} {g : Given} → errors ≡ 0 → Evaluates (eval_node image (children_at rule (take (TREE_ROW * rows) tree) 0)) table after g
       → Evaluates (outcome image rule) table after g

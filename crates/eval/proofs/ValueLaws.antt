@@ -11,7 +11,7 @@ use Rattle.syntax.specs.Kind.{ROOT, EQ_EQ, NEQ, GE, GT, LE, LT, NONE}
 use Rattle.syntax.proofs.BoolLaws.{whether, both}
 use Rattle.trees.specs.Look.{is_comparison}
 use Rattle.predicate.specs.declared.atom.Member.{Member}
-use Rattle.predicate.specs.Rows.{ROW, kind_at as treeKind, level_at, forest_from, children_at, is_below, row_passes}
+use Rattle.predicate.specs.Rows.{ROW, kind_at as tree_kind, level_at, forest_from, children_at, is_below, row_passes}
 use Rattle.predicate.proofs.ForestLaws.{forest_token, forest_ends, Ignores}
 use Rattle.meaning.specs.Value.{Kind}
 use Rattle.meaning.specs.Calls.{Method, All, Any, None, method_number, kind_number}
@@ -135,11 +135,11 @@ operator_token k e =
     whether (leb EQ_EQ k) (λ l. omega (arith, leb-true k LT (operator_from k (leb-true EQ_EQ k l) ∙ e))) (λ l. omega (arith, leb-false EQ_EQ k l))
 
 module _ (rule tree : List ℕ) (level row : ℕ) (h : row + ROW ≤ length tree) where
-  operator_here : row_passes is_comparison tree level row ≡ true → treeKind tree row ≡ operator_of (forest_from rule tree level row)
+  operator_here : row_passes is_comparison tree level row ≡ true → tree_kind tree row ≡ operator_of (forest_from rule tree level row)
   unfolding operator_of row_passes
   operator_here p =
-      let q = both (eqb (level_at tree row) level) (is_comparison (treeKind tree row)) p in
-      sym (ap operator_of (forest_token rule tree level row h (eqb-true (level_at tree row) level q.0) (operator_token (treeKind tree row) q.1))
+      let q = both (eqb (level_at tree row) level) (is_comparison (tree_kind tree row)) p in
+      sym (ap operator_of (forest_token rule tree level row h (eqb-true (level_at tree row) level q.0) (operator_token (tree_kind tree row) q.1))
       ∙ rw (q.1, operator_of) refl)
 
 -- no operator stands before a row
@@ -153,7 +153,7 @@ seeking_start tree at level h e =
 
 module _ {tree : List ℕ} {at level row : ℕ} (s : Seeking tree at level row) where
   module _ (h : row + ROW ≤ length tree) where
-    pub seeking_found : row_passes is_comparison tree (level + 1) row ≡ true → OperatorAt tree at (treeKind tree row)
+    pub seeking_found : row_passes is_comparison tree (level + 1) row ≡ true → OperatorAt tree at (tree_kind tree row)
     seeking_found p = record { operator = λ rule. operator_here rule tree (level + 1) row h p ∙ s.rest rule }
 
     pub seeking_on : level < level_at tree row → row_passes is_comparison tree (level + 1) row ≡ false → Seeking tree at level (row + ROW)

@@ -4,7 +4,7 @@ use Rattle.lexer.specs.Read.{MAX_RULE}
 use Rattle.trees.specs.Green.{dot_calls}
 use Rattle.board.specs.WellFormed.{WellFormed, Room}
 use Rattle.predicate.specs.declared.atom.Member.{Member}
-use Rattle.predicate.specs.Rows.{kind_at as treeKind, children_at}
+use Rattle.predicate.specs.Rows.{kind_at as tree_kind, children_at}
 use Rattle.meaning.specs.Value.{Outcome, collection_table, with_members}
 use Rattle.meaning.specs.Compare.{operator_of}
 use Rattle.meaning.specs.Walk.{arrivals, judged, settled}
@@ -39,7 +39,7 @@ pub record Evaluates (o : Outcome) (before after : List ℕ) (r : Answer) : Type
 
 -- how many members arrive by the first calls, whose rows stand at the front; all rows of the collection table are 0
 pub record Counts (rule image tree : List ℕ) (source : ℕ) (rows : List ℕ) (count : ℕ) (before after : List ℕ) (r : ℕ) : Type 0 where
-  pub members : r ≡ length (arrivals image (calls_in rule tree (take (CALL_ROW * count) rows)) (source_members image (treeKind tree source) (children_at rule tree source)))
+  pub members : r ≡ length (arrivals image (calls_in rule tree (take (CALL_ROW * count) rows)) (source_members image (tree_kind tree source) (children_at rule tree source)))
   pub table : after ≡ with_members [] before
 
 -- the operator of a comparison's own tokens, which its rows say without the rule

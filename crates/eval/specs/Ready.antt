@@ -11,7 +11,7 @@ use Rattle.predicate.specs.declared.atom.Member.{Member}
 use Rattle.predicate.specs.declared.atom.Member.TheVariants.{Component, Diagnostic}
 use Rattle.predicate.specs.Truth.{first_text, literal_of}
 use Rattle.predicate.specs.Rows.{ROW, level_at, forest_from, children_at, first_row, of_kind, of_node}
-use Rattle.predicate.specs.Rows.{kind_at as treeKind}
+use Rattle.predicate.specs.Rows.{kind_at as tree_kind}
 use Rattle.predicate.specs.Eval.{FoundAt}
 use Rattle.meaning.specs.Value.{Sort, components, diagnostics, sort_kind, refused}
 use Rattle.meaning.specs.Calls.{Call, method_number, next, kept, up_from}
@@ -105,7 +105,7 @@ pub record Ready (rule tree : List ℕ) (at : ℕ) (rows : List ℕ) (source cou
   pub found : FoundAt of_node tree (level_at tree at + 1) (at + ROW) source
   pub holds : Holds rule tree at rows count
   pub small : kind ≤ LAST_KIND
-  pub plan : plan_of (sort_kind (source_sort (treeKind tree source))) (calls_of (children_at rule tree at)) ≡ next (kind_at kind)
+  pub plan : plan_of (sort_kind (source_sort (tree_kind tree source))) (calls_of (children_at rule tree at)) ≡ next (kind_at kind)
 
 -- or that it is refused on every board
 pub record Refuses (rule tree : List ℕ) (at : ℕ) (r : Refusal) : Type 0 where

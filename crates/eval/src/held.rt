@@ -13,7 +13,7 @@ use syntax::{kind, text};
 
 // What a rule asks for: whether there was an IDENT_EXPR, which is the source's, and another, which is `connected`; and the fields that it
 // compares.
-#[derive(Drop)]
+#[derive(Clone, Copy)]
 struct Asked {
     source: bool,
     connected: bool,

@@ -1,5 +1,7 @@
 // eval.rs and the frame around it: a rule run on a board image. Refusals 1 to 8 come first and alter no table; then the rule is read; then
 // refusals 9 to 16 are settled, and only then the collection table is written.
+#![tactic(auto)]
+
 pub mod held;
 pub mod listed;
 pub mod marked;
@@ -25,7 +27,7 @@ const TREE_ROW: usize = 4;
 
 // What running a rule gives: its outcome, the verdict on it, and, once refusals 1 to 8 are passed, the numbers of token, tree and error
 // rows; before that `reading` has the refusal.
-#[derive(Drop)]
+#[derive(Clone, Copy)]
 pub struct Answer {
     pub outcome: Outcome,
     pub verdict: Verdict,

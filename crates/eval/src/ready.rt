@@ -19,7 +19,7 @@ use syntax::refusal::Refusal;
 
 // What is known of a pipeline before any member is looked at: the row of its source, the number of its calls and the kind that they come
 // to; or the refusal.
-#[derive(Drop)]
+#[derive(Clone, Copy)]
 pub(crate) enum Planned {
     Ready {
         source: usize,

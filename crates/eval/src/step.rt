@@ -12,7 +12,7 @@ use predicate::atom::Member;
 
 // A `where` drops it, it passes all calls and has a row, or the last call counts it, with whether its predicate is true; or the notes do
 // not tell.
-#[derive(Drop)]
+#[derive(Clone, Copy)]
 pub(crate) enum Step {
     Dropped,
     Listed,

@@ -30,7 +30,7 @@ use syntax::kind;
 const COLLECTION_ROW: usize = 2;
 
 // How many members arrived where the result is settled, and of how many of them the last call's predicate is true.
-#[derive(Drop)]
+#[derive(Clone, Copy)]
 pub(crate) struct Tally {
     pub arrived: usize,
     pub passed: usize,

@@ -13,7 +13,7 @@ use Rattle.syntax.proofs.BoolLaws.{whether}
 use Rattle.lexer.specs.Lex.{Token}
 use Rattle.trees.specs.Green.{Forest, nil, leaf, node, ◌⊹◌}
 use Rattle.trees.specs.Look.{is_blank, skip_ws, head_kind, head_text, tail_of, at_kind, at_text, at_ident, peek_kind, at_message_dot, at_field, at_predicate_method, at_plain_method, ends_in_comparison, has_count_compare_ahead, op_ahead, has_binary_op_at_level}
-use Rattle.trees.specs.Parse.{Error, Parsed, Parser, done, next, fails, fails_ahead, join, ◌▹◌, inNode, choose, eat_ws, bump, next_is, expect, next_is_ident, expect_ident, Mode, OrExpr, OrRest, AndExpr, AndRest, Atom, Calls, step, parse, parse_pipeline, remaining, parse_root}
+use Rattle.trees.specs.Parse.{Error, Parsed, Parser, done, next, fails, fails_ahead, join, ◌▹◌, in_node, choose, eat_ws, bump, next_is, expect, next_is_ident, expect_ident, Mode, OrExpr, OrRest, AndExpr, AndRest, Atom, Calls, step, parse, parse_pipeline, remaining, parse_root}
 use Rattle.trees.proofs.TreeLaws.{eat_rest}
 use Rattle.trees.proofs.StepLaws.{steps_from, parse_steps}
 use Rattle.grammar.specs.Grammar.{solid}
@@ -205,8 +205,8 @@ blind_choose : {test : List Token → Bool} {p q : Parser} → Even test → Bli
 unfolding choose
 blind_choose {p = p} {q} e a b = record { blind = λ ts. choice (p ts) (q ts) (e.even ts) (a.blind ts) (b.blind ts) }
 
-blind_node : {p : Parser} (k : ℕ) → Blind p → Blind (inNode k p)
-unfolding inNode strip no_blanks
+blind_node : {p : Parser} (k : ℕ) → Blind p → Blind (in_node k p)
+unfolding in_node strip no_blanks
 blind_node k a = record { blind = λ ts. rw (a.blind ts) }
 
 blind_done : Blind done

@@ -12,10 +12,10 @@ use Rattle.syntax.proofs.BoolLaws.{whether, neither}
 use Rattle.lexer.specs.Lex.{Token}
 use Rattle.trees.specs.Green.{Forest, nil, leaf, node, ◌⊹◌}
 use Rattle.trees.specs.Look.{is_blank, at_kind, op_ahead, has_binary_op_at_level, at_predicate_method}
-use Rattle.trees.specs.Parse.{Parsed, Parser, join, ◌▹◌, inNode, choose, eat_ws, bump, expect, predicate_args, parse_method, parse_dot_call, parse_source, Mode, OrExpr, OrRest, AndExpr, AndRest, Atom as AtomMode, Calls, step, parse, parse_pipeline}
+use Rattle.trees.specs.Parse.{Parsed, Parser, join, ◌▹◌, in_node, choose, eat_ws, bump, expect, predicate_args, parse_method, parse_dot_call, parse_source, Mode, OrExpr, OrRest, AndExpr, AndRest, Atom as AtomMode, Calls, step, parse, parse_pipeline}
 use Rattle.trees.proofs.ParseLaws.{parse_pipeline_is}
 use Rattle.trees.proofs.StepLaws.{parse_step}
-use Rattle.grammar.specs.Grammar.{word, quoted, dot, opening, closing, equals, and_word, or_word, not_word, Field, category, kind, direction, severity, message, field_word, Part, OrGroup, AndGroup, Atom, Predicate, last_group, or_then, last_atom, and_then, negated, bracketed, has_text, is_connected, message_has, field_is, tokens_of, Source, components, analysis, Call, where-call, all_call, any_call, none_call, count_call, features_call, diagnostics_call, source_tokens, with_predicate, call_tokens, calls_tokens}
+use Rattle.grammar.specs.Grammar.{word, quoted, dot, opening, closing, equals, and_word, or_word, not_word, Field, category, kind, direction, severity, message, field_word, Part, OrGroup, AndGroup, Atom, Predicate, last_group, or_then, last_atom, and_then, negated, bracketed, has_text, is_connected, message_has, field_is, tokens_of, Source, components, analysis, Call, where_call, all_call, any_call, none_call, count_call, features_call, diagnostics_call, source_tokens, with_predicate, call_tokens, calls_tokens}
 use Rattle.grammar.specs.Trees.{among, binary, operands, predicate_tree, with_predicate_tree, call_tree, calls_tree, source_tree, read, first, pipeline_then}
 
 -- ---- the scan for an operator
@@ -146,9 +146,9 @@ a then b = record { made = rw (a.made, b.made) }
 then_done : {p q : Parser} {ts us : List Token} {f : Forest} → Makes p ts f us → Makes q us nil us → Makes (p ▹ q) ts f us
 then_done {f = f} a b = rw (⊹-nil f) at (a then b)
 
-in-node : {p : Parser} {ts us : List Token} {f : Forest} (k : ℕ) → Makes p ts f us → Makes (inNode k p) ts (node k f nil) us
-unfolding inNode
-in-node k a = record { made = rw a.made }
+in_node_lem : {p : Parser} {ts us : List Token} {f : Forest} (k : ℕ) → Makes p ts f us → Makes (in_node k p) ts (node k f nil) us
+unfolding in_node
+in_node_lem k a = record { made = rw a.made }
 
 -- by one step
 by_step : {ts us : List Token} {f : Forest} (m : Mode) → Makes (step parse m) ts f us → Makes (parse m) ts f us
@@ -178,13 +178,13 @@ record Group (op : ℕ) (m rest : Mode) {part : Part} (p : Predicate part) (w : 
 
 -- what the scan sees decides whether they stand in a node
 group_read : {op : ℕ} {m rest : Mode} {part : Part} {p : Predicate part} {w : List Token} → AND_KW ≤ op → op ≤ OR_KW → Group op m rest p w
-    → Makes (choose (has_binary_op_at_level op) (inNode BINARY_EXPR (parse m ▹ parse rest)) (parse m)) (tokens_of p ++ w)
+    → Makes (choose (has_binary_op_at_level op) (in_node BINARY_EXPR (parse m ▹ parse rest)) (parse m)) (tokens_of p ++ w)
     (binary (among op p || op_ahead op 0 true w) (operands p)) w
 unfolding choose has_binary_op_at_level binary
 group_read {op} {p = p} {w} low high r =
     let e : op_ahead op 0 false (tokens_of p ++ w) ≡ among op p || op_ahead op 0 true w = rw and-true at (scan low high 0 false p w) in
     whether (among op p || op_ahead op 0 true w)
-    (λ t. record { made = rw (choose, e, t) (in-node BINARY_EXPR r.loop).made })
+    (λ t. record { made = rw (choose, e, t) (in_node_lem BINARY_EXPR r.loop).made })
     (λ t. record { made = rw (choose, e, t) (r.alone (neither _ _ t).0).made })
 
 -- the next token, and the symbols
@@ -197,9 +197,9 @@ module _ (w : List Token) where
   unfolding expect
   dot_read = record { made = refl }
 
-  open-read : Makes (expect L_PAREN) (opening ∷ w) (leaf opening nil) w
+  open_read : Makes (expect L_PAREN) (opening ∷ w) (leaf opening nil) w
   unfolding expect
-  open-read = record { made = refl }
+  open_read = record { made = refl }
 
   shut_read : Makes (expect R_PAREN) (closing ∷ w) (leaf closing nil) w
   unfolding expect
@@ -266,14 +266,14 @@ and_then_lem a g r q w e =
 
 negated_read : (a : Predicate Atom) → Reading Atom a → Reading Atom (negated a)
 unfolding tokens_of operands step
-negated_read a r w = by_step AtomMode (record { made = (in-node UNARY_EXPR (bump_read not_word (tokens_of a ++ w) refl then r w)).made })
+negated_read a r w = by_step AtomMode (record { made = (in_node_lem UNARY_EXPR (bump_read not_word (tokens_of a ++ w) refl then r w)).made })
 
 bracketed_read : (p : Predicate OrGroup) → Reading OrGroup p → Reading Atom (bracketed p)
 unfolding tokens_of operands step predicate_tree expect
 bracketed_read p r w =
     let inside = or_read (shut w) (r (closing ∷ w) (shut w)) in
     let ts : List Token = tokens_of p ++ closing ∷ w in
-    rw append_assoc (by_step AtomMode (record { made = (in-node PAREN_EXPR (bump_read opening ts refl then inside then shut_read w)).made }))
+    rw append_assoc (by_step AtomMode (record { made = (in_node_lem PAREN_EXPR (bump_read opening ts refl then inside then shut_read w)).made }))
 
 field_read : (f : Field) (t : List ℕ) → Reading Atom (field_is f t)
 unfolding tokens_of operands step
@@ -319,8 +319,8 @@ method_made : (m : String) (p : Predicate OrGroup) (v : List Token) → at_predi
 unfolding parse_dot_call with_predicate_tree
 method_made m p v e =
     let ts : List Token = tokens_of p ++ closing ∷ v in
-    let args = in-node CALL_ARGS (open-read ts then predicate_made p (closing ∷ v) (shut v) then shut_read v) in
-    in-node DOT_CALL (dot_read (word m ∷ opening ∷ ts) then predicate_method (parse OrExpr) e (bump_read (word m) (opening ∷ ts) refl then args))
+    let args = in_node_lem CALL_ARGS (open_read ts then predicate_made p (closing ∷ v) (shut v) then shut_read v) in
+    in_node_lem DOT_CALL (dot_read (word m ∷ opening ∷ ts) then predicate_method (parse OrExpr) e (bump_read (word m) (opening ∷ ts) refl then args))
 
 method_read : (m : String) (p : Predicate OrGroup) (v : List Token) → at_predicate_method (word m ∷ []) ≡ true
     → parse Calls (with_predicate m p ++ v) ≡ first (with_predicate_tree m p) (parse Calls v)
@@ -330,7 +330,7 @@ method_read m p v e =
 
 call_read : (c : Call) (v : List Token) → parse Calls (call_tokens c ++ v) ≡ first (call_tree c) (parse Calls v)
 unfolding step call_tree first
-call_read (where-call p) v = method_read "where" p v refl
+call_read (where_call p) v = method_read "where" p v refl
 call_read (all_call p) v = method_read "all" p v refl
 call_read (any_call p) v = method_read "any" p v refl
 call_read (none_call p) v = method_read "none" p v refl
@@ -356,7 +356,7 @@ source_read (analysis name) v = record { made = refl }
 -- the tree of a pipeline, of which so much is read
 pub pipeline_read : (s : Source) (cs : List Call) (v : List Token)
     → parse_pipeline (source_tokens s ++ (calls_tokens cs ++ v)) ≡ pipeline_then s cs (parse Calls v)
-unfolding inNode pipeline_then first
+unfolding in_node pipeline_then first
 pipeline_read s cs v =
     let us : List Token = calls_tokens cs ++ v in
-    rw (parse_pipeline_is, inNode, then_first (source_read s us) (parse Calls), calls_read cs v)
+    rw (parse_pipeline_is, in_node, then_first (source_read s us) (parse Calls), calls_read cs v)

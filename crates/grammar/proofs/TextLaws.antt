@@ -12,8 +12,8 @@ use Rattle.lexer.specs.Lex.{Token, lex}
 use Rattle.lexer.specs.Tokens.{has_quote, is_closed, closed}
 use Rattle.lexer.proofs.LexLaws.{Joint, joint_kind, lex_joint, lex_nil, lex_joint_first, closed_append}
 use Rattle.trees.specs.Look.{is_blank}
-use Rattle.grammar.specs.Grammar.{solid, word, quoted, dot, opening, closing, and_word, or_word, not_word, category, kind, direction, severity, message, Part, OrGroup, Predicate, last_group, or_then, last_atom, and_then, negated, bracketed, has_text, is_connected, message_has, field_is, tokens_of, ReadWhole, Source, components, analysis, Call, where-call, all_call, any_call, none_call, count_call, features_call, diagnostics_call, source_tokens, with_predicate, call_tokens, calls_tokens, ReadPipeline}
-use Rattle.grammar.specs.Texts.{Method, where-method, all_method, any_method, none_method, method_name, method_text, call_text, and_text, or_text, not_text}
+use Rattle.grammar.specs.Grammar.{solid, word, quoted, dot, opening, closing, and_word, or_word, not_word, category, kind, direction, severity, message, Part, OrGroup, Predicate, last_group, or_then, last_atom, and_then, negated, bracketed, has_text, is_connected, message_has, field_is, tokens_of, ReadWhole, Source, components, analysis, Call, where_call, all_call, any_call, none_call, count_call, features_call, diagnostics_call, source_tokens, with_predicate, call_tokens, calls_tokens, ReadPipeline}
+use Rattle.grammar.specs.Texts.{Method, where_method, all_method, any_method, none_method, method_name, method_text, call_text, and_text, or_text, not_text}
 use Rattle.grammar.proofs.BlankLaws.{solid_append}
 
 -- ---- every quote of the grammar's tokens is closed
@@ -50,7 +50,7 @@ closed_brackets p = rw (closed_append (tokens_of p) (closing ∷ []), closed_pre
 
 closed_call : (c : Call) → closed (call_tokens c) ≡ true
 unfolding closed
-closed_call (where-call p) = closed_brackets p
+closed_call (where_call p) = closed_brackets p
 closed_call (all_call p) = closed_brackets p
 closed_call (any_call p) = closed_brackets p
 closed_call (none_call p) = closed_brackets p
@@ -112,7 +112,7 @@ bracket_text_lem {p} r z =
 
 method_first : (m : Method) (z : List ℕ) → lex (method_text m z) ≡ dot ∷ word (method_name m) ∷ opening ∷ lex z
 unfolding lex
-method_first where-method z = refl
+method_first where_method z = refl
 method_first all_method z = refl
 method_first any_method z = refl
 method_first none_method z = refl
@@ -148,13 +148,13 @@ calls_tokens_append (c ∷ cs) ds = rw (calls_tokens_append cs ds) (sym (append_
 
 -- the call of a method that takes a predicate
 abbrev pub method_call : Method → Predicate OrGroup → Call
-method_call where-method p = where-call p
+method_call where_method p = where_call p
 method_call all_method p = all_call p
 method_call any_method p = any_call p
 method_call none_method p = none_call p
 
 pub method_tokens : (m : Method) (p : Predicate OrGroup) → call_tokens (method_call m p) ≡ with_predicate (method_name m) p
-method_tokens where-method p = refl
+method_tokens where_method p = refl
 method_tokens all_method p = refl
 method_tokens any_method p = refl
 method_tokens none_method p = refl

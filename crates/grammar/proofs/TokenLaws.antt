@@ -10,8 +10,8 @@ use lib.ListN.{length, take}
 use Rattle.syntax.specs.Kind.{WHITESPACE, STRING_LIT, INT_LIT, DOT, L_PAREN, R_PAREN, EQ_EQ, NEQ, GE, GT, LE, LT, AND_KW, OR_KW, NOT_KW, ERROR}
 use Rattle.syntax.specs.Text.{ascii, is, same}
 use Rattle.syntax.proofs.BoolLaws.{whether, true→T, T→true}
-use Rattle.lexer.specs.Bytes.{is_blank as blankByte, is_ascii_digit, is_ident_start, is_ident_continue, shape_of}
-use Rattle.lexer.specs.Lex.{Token, run, quoted as quotedLength, equals as equalsLength, word_kind, kind_of, past, token, lex_from, lex}
+use Rattle.lexer.specs.Bytes.{is_blank as blank_byte, is_ascii_digit, is_ident_start, is_ident_continue, shape_of}
+use Rattle.lexer.specs.Lex.{Token, run, quoted as quoted_length, equals as equals_length, word_kind, kind_of, past, token, lex_from, lex}
 use Rattle.lexer.specs.Tokens.{has_quote, is_closed, closed}
 use Rattle.lexer.proofs.LexLaws.{quoted_true, quoted_false}
 use Rattle.trees.specs.Look.{is_blank}
@@ -55,8 +55,8 @@ pub record Real (t : Token) : Type 0 where
 
 -- an operator alone, and with a `=` behind it
 operator_right : (k m b : ℕ) (s : List ℕ) → right_text k (b ∷ []) ≡ true → right_text m (b ∷ 0x3D ∷ []) ≡ true
-    → right_text (cond (eqb (length (b ∷ take (equalsLength s) s)) 1) k m) (b ∷ take (equalsLength s) s) ≡ true
-unfolding equalsLength
+    → right_text (cond (eqb (length (b ∷ take (equals_length s) s)) 1) k m) (b ∷ take (equals_length s) s) ≡ true
+unfolding equals_length
 operator_right k m b [] p q = p
 operator_right k m b (c ∷ s) p q = whether (is "=" c) (λ e. rw (e, eqb-true c 0x3D e) q) (λ e. rw e p)
 
@@ -82,7 +82,7 @@ kinds_right w = (refl, refl, refl)
 token_right : (b : ℕ) (s : List ℕ) → RightToken b s
 unfolding token
 token_right b s =
-    whether (blankByte b) (λ t₀. rw t₀ (kinds_right _).0)
+    whether (blank_byte b) (λ t₀. rw t₀ (kinds_right _).0)
     (λ t₀. whether (is "'" b) (at_byte s 0x27 b (unfold right_text in refl))
     (λ t₁. whether (is "." b) (at_byte s 0x2E b (unfold right_text in refl))
     (λ t₂. whether (is "(" b) (at_byte s 0x28 b (unfold right_text in refl))
@@ -102,8 +102,8 @@ token_right b s =
 abbrev Ended : List ℕ → Type 0
 Ended us = (w : List ℕ) × (us ≡ w ++ ascii "'")
 
-quote_content : (s : List ℕ) → T (has_quote (take (quotedLength s) s)) → Ended (take (quotedLength s) s)
-unfolding has_quote quotedLength
+quote_content : (s : List ℕ) → T (has_quote (take (quoted_length s) s)) → Ended (take (quoted_length s) s)
+unfolding has_quote quoted_length
 quote_content [] h = absurd h
 quote_content (b ∷ s) h =
     let ih = quote_content s in
@@ -115,14 +115,14 @@ quote_content (b ∷ s) h =
     longer x = (b ∷ x.0, rw x.1)
 
 -- a string that is not closed is the last token
-open-rest : (s : List ℕ) → has_quote (take (quotedLength s) s) ≡ false → lex_from s (quotedLength s) ≡ []
-unfolding has_quote quotedLength lex_from
-open-rest [] h = refl
-open-rest (b ∷ s) h =
-    let ih = open-rest s in
+open_rest : (s : List ℕ) → has_quote (take (quoted_length s) s) ≡ false → lex_from s (quoted_length s) ≡ []
+unfolding has_quote quoted_length lex_from
+open_rest [] h = refl
+open_rest (b ∷ s) h =
+    let ih = open_rest s in
     whether (is "'" b)
-    (λ e. absurd (true≢false (rw (e, quotedLength, e) at h)))
-    (λ e. rw (e, quotedLength) (ih (rw (e, quotedLength, e) at h)))
+    (λ e. absurd (true≢false (rw (e, quoted_length, e) at h)))
+    (λ e. rw (e, quoted_length) (ih (rw (e, quoted_length, e) at h)))
 
 -- the first byte of a string is a quote
 string_byte : (b : ℕ) (s : List ℕ) → (token b s).kind ≡ STRING_LIT → b ≡ 0x27
@@ -137,7 +137,7 @@ quote_string s h =
 
 quote_last : (s : List ℕ) → is_closed (token 0x27 s) ≡ false → lex_from s (past 0x27 s) ≡ []
 unfolding token is_closed
-quote_last s h = open-rest s h
+quote_last s h = open_rest s h
 
 module _ (b : ℕ) (s : List ℕ) where
   string_content : (token b s).kind ≡ STRING_LIT → T (is_closed (token b s)) → Content (token b s)

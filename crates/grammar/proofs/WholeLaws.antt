@@ -19,13 +19,13 @@ use Rattle.lexer.specs.Tokens.{is_closed, closed}
 use Rattle.lexer.proofs.LexLaws.{closed_append}
 use Rattle.trees.specs.Green.{nil}
 use Rattle.trees.specs.Look.{is_blank, skip_ws, peek_kind, at_kind, at_text, at_ident, at_message_dot, at_field, at_predicate_method, at_plain_method, has_binary_op_at_level}
-use Rattle.trees.specs.Parse.{Error, Parsed, Parser, done, next, next_is, next_is_ident, fails, fails_ahead, join, ◌▹◌, inNode, choose, eat_ws, bump, expect, expect_ident, literal, call_expr, ident_expr, contains_expr, compare_expr, simple_atom, no_method, parse_method, parse_dot_call, Mode, OrExpr, OrRest, AndExpr, AndRest, Atom as AtomMode, Calls, step, parse, parse_source, parse_pipeline}
+use Rattle.trees.specs.Parse.{Error, Parsed, Parser, done, next, next_is, next_is_ident, fails, fails_ahead, join, ◌▹◌, in_node, choose, eat_ws, bump, expect, expect_ident, literal, call_expr, ident_expr, contains_expr, compare_expr, simple_atom, no_method, parse_method, parse_dot_call, Mode, OrExpr, OrRest, AndExpr, AndRest, Atom as AtomMode, Calls, step, parse, parse_source, parse_pipeline}
 use Rattle.trees.proofs.ParseLaws.{parse_pipeline_is}
 use Rattle.trees.proofs.StepLaws.{always, parse_step, steps_from, parse_steps}
 use Rattle.grammar.specs.Grammar.{solid, word, dot, opening, closing, equals, and_word, or_word, not_word, Field, category, kind, direction, severity, message, field_word, Part, OrGroup, AndGroup, Atom, Predicate, last_group, or_then, last_atom, and_then, negated, bracketed, has_text, is_connected, message_has, field_is, tokens_of, ReadWhole, Source, components, analysis, Call, count_call, features_call, diagnostics_call, source_tokens, call_tokens, calls_tokens, ReadPipeline}
 use Rattle.grammar.specs.Blanks.{strip}
 use Rattle.grammar.specs.Trees.{predicate_tree, read, pipeline_then}
-use Rattle.grammar.specs.Texts.{Method, where-method, all_method, any_method, none_method, method_name}
+use Rattle.grammar.specs.Texts.{Method, where_method, all_method, any_method, none_method, method_name}
 use Rattle.grammar.proofs.BlankLaws.{parse_solid, pipeline_solid, strip_errors}
 use Rattle.grammar.proofs.ReadLaws.{ended, predicate_read, pipeline_read}
 use Rattle.grammar.proofs.TextLaws.{closed_solid, method_call, method_tokens}
@@ -93,8 +93,8 @@ eats_choose : {test : List Token → Bool} {p q : Parser} {L : List Token → Ty
 unfolding choose
 eats_choose {test} {p} {q} a b = record { eats = λ ts l t e. choice (test ts) (p ts) (q ts) (λ s n. a.eats ts l s n) (λ n. b.eats ts l refl n) e }
 
-eats_node : {test : List Token → Bool} {p : Parser} {L : List Token → Type 0} (k : ℕ) → Eats test p L → Eats test (inNode k p) L
-unfolding inNode
+eats_node : {test : List Token → Bool} {p : Parser} {L : List Token → Type 0} (k : ℕ) → Eats test p L → Eats test (in_node k p) L
+unfolding in_node
 eats_node k a = record { eats = λ ts l t e. let x = a.eats ts l t e in record { taken = x.taken; good = x.good; split = x.split } }
 
 -- of a larger language, and where another test passes
@@ -314,14 +314,14 @@ eats_simple : Eats always simple_atom (Raw Atom)
 unfolding simple_atom
 eats_simple = eats_choose eats_has (eats_choose eats_connected (eats_choose eats_message (eats_choose eats_field (eats_fails_ahead ATOM))))
 
-eats_not : {p : Parser} → Eats always p (Raw Atom) → Eats (at_kind NOT_KW) (inNode UNARY_EXPR (bump ▹ p)) (Raw Atom)
+eats_not : {p : Parser} → Eats always p (Raw Atom) → Eats (at_kind NOT_KW) (in_node UNARY_EXPR (bump ▹ p)) (Raw Atom)
 unfolding right_text
 eats_not a = eats_as go (eats_node UNARY_EXPR (kind_bump not_word (omega arith) (λ w. refl) then a))
   where
     go : (xs : List Token) → (One not_word · Raw Atom) xs → Raw Atom xs
     go xs (seq one a) = not_atom a
 
-eats_brackets : {p : Parser} → Eats always p (Raw OrGroup) → Eats (at_kind L_PAREN) (inNode PAREN_EXPR (bump ▹ p ▹ expect R_PAREN)) (Raw Atom)
+eats_brackets : {p : Parser} → Eats always p (Raw OrGroup) → Eats (at_kind L_PAREN) (in_node PAREN_EXPR (bump ▹ p ▹ expect R_PAREN)) (Raw Atom)
 unfolding right_text
 eats_brackets a = eats_as go (eats_node PAREN_EXPR (kind_bump opening (omega arith) (λ w. refl) then a then eats_shut))
   where
@@ -347,7 +347,7 @@ method_bump = eats_bump (λ e. false≢true e) go
   where
     go : (u : Token) (us : List Token) → Real u → is_blank u ≡ false → at_predicate_method (u ∷ us) ≡ true → MethodWord (u ∷ [])
     go u us r b e =
-        whether (same u.text (ascii "where")) (λ t. method_of_lem where-method (word_eq "where" refl r t))
+        whether (same u.text (ascii "where")) (λ t. method_of_lem where_method (word_eq "where" refl r t))
         (λ t₁. whether (same u.text (ascii "all")) (λ t. method_of_lem all_method (word_eq "all" refl r t))
         (λ t₂. whether (same u.text (ascii "any")) (λ t. method_of_lem any_method (word_eq "any" refl r t))
         (λ t₃. method_of_lem none_method (word_eq "none" refl r (rw (b, skip_ws, t₁, t₂, t₃) at e)))))

@@ -92,7 +92,7 @@ pub data Source : Type 0 where
   analysis : List ℕ → Source
 
 pub data Call : Type 0 where
-  where-call all_call any_call none_call : Predicate OrGroup → Call
+  where_call all_call any_call none_call : Predicate OrGroup → Call
   count_call features_call diagnostics_call : Call
 
 abbrev pub source_tokens : Source → List Token
@@ -104,7 +104,7 @@ abbrev pub with_predicate : String → Predicate OrGroup → List Token
 with_predicate method p = dot ∷ word method ∷ opening ∷ (tokens_of p ++ (closing ∷ []))
 
 abbrev pub call_tokens : Call → List Token
-call_tokens (where-call p) = with_predicate "where" p
+call_tokens (where_call p) = with_predicate "where" p
 call_tokens (all_call p) = with_predicate "all" p
 call_tokens (any_call p) = with_predicate "any" p
 call_tokens (none_call p) = with_predicate "none" p

@@ -5,10 +5,10 @@ use Rattle.syntax.specs.Text.{ascii}
 
 -- the methods that take a predicate
 pub data Method : Type 0 where
-  where-method all_method any_method none_method : Method
+  where_method all_method any_method none_method : Method
 
 abbrev pub method_name : Method → String
-method_name where-method = "where"
+method_name where_method = "where"
 method_name all_method = "all"
 method_name any_method = "any"
 method_name none_method = "none"

@@ -6,7 +6,7 @@ use Rattle.syntax.specs.Kind.{AND_KW, OR_KW, PIPELINE_EXPR, DOT_CALL, CALL_ARGS,
 use Rattle.lexer.specs.Lex.{Token}
 use Rattle.trees.specs.Green.{Forest, nil, leaf, node, ◌⊹◌}
 use Rattle.trees.specs.Parse.{Parsed}
-use Rattle.grammar.specs.Grammar.{word, quoted, dot, opening, closing, equals, and_word, or_word, not_word, field_word, Part, OrGroup, Predicate, last_group, or_then, last_atom, and_then, negated, bracketed, has_text, is_connected, message_has, field_is, Source, components, analysis, Call, where-call, all_call, any_call, none_call, count_call, features_call, diagnostics_call}
+use Rattle.grammar.specs.Grammar.{word, quoted, dot, opening, closing, equals, and_word, or_word, not_word, field_word, Part, OrGroup, Predicate, last_group, or_then, last_atom, and_then, negated, bracketed, has_text, is_connected, message_has, field_is, Source, components, analysis, Call, where_call, all_call, any_call, none_call, count_call, features_call, diagnostics_call}
 
 -- whether an operator, `and` or `or`, stands in a predicate outside its brackets
 unfoldable pub among : ℕ → {part : Part} → Predicate part → Bool
@@ -59,7 +59,7 @@ with_predicate_tree method p = method_tree method (node CALL_ARGS (leaf opening 
 
 unfoldable pub call_tree : Call → Forest
 unfolding with_predicate_tree
-call_tree (where-call p) = with_predicate_tree "where" p
+call_tree (where_call p) = with_predicate_tree "where" p
 call_tree (all_call p) = with_predicate_tree "all" p
 call_tree (any_call p) = with_predicate_tree "any" p
 call_tree (none_call p) = with_predicate_tree "none" p

@@ -1,4 +1,6 @@
 // What eval.rs asks of a `SystemInstance`, asked of a board image. Any image, component, feature and text is taken.
+#![tactic(auto)]
+
 ghost use Rattle.std.specs.Prelude.{◌≡◌, ◌<◌, take};
 ghost use Rattle.instance.specs.Instance.{component_connected, end_is, feature_connected, owners_wired, has_property, features_end, has_feature};
 ghost use Rattle.instance.specs.Places.{PLACES, other_owner, joins_at, is_property_at, feature_is_at, Skipped};

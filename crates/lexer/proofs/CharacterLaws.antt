@@ -9,7 +9,7 @@ use lib.Dec.{T, eqb, leb, ltb, leb→le, ltb→lt}
 use lib.ListN.{length, take, drop}
 use Rattle.syntax.specs.Kind.{ERROR}
 use Rattle.syntax.specs.Text.{ascii, is, same}
-use Rattle.syntax.specs.Utf8.{Range, Row, within, After, ill, needs, table, after_in, after, well_from, utf8, inRanges, is_character}
+use Rattle.syntax.specs.Utf8.{Range, Row, within, After, ill, needs, table, after_in, after, well_from, utf8, in_ranges, is_character}
 use Rattle.syntax.proofs.BoolLaws.{whether, true→T, T→true, and_left, and_right}
 use Rattle.syntax.proofs.EveryByte.{below, at_each, agree}
 use Rattle.syntax.proofs.Utf8Laws.{well_ill, well_needs, well_in, well_out}
@@ -96,11 +96,11 @@ next b s r rs i h = whether (within r b) go (λ e. absurd (subst T (well_out b s
 
 -- the trailing bytes that s begins with are one in each of the ranges rs, and a UTF-8 text follows them
 record Whole (s : List ℕ) (rs : List Range) : Type 0 where
-  ranges : inRanges (take (run is_trailing s) s) rs ≡ true
+  ranges : in_ranges (take (run is_trailing s) s) rs ≡ true
   rest : T (utf8 (drop (run is_trailing s) s))
 
 whole : (s : List ℕ) (rs : List Range) → T (trailing rs) → T (well_from s rs) → Whole s rs
-unfolding run utf8 inRanges is_trailing
+unfolding run utf8 in_ranges is_trailing
 whole [] [] i h = record { ranges = refl; rest = tt }
 whole [] (r ∷ rs) i h = absurd h
 whole (b ∷ s) [] i h =

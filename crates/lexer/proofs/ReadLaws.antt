@@ -15,7 +15,7 @@ use Rattle.syntax.proofs.BoolLaws.{neither}
 use Rattle.syntax.proofs.TableLaws.{sets_append, sets_front}
 use Rattle.syntax.specs.declared.refusal.Check.{Check}
 use Rattle.lexer.specs.declared.Lexed.{Lexed}
-use Rattle.lexer.specs.Lex.{Token, past, lex_from, lex, token_rows, is_opener, openersIn}
+use Rattle.lexer.specs.Lex.{Token, past, lex_from, lex, token_rows, is_opener, openers_in}
 use Rattle.lexer.specs.LexScan.{TokenAt}
 use Rattle.lexer.specs.Read.{MAX_RULE, TOKEN_ROW, tokens_short, tables_short, check_rule, check_room, tokens_read, Reads}
 use Rattle.lexer.proofs.LexLaws.{lex_nil}
@@ -24,30 +24,30 @@ use Rattle.lexer.proofs.LexLaws.{lex_nil}
 pub record Counted (rule : List ℕ) (at n : ℕ) : Type 0 where
   pub within : at ≤ length rule
   pub fewer : n ≤ at
-  pub count : n + openersIn (lex (drop at rule)) ≡ openersIn (lex rule)
+  pub count : n + openers_in (lex (drop at rule)) ≡ openers_in (lex rule)
 
 pub counted_start : {rule : List ℕ} → Counted rule 0 0
 counted_start = record { within = omega arith; fewer = omega arith; count = omega arith }
 
 module _ {rule : List ℕ} {at n kind end : ℕ} (c : Counted rule at n) (t : TokenAt rule at kind end) where
-  next_openers : openersIn (lex (drop at rule)) ≡ cond (is_opener kind) 1 0 + openersIn (lex (drop end rule))
-  unfolding openersIn
+  next_openers : openers_in (lex (drop at rule)) ≡ cond (is_opener kind) 1 0 + openers_in (lex (drop end rule))
+  unfolding openers_in
   next_openers = rw t.tokens
 
   pub counted_step : is_opener kind ≡ true → Counted rule end (n + 1)
   counted_step e =
-      let next : openersIn (lex (drop at rule)) ≡ 1 + openersIn (lex (drop end rule)) = next_openers ∙ rw e in
+      let next : openers_in (lex (drop at rule)) ≡ 1 + openers_in (lex (drop end rule)) = next_openers ∙ rw e in
       record { within = t.within; fewer = omega (arith, c.fewer, t.longer); count = omega (arith, c.count) }
 
   pub counted_skip : is_opener kind ≡ false → Counted rule end n
   counted_skip e =
-      let next : openersIn (lex (drop at rule)) ≡ 0 + openersIn (lex (drop end rule)) = next_openers ∙ rw e in
+      let next : openers_in (lex (drop at rule)) ≡ 0 + openers_in (lex (drop end rule)) = next_openers ∙ rw e in
       record { within = t.within; fewer = omega (arith, c.fewer, t.longer); count = omega (arith, c.count) }
 
-pub counted_end : {rule : List ℕ} {at n : ℕ} → Counted rule at n → length rule ≤ at → n ≡ openersIn (lex rule)
-unfolding openersIn
+pub counted_end : {rule : List ℕ} {at n : ℕ} → Counted rule at n → length rule ≤ at → n ≡ openers_in (lex rule)
+unfolding openers_in
 counted_end {rule} {at} c h =
-    let z : openersIn (lex (drop at rule)) ≡ 0 = rw (drop_of_length-le rule h, lex_nil) refl in
+    let z : openers_in (lex (drop at rule)) ≡ 0 = rw (drop_of_length-le rule h, lex_nil) refl in
     omega (arith, c.count)
 
 -- the tokens up to `at` stand in the first n rows of t, which was t₀: writing the others behind them ends as writing all does

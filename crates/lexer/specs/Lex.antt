@@ -83,6 +83,6 @@ abbrev pub is_opener : ℕ → Bool
 is_opener k = eqb k L_PAREN || eqb k NOT_KW
 
 -- how many tokens are `(` or `not`
-unfoldable pub openersIn : List Token → ℕ
-openersIn [] = 0
-openersIn (t ∷ ts) = cond (is_opener t.kind) 1 0 + openersIn ts
+unfoldable pub openers_in : List Token → ℕ
+openers_in [] = 0
+openers_in (t ∷ ts) = cond (is_opener t.kind) 1 0 + openers_in ts

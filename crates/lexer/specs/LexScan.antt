@@ -11,5 +11,5 @@ pub record TokenAt (rule : List ℕ) (at kind end : ℕ) : Type 0 where
   pub tokens : lex (drop at rule) ≡ record { kind = kind; text = take (end - at) (drop at rule) } ∷ lex (drop end rule)
 
 -- 1 where a token `(` or `not` may begin with the byte b before a byte c, else 0: a bound for code that has not read the tokens
-unfoldable pub openersAt : ℕ → ℕ → ℕ
-openersAt b c = cond (is "(" b || is "n" b && is "o" c) 1 0
+unfoldable pub openers_at : ℕ → ℕ → ℕ
+openers_at b c = cond (is "(" b || is "n" b && is "o" c) 1 0

@@ -3,7 +3,7 @@ use Rattle.std.specs.Prelude.{ℕ, ◌+◌, ◌*◌, ◌/◌, Bool, cond, not, �
 use Rattle.syntax.specs.Table.{with_rows}
 use Rattle.syntax.specs.Utf8.{utf8}
 use Rattle.syntax.specs.declared.refusal.Refusal.TheVariants.{RuleTooLong, RuleNotUtf8, TableTooShort, TooManyOpeners}
-use Rattle.lexer.specs.Lex.{lex, token_rows, openersIn}
+use Rattle.lexer.specs.Lex.{lex, token_rows, openers_in}
 use Rattle.syntax.specs.declared.refusal.Check.{Check}
 use Rattle.lexer.specs.declared.Lexed.{Lexed}
 
@@ -38,12 +38,12 @@ tables_short n tokens tree errors = tokens_short n tokens || (ltb (tree / TREE_R
 
 -- refusals 1 to 4, in their order, of a rule and the lengths of the three tables
 unfoldable pub check_rule : List ℕ → ℕ → ℕ → ℕ → Check
-unfolding utf8 lex openersIn
+unfolding utf8 lex openers_in
 check_rule rule tokens tree errors =
     cond (ltb MAX_RULE (length rule)) (Check.Refused RuleTooLong)
     (cond (not (utf8 rule)) (Check.Refused RuleNotUtf8)
     (cond (tables_short (length rule) tokens tree errors) (Check.Refused TableTooShort)
-    (cond (ltb MAX_OPENERS (openersIn (lex rule))) (Check.Refused TooManyOpeners) Check.Passed)))
+    (cond (ltb MAX_OPENERS (openers_in (lex rule))) (Check.Refused TooManyOpeners) Check.Passed)))
 
 -- of those, what the lexer by itself cannot do without: refusal 1, and refusal 3 of the token table
 unfoldable pub check_room : List ℕ → ℕ → Check

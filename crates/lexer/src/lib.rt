@@ -1,12 +1,14 @@
 // lexer.rs: the tokens of a rule, as rows of a lent table, and the refusals that need only the rule and the tables' lengths.
+#![tactic(auto)]
+
 pub mod limits;
 
 ghost use Rattle.std.specs.Prelude.{◌≡◌, cond, ◌&&◌, eqb, leb, ltb, [], ◌∷◌, ◌+◌, ◌*◌, ◌≤◌, ◌<◌, length, drop};
 ghost use Rattle.std.proofs.lemmas.List.Edits.{sets};
 ghost use Rattle.syntax.specs.Table.{with_rows};
 ghost use Rattle.lexer.specs.Bytes.{is_blank, is_ascii_whitespace, is_ascii_digit, is_ident_start, is_ident_continue, is_trailing, shape_of, goes_on};
-ghost use Rattle.lexer.specs.Lex.{run, quoted, equals, more, word_kind, kind_of, lex, token_rows, is_opener, openersIn};
-ghost use Rattle.lexer.specs.LexScan.{TokenAt, openersAt};
+ghost use Rattle.lexer.specs.Lex.{run, quoted, equals, more, word_kind, kind_of, lex, token_rows, is_opener, openers_in};
+ghost use Rattle.lexer.specs.LexScan.{TokenAt, openers_at};
 ghost use Rattle.lexer.specs.Read.{MAX_RULE, MAX_OPENERS, TOKEN_ROW, tables_short, check_rule, check_room, Reads};
 
 use limits::{ERROR_ROW, MAX_OPENERS, MAX_RULE, TOKEN_ROW, TREE_ROW};
@@ -16,7 +18,7 @@ use syntax::{kind, text, utf8};
 const FORM_FEED: u8 = 0x0C;
 
 // What reading a rule's tokens gives: their number, or the refusal.
-#[derive(Drop)]
+#[derive(Clone, Copy)]
 pub enum Lexed {
     Tokens(usize),
     Refused(Refusal),
@@ -82,7 +84,7 @@ pub fn tables_short(n: usize, tokens: usize, tree: usize, errors: usize) -> bool
 // Whether more tokens are `(` or `not` than a rule may have. The tokens are read for it only where the bytes leave it open.
 fn too_many_openers(rule: &[u8]) -> bool
     requires { length rule.now ≤ MAX_RULE }
-    ensures { result ≡ ltb MAX_OPENERS (openersIn (lex rule.now)) }
+    ensures { result ≡ ltb MAX_OPENERS (openers_in (lex rule.now)) }
 {
     if rule.len() <= MAX_OPENERS {
         return false;
@@ -96,7 +98,7 @@ fn too_many_openers(rule: &[u8]) -> bool
 // At least as many as there are tokens `(` and `not`: the bytes that one may begin with, the last byte always among them.
 fn openers_bound(rule: &[u8]) -> u16
     requires { length rule.now ≤ MAX_RULE }
-    ensures { openersIn (lex rule.now) ≤ result }
+    ensures { openers_in (lex rule.now) ≤ result }
 {
     let mut n = 1;
     let mut i = 0;
@@ -109,7 +111,7 @@ fn openers_bound(rule: &[u8]) -> u16
 
 // 1 where a token `(` or `not` may begin with a byte that has this byte behind it, else 0.
 fn openers_at(b: u8, next: u8) -> u16
-    ensures { result ≡ openersAt b next }
+    ensures { result ≡ openers_at b next }
 {
     if b == b'n' {
         return matches(next, b'o');
@@ -129,7 +131,7 @@ fn matches(b: u8, c: u8) -> u16
 
 // How many tokens are `(` or `not`.
 fn count_openers(rule: &[u8]) -> usize
-    ensures { result ≡ openersIn (lex rule.now) }
+    ensures { result ≡ openers_in (lex rule.now) }
 {
     let mut next = 0;
     let mut n = 0;
@@ -180,7 +182,7 @@ fn put_row(table: &mut [u32], at: usize, kind: u32, first: u32, end: u32)
 }
 
 // A token that begins at a known place: its kind, and the place past its last byte.
-#[derive(Drop)]
+#[derive(Clone, Copy)]
 struct Token {
     kind: u32,
     end: usize,
@@ -198,7 +200,7 @@ fn token_at(rule: &[u8], at: usize) -> Token
 }
 
 // The shape of a token, by its first byte. A symbol has its kind; an operator has its kind alone and its kind with a `=` behind it.
-#[derive(Drop)]
+#[derive(Clone, Copy)]
 enum Shape {
     Blanks,
     Quoted,

@@ -1,5 +1,7 @@
 // Which components have a property or a feature of a name, as a mark for each: one pass over the properties, where
 // `instance::has_property` takes one for each component. Any image, text and slice of marks is taken.
+#![tactic(auto)]
+
 ghost use Rattle.std.specs.Prelude.{◌≡◌, length, replicate};
 ghost use Rattle.board.specs.Image.{component_count};
 ghost use Rattle.marks.specs.Marks.{is_named, property_marks, marked, marks_of, featured, feature_marks};

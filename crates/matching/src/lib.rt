@@ -1,4 +1,6 @@
 // eval.rs, "Matching helpers": the words that a rule has for a field's values, and a text searched for in another.
+#![tactic(auto)]
+
 pub mod search;
 
 ghost use Rattle.std.specs.Prelude.{◌≡◌, [], ◌∷◌};

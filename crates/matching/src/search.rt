@@ -4,7 +4,7 @@ ghost use Rattle.matching.specs.Search.{starts_with, find, contains};
 ghost use Rattle.matching.specs.SearchScan.{Passed};
 
 // Where a part stands in a text: its first place, or nowhere.
-#[derive(Drop)]
+#[derive(Clone, Copy)]
 pub enum Found {
     At(usize),
     Absent,

@@ -20,7 +20,7 @@ use Rattle.predicate.specs.declared.atom.Member.{Member}
 use Rattle.meaning.specs.Value.{Sort, Outcome, collection, refused}
 use Rattle.meaning.specs.Calls.{is_empty}
 use Rattle.meaning.specs.Pipeline.{eval_pipeline}
-use Rattle.meaning.specs.Compare.{compared, operator_of, integerOf}
+use Rattle.meaning.specs.Compare.{compared, operator_of, integer_of}
 use Rattle.meaning.specs.Outcome.{first_inner, outcome}
 use Rattle.meaning.proofs.PipelineLaws.{IsCollection, compared_collection, ending, outcome_ending}
 
@@ -85,7 +85,7 @@ ended true es r o h =
     let e : Parsed = bump d.rest in
     let f : Parsed = eat_ws e.rest in
     let errors = (((es ++ d.errors) ++ e.errors) ++ f.errors) ++ (left_over f.rest).errors in
-    absurd (no_comparison (is_empty errors) (operator_of (d.made ⊹ e.made)) (integerOf (d.made ⊹ e.made)) o h)
+    absurd (no_comparison (is_empty errors) (operator_of (d.made ⊹ e.made)) (integer_of (d.made ⊹ e.made)) o h)
 ended false es r o h = let e = ended_without es (eat_ws r).errors (left_over (eat_ws r).rest).errors o h in record { clean = e.0; spent = e.1 }
 
 -- what comes to a collection was read without errors, up to blanks

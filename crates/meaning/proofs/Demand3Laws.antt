@@ -10,9 +10,9 @@ use Rattle.syntax.specs.declared.refusal.Check.{Check}
 use Rattle.lexer.specs.Lex.{lex}
 use Rattle.trees.specs.Green.{leaf, nil}
 use Rattle.trees.specs.Parse.{Parsed, parse, OrExpr}
-use Rattle.grammar.specs.Grammar.{solid, closing, where-call, all_call, any_call, none_call, count_call, ReadWhole, ReadPipeline}
+use Rattle.grammar.specs.Grammar.{solid, closing, where_call, all_call, any_call, none_call, count_call, ReadWhole, ReadPipeline}
 use Rattle.grammar.specs.Blanks.{strip}
-use Rattle.grammar.specs.Texts.{where-method, all_method, any_method, none_method, and_text, or_text, not_text}
+use Rattle.grammar.specs.Texts.{where_method, all_method, any_method, none_method, and_text, or_text, not_text}
 use Rattle.grammar.proofs.WholeLaws.{whole_tree}
 use Rattle.grammar.proofs.TextLaws.{call_pipeline, and_whole, or_whole, not_whole}
 use Rattle.predicate.specs.declared.atom.Member.{Member}
@@ -21,9 +21,9 @@ use Rattle.meaning.specs.Value.{Sort, Outcome, collection, boolean}
 use Rattle.meaning.specs.Calls.{kept, is_empty, true_for, on_members, call_gives}
 use Rattle.meaning.specs.Outcome.{Lent, check_run, outcome, run}
 use Rattle.meaning.specs.Holds.{holds}
-use Rattle.meaning.specs.Demand3.{true_of, members_for, count_for, how_many, whereText, any_text, none_text, all_text, count_text, ComesTo, Agree, Demand3}
+use Rattle.meaning.specs.Demand3.{true_of, members_for, count_for, how_many, where_text, any_text, none_text, all_text, count_text, ComesTo, Agree, Demand3}
 use Rattle.meaning.proofs.MemberLaws.{kept_kept, kept_same, kept_exchanged, kept_parts, kept_sums, some_count, none_count, every_count}
-use Rattle.meaning.proofs.KindLaws.{where-taken, quantifier_taken, count_taken}
+use Rattle.meaning.proofs.KindLaws.{where_taken, quantifier_taken, count_taken}
 use Rattle.meaning.proofs.SpacingLaws.{truth_solid}
 use Rattle.meaning.proofs.HoldLaws.{predicate_holds, predicate_holds_before}
 use Rattle.meaning.proofs.CollectionLaws.{collection_read}
@@ -76,9 +76,9 @@ module _ (image : List ℕ) (sort : Sort) (members : List Member) where
     kept_for : kept (true_for image (args_for r.predicate)) members ≡ members_for image p members
     kept_for = kept_same (true_for image (args_for r.predicate)) (true_of image p) members (true_for_lem image r)
 
-    where-gives : call_gives image (call_for (where-call r.predicate)) (collection sort members) ≡ collection sort (members_for image p members)
+    where_gives : call_gives image (call_for (where_call r.predicate)) (collection sort members) ≡ collection sort (members_for image p members)
     unfolding call_gives on_members
-    where-gives = where-taken sort _ ∙ ap (collection sort) kept_for
+    where_gives = where_taken sort _ ∙ ap (collection sort) kept_for
 
     any_gives : call_gives image (call_for (any_call r.predicate)) (collection sort members) ≡ boolean (ltb 0 (count_for image p members)) false
     unfolding call_gives on_members
@@ -105,9 +105,9 @@ module _ (image : List ℕ) (sort : Sort) (members : List Member) where
 -- ---- texts
 
 -- a text after a call is one after the pipeline that the call ends
-after_call : (c p w : List ℕ) → (c ++ whereText p []) ++ w ≡ c ++ whereText p w
+after_call : (c p w : List ℕ) → (c ++ where_text p []) ++ w ≡ c ++ where_text p w
 after_call c p w =
-    append_assoc c (whereText p []) w ∙ ap (λ (x : List ℕ). c ++ (ascii ".where(" ++ x)) (append_assoc p (ascii ")") w)
+    append_assoc c (where_text p []) w ∙ ap (λ (x : List ℕ). c ++ (ascii ".where(" ++ x)) (append_assoc p (ascii ")") w)
 
 -- a pipeline comes to a collection
 record Collects (image : List ℕ) {c : List ℕ} (r : ReadPipeline c) (sort : Sort) (members : List Member) : Type 0 where
@@ -115,12 +115,12 @@ record Collects (image : List ℕ) {c : List ℕ} (r : ReadPipeline c) (sort : S
 
 module _ {image c : List ℕ} {r : ReadPipeline c} {sort : Sort} {members : List Member} (h : Collects image r sort members) where
   -- C.where(P) z
-  one_where : {p : List ℕ} (q : ReadWhole p) (z : List ℕ) → outcome image (c ++ whereText p z) ≡ after image (solid (lex z)) (collection sort (members_for image p members))
-  one_where q z = call_outcome image r where-method q z ∙ ap (after image (solid (lex z))) (ap (call_gives image (call_for (where-call q.predicate))) h.given ∙ where-gives image sort members q)
+  one_where : {p : List ℕ} (q : ReadWhole p) (z : List ℕ) → outcome image (c ++ where_text p z) ≡ after image (solid (lex z)) (collection sort (members_for image p members))
+  one_where q z = call_outcome image r where_method q z ∙ ap (after image (solid (lex z))) (ap (call_gives image (call_for (where_call q.predicate))) h.given ∙ where_gives image sort members q)
 
   -- C.where(P) is a pipeline that comes to these members
-  where-collects : {p : List ℕ} (q : ReadWhole p) → Collects image (call_pipeline r where-method q) sort (members_for image p members)
-  where-collects q = record { given = call_means image r where-method q ∙ ap (call_gives image (call_for (where-call q.predicate))) h.given ∙ where-gives image sort members q }
+  where_collects : {p : List ℕ} (q : ReadWhole p) → Collects image (call_pipeline r where_method q) sort (members_for image p members)
+  where_collects q = record { given = call_means image r where_method q ∙ ap (call_gives image (call_for (where_call q.predicate))) h.given ∙ where_gives image sort members q }
 
   -- C.count()
   all_counted : outcome image (c ++ count_text) ≡ Outcome.count (length members)
@@ -143,14 +143,14 @@ module _ {image c : List ℕ} {r : ReadPipeline c} {sort : Sort} {members : List
 module _ {image c : List ℕ} {r : ReadPipeline c} {sort : Sort} {members : List Member} (h : Collects image r sort members) where
   -- C.where(P).where(Q) z
   two_wheres : {p q : List ℕ} (s : ReadWhole p) (t : ReadWhole q) (z : List ℕ)
-      → outcome image (c ++ whereText p (whereText q z)) ≡ after image (solid (lex z)) (collection sort (members_for image q (members_for image p members)))
+      → outcome image (c ++ where_text p (where_text q z)) ≡ after image (solid (lex z)) (collection sort (members_for image q (members_for image p members)))
   two_wheres {p} {q} s t z =
-      ap (outcome image) (sym (after_call c p (whereText q z))) ∙ one_where (where-collects h s) t z
+      ap (outcome image) (sym (after_call c p (where_text q z))) ∙ one_where (where_collects h s) t z
 
   -- C.where(P).count()
-  where-counted : {p : List ℕ} (s : ReadWhole p) → outcome image (c ++ whereText p count_text) ≡ Outcome.count (count_for image p members)
-  where-counted {p} s =
-      ap (outcome image) (sym (after_call c p count_text)) ∙ all_counted (where-collects h s)
+  where_counted : {p : List ℕ} (s : ReadWhole p) → outcome image (c ++ where_text p count_text) ≡ Outcome.count (count_for image p members)
+  where_counted {p} s =
+      ap (outcome image) (sym (after_call c p count_text)) ∙ all_counted (where_collects h s)
 
 -- ---- the claim
 
@@ -185,10 +185,10 @@ demand_3 image c sort members e p q s t =
     let r : ReadPipeline c = collection_read image c sort members e in
     let h : Collects image r sort members = record { given = collection_means image r sort members e } in
     record {
-      where-members = comes image _ (one_where h s [] ∙ after_nothing image _);
-      where-where = comes image _ (two_wheres h s t [] ∙ after_nothing image _);
-      where-exchanged = comes image _ (two_wheres h t s [] ∙ after_nothing image _ ∙ ap (collection sort) (members_exchanged image members s t));
-      where-and = comes image _ (one_where h (and_whole s t) [] ∙ after_nothing image _ ∙ ap (collection sort) (members_and image members s t));
+      where_members = comes image _ (one_where h s [] ∙ after_nothing image _);
+      where_where = comes image _ (two_wheres h s t [] ∙ after_nothing image _);
+      where_exchanged = comes image _ (two_wheres h t s [] ∙ after_nothing image _ ∙ ap (collection sort) (members_exchanged image members s t));
+      where_and = comes image _ (one_where h (and_whole s t) [] ∙ after_nothing image _ ∙ ap (collection sort) (members_and image members s t));
       after_exchanged =
           λ z.
           agree image _ _
@@ -200,10 +200,10 @@ demand_3 image c sort members e p q s t =
       not_members = comes image _ (one_where h (not_whole s) [] ∙ after_nothing image _);
       each_as_often = parts image members s;
       count_all = comes image _ (all_counted h);
-      count_p = comes image _ (where-counted h s);
-      count_q = comes image _ (where-counted h t);
-      count_and = comes image _ (where-counted h (and_whole s t));
-      count_or = comes image _ (where-counted h (or_whole s t));
+      count_p = comes image _ (where_counted h s);
+      count_q = comes image _ (where_counted h t);
+      count_and = comes image _ (where_counted h (and_whole s t));
+      count_or = comes image _ (where_counted h (or_whole s t));
       counts_sum = sums image members s t;
       any_by_count = comes image _ (any_outcome h s);
       none_by_count = comes image _ (none_outcome h s);

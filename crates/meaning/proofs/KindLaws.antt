@@ -14,11 +14,11 @@ line_alike e other components = refl
 line_alike e other features = refl
 line_alike e other diagnostics = refl
 
-where-line : (sort : Sort) → gives Where (sort_kind sort) ≡ next (sort_kind sort)
+where_line : (sort : Sort) → gives Where (sort_kind sort) ≡ next (sort_kind sort)
 unfolding gives
-where-line components = refl
-where-line features = refl
-where-line diagnostics = refl
+where_line components = refl
+where_line features = refl
+where_line diagnostics = refl
 
 quantifier_line : (sort : Sort) → quantifier (sort_kind sort) ≡ next Kind.Boolean
 quantifier_line sort = line_alike _ _ sort
@@ -28,8 +28,8 @@ unfolding gives
 count_line sort = line_alike _ _ sort
 
 -- so they give what they give on its members
-pub where-taken : (sort : Sort) (o : Outcome) → by_entry (gives Where (sort_kind sort)) o ≡ o
-where-taken sort o = ap (λ (e : Entry). by_entry e o) (where-line sort)
+pub where_taken : (sort : Sort) (o : Outcome) → by_entry (gives Where (sort_kind sort)) o ≡ o
+where_taken sort o = ap (λ (e : Entry). by_entry e o) (where_line sort)
 
 pub quantifier_taken : (sort : Sort) (o : Outcome) → by_entry (quantifier (sort_kind sort)) o ≡ o
 quantifier_taken sort o = ap (λ (e : Entry). by_entry e o) (quantifier_line sort)
@@ -48,7 +48,7 @@ entry_of (refused r) = refuse r
 members_kind : (image : List ℕ) (method : Method) (isTrue : Member → Bool) (sort : Sort) (members : List Member)
     → entry_of (by_entry (gives method (sort_kind sort)) (on_members image method isTrue sort members)) ≡ gives method (sort_kind sort)
 unfolding gives on_members
-members_kind image Where isTrue sort members = rw (where-line sort)
+members_kind image Where isTrue sort members = rw (where_line sort)
 members_kind image All isTrue sort members = rw (quantifier_line sort)
 members_kind image Any isTrue sort members = rw (quantifier_line sort)
 members_kind image None isTrue sort members = rw (quantifier_line sort)

@@ -12,8 +12,8 @@ use Rattle.syntax.proofs.BoolLaws.{whether}
 use Rattle.lexer.specs.Lex.{Token, lex}
 use Rattle.trees.specs.Green.{Forest, nil, leaf, node, ◌⊹◌}
 use Rattle.trees.specs.Look.{is_blank, is_comparison, ends_in_comparison, has_count_compare_ahead}
-use Rattle.trees.specs.Parse.{Error, Parsed, Parser, join, ◌▹◌, inNode, choose, bump, eat_ws, left_over, Calls, parse, parse_pipeline, parse_pipeline_or_count_compare, parse_root, parse_expr}
-use Rattle.grammar.specs.Grammar.{solid, dot, word, opening, closing, OrGroup, Predicate, Source, components, analysis, Call as Written, where-call, all_call, any_call, none_call, count_call, features_call, diagnostics_call, source_tokens, calls_tokens, ReadWhole, ReadPipeline}
+use Rattle.trees.specs.Parse.{Error, Parsed, Parser, join, ◌▹◌, in_node, choose, bump, eat_ws, left_over, Calls, parse, parse_pipeline, parse_pipeline_or_count_compare, parse_root, parse_expr}
+use Rattle.grammar.specs.Grammar.{solid, dot, word, opening, closing, OrGroup, Predicate, Source, components, analysis, Call as Written, where_call, all_call, any_call, none_call, count_call, features_call, diagnostics_call, source_tokens, calls_tokens, ReadWhole, ReadPipeline}
 use Rattle.grammar.specs.Trees.{predicate_tree, call_tree, calls_tree, source_tree, pipeline_then}
 use Rattle.grammar.specs.Texts.{Method as Taking, method_name, call_text}
 use Rattle.grammar.proofs.BlankLaws.{root_solid}
@@ -24,7 +24,7 @@ use Rattle.predicate.specs.Truth.{first_text, literal_of}
 use Rattle.meaning.specs.Value.{Sort, Outcome, collection, boolean, refused}
 use Rattle.meaning.specs.Calls.{Where, All, Any, None, Count, Features, Diagnostics, Call, is_empty, call_gives, calls_give}
 use Rattle.meaning.specs.Pipeline.{all_components, diagnostics_of, source_of, calls_of, eval_pipeline}
-use Rattle.meaning.specs.Compare.{MAX_INTEGER, operator_holds, against, compared, operator_of, integerOf}
+use Rattle.meaning.specs.Compare.{MAX_INTEGER, operator_holds, against, compared, operator_of, integer_of}
 use Rattle.meaning.specs.Outcome.{first_kind, first_inner, eval_count_compare, eval_node, outcome_of, outcome}
 use Rattle.meaning.proofs.SpacingLaws.{outcome_strip}
 use Rattle.meaning.proofs.HoldLaws.{content_quoted}
@@ -35,7 +35,7 @@ abbrev pub args_for : Predicate OrGroup → Forest
 args_for p = leaf opening (predicate_tree p ⊹ leaf closing nil)
 
 abbrev pub call_for : Written → Call
-call_for (where-call p) = record { method = Where; args = args_for p }
+call_for (where_call p) = record { method = Where; args = args_for p }
 call_for (all_call p) = record { method = All; args = args_for p }
 call_for (any_call p) = record { method = Any; args = args_for p }
 call_for (none_call p) = record { method = None; args = args_for p }
@@ -51,7 +51,7 @@ unfolding ◌⊹◌
 
 call_tree_lem : (c : Written) (f : Forest) → calls_of (call_tree c ⊹ f) ≡ call_for c ∷ calls_of f
 unfolding call_tree calls_of ◌⊹◌
-call_tree_lem (where-call p) f = refl
+call_tree_lem (where_call p) f = refl
 call_tree_lem (all_call p) f = refl
 call_tree_lem (any_call p) f = refl
 call_tree_lem (none_call p) f = refl
@@ -107,7 +107,7 @@ ending true es r o =
     let e : Parsed = bump d.rest in
     let f : Parsed = eat_ws e.rest in
     cond (is_empty ((((es ++ d.errors) ++ e.errors) ++ f.errors) ++ (left_over f.rest).errors))
-    (compared (operator_of (d.made ⊹ e.made)) (integerOf (d.made ⊹ e.made)) o)
+    (compared (operator_of (d.made ⊹ e.made)) (integer_of (d.made ⊹ e.made)) o)
     (refused ParseErrors)
 ending false es r o =
     let f : Parsed = eat_ws r in
@@ -116,13 +116,13 @@ ending false es r o =
 pub outcome_ending : (image : List ℕ) (ts : List Token)
     → outcome_of image (parse_root ts)
     ≡ ending (has_count_compare_ahead ts) (parse_pipeline ts).errors (parse_pipeline ts).rest (eval_pipeline image (first_inner (parse_pipeline ts).made))
-unfolding outcome_of parse_root parse_pipeline_or_count_compare parse_pipeline eval_node eval_count_compare first_kind first_inner operator_of integerOf first_text choose inNode ◌▹◌ join ◌⊹◌
+unfolding outcome_of parse_root parse_pipeline_or_count_compare parse_pipeline eval_node eval_count_compare first_kind first_inner operator_of integer_of first_text choose in_node ◌▹◌ join ◌⊹◌
 outcome_ending image ts = go (has_count_compare_ahead ts)
   where
     top : Bool → Parser
-    top b us = elim b [ true ↦ inNode COUNT_COMPARE_EXPR (parse_pipeline ▹ bump ▹ bump) us | false ↦ parse_pipeline us ]
+    top b us = elim b [ true ↦ in_node COUNT_COMPARE_EXPR (parse_pipeline ▹ bump ▹ bump) us | false ↦ parse_pipeline us ]
 
-    go : (b : Bool) → outcome_of image (inNode ROOT (top b ▹ eat_ws ▹ left_over) ts)
+    go : (b : Bool) → outcome_of image (in_node ROOT (top b ▹ eat_ws ▹ left_over) ts)
         ≡ ending b (parse_pipeline ts).errors (parse_pipeline ts).rest (eval_pipeline image (first_inner (parse_pipeline ts).made))
     go true = refl
     go false = refl

@@ -17,7 +17,7 @@ use Rattle.predicate.specs.Truth.{first_text, literal_of, has, message_contains,
 use Rattle.meaning.specs.Value.{Outcome, collection, boolean, refused, sort_kind}
 use Rattle.meaning.specs.Calls.{Method, gives, is_empty, on_members, by_entry, call_gives, calls_give}
 use Rattle.meaning.specs.Pipeline.{source_of, method_of, args_of, call_of, calls_of, eval_pipeline}
-use Rattle.meaning.specs.Compare.{operator_of, integerOf, decimal}
+use Rattle.meaning.specs.Compare.{operator_of, integer_of, decimal}
 use Rattle.meaning.specs.Outcome.{first_kind, first_inner, eval_count_compare, eval_node, outcome_of}
 
 -- a token's text is looked for by a kind that is no blank's
@@ -87,13 +87,13 @@ args_solid (node k s f) =
     let ih = args_solid f in
     whether (eqb k CALL_ARGS) (λ e. rw (e, args_of)) (λ e. rw (e, args_of) ih)
 
-inner-solid : (f : Forest) → first_inner (no_blanks f) ≡ no_blanks (first_inner f)
+inner_solid : (f : Forest) → first_inner (no_blanks f) ≡ no_blanks (first_inner f)
 unfolding no_blanks first_inner
-inner-solid nil = refl
-inner-solid (leaf t f) =
-    let ih = inner-solid f in
+inner_solid nil = refl
+inner_solid (leaf t f) =
+    let ih = inner_solid f in
     whether (is_blank t) (λ e. rw (e, no_blanks) ih) (λ e. rw (e, no_blanks) ih)
-inner-solid (node k s f) = refl
+inner_solid (node k s f) = refl
 
 kind_solid : (f : Forest) → first_kind (no_blanks f) ≡ first_kind f
 unfolding no_blanks first_kind
@@ -113,9 +113,9 @@ operator_solid (leaf t f) =
     (λ e. rw (e, no_blanks) (whether (is_comparison t.kind) (λ q. rw (q, operator_of)) (λ q. rw (q, operator_of) ih)))
 operator_solid (node k s f) = operator_solid f
 
-integer-solid : (f : Forest) → integerOf (no_blanks f) ≡ integerOf f
-unfolding integerOf
-integer-solid f = ap decimal (text_solid INT_LIT (λ q. omega arith) f)
+integer_solid : (f : Forest) → integer_of (no_blanks f) ≡ integer_of f
+unfolding integer_of
+integer_solid f = ap decimal (text_solid INT_LIT (λ q. omega arith) f)
 
 module _ (image : List ℕ) where
   -- predicates that are true alike give alike
@@ -157,11 +157,11 @@ module _ (image : List ℕ) where
 
   compare_solid : (f : Forest) → eval_count_compare image (no_blanks f) ≡ eval_count_compare image f
   unfolding eval_count_compare
-  compare_solid f = rw (operator_solid f, integer-solid f, inner-solid f, pipeline_solid (first_inner f))
+  compare_solid f = rw (operator_solid f, integer_solid f, inner_solid f, pipeline_solid (first_inner f))
 
   node_solid : (f : Forest) → eval_node image (no_blanks f) ≡ eval_node image f
   unfolding eval_node
-  node_solid f = rw (kind_solid f, inner-solid f, compare_solid (first_inner f), pipeline_solid (first_inner f))
+  node_solid f = rw (kind_solid f, inner_solid f, compare_solid (first_inner f), pipeline_solid (first_inner f))
 
   errors_solid : (es : List Error) → is_empty (solid_errors es) ≡ is_empty es
   unfolding solid_errors
@@ -171,4 +171,4 @@ module _ (image : List ℕ) where
   -- the outcome of what was read is that of what was read without blanks
   pub outcome_strip : (x : Parsed) → outcome_of image (strip x) ≡ outcome_of image x
   unfolding outcome_of strip
-  outcome_strip x = rw (errors_solid x.errors, inner-solid x.made, node_solid (first_inner x.made))
+  outcome_strip x = rw (errors_solid x.errors, inner_solid x.made, node_solid (first_inner x.made))

@@ -13,7 +13,7 @@ use lib.ListN.{length, length-append, length-map}
 use borrow.Author.Tests.{ne_eqb}
 use Rattle.syntax.specs.declared.refusal.Refusal.{Refusal}
 use Rattle.trees.specs.Green.{Forest}
-use Rattle.board.specs.Image.{component_count, first_feature, features_of as featureNumber, feature_count, diagnostic_count}
+use Rattle.board.specs.Image.{component_count, first_feature, features_of as feature_number, feature_count, diagnostic_count}
 use Rattle.board.specs.Check.{COLLECTION_ROW}
 use Rattle.board.specs.WellFormed.{total, WellFormed, Room}
 use Rattle.instance.specs.Instance.{features_end}
@@ -423,11 +423,11 @@ made_length : (make : ℕ → Member) (first n : ℕ) → length (map make (up_f
 made_length make first n = length-map (up_from first n) make ∙ up_length first n
 
 -- the features of components are those of the board, at most
-features_few : (image : List ℕ) (c : ℕ) → length (features_of image c) ≤ featureNumber image c
+features_few : (image : List ℕ) (c : ℕ) → length (features_of image c) ≤ feature_number image c
 unfolding features_of features_end
 features_few image c = omega (arith, made_length (Feature c) (first_feature image c) (features_end image c - first_feature image c))
 
-components_features : (image : List ℕ) (first n : ℕ) → length (fan_out image (map Component (up_from first n))) ≤ total (featureNumber image) first n
+components_features : (image : List ℕ) (first n : ℕ) → length (fan_out image (map Component (up_from first n))) ≤ total (feature_number image) first n
 unfolding up_from fan_out total
 components_features image first zero = omega arith
 components_features image first (suc n) =

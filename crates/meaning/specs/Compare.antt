@@ -54,6 +54,6 @@ operator_of (leaf t f) = elim (is_comparison t.kind) [ true ↦ t.kind | false �
 operator_of (node k s f) = operator_of f
 
 -- and the integer
-unfoldable pub integerOf : Forest → ℕ
+unfoldable pub integer_of : Forest → ℕ
 unfolding decimal first_text
-integerOf f = decimal (first_text INT_LIT f)
+integer_of f = decimal (first_text INT_LIT f)

@@ -7,7 +7,7 @@ use Rattle.syntax.specs.declared.refusal.Check.{Check}
 use Rattle.lexer.specs.Lex.{lex}
 use Rattle.trees.specs.Parse.{parse, OrExpr}
 use Rattle.grammar.specs.Grammar.{ReadWhole}
-use Rattle.grammar.specs.Texts.{where-method, all_method, any_method, none_method, call_text, and_text, or_text, not_text}
+use Rattle.grammar.specs.Texts.{where_method, all_method, any_method, none_method, call_text, and_text, or_text, not_text}
 use Rattle.predicate.specs.declared.atom.Member.{Member}
 use Rattle.predicate.specs.Truth.{truth}
 use Rattle.meaning.specs.Value.{Sort, Outcome, collection, boolean, count}
@@ -31,8 +31,8 @@ abbrev pub how_many : (Member → Bool) → List Member → ℕ
 how_many test members = length (kept test members)
 
 -- the calls as texts, with a text set after
-abbrev pub whereText : (p z : List ℕ) → List ℕ
-whereText p z = call_text where-method p z
+abbrev pub where_text : (p z : List ℕ) → List ℕ
+where_text p z = call_text where_method p z
 
 abbrev pub any_text : (p z : List ℕ) → List ℕ
 any_text p z = call_text any_method p z
@@ -59,24 +59,24 @@ Agree image rule rule' =
 -- what is claimed of C, whose collection has this sort and these members, and of P and Q
 pub record Claim (image c : List ℕ) (sort : Sort) (members : List Member) (p q : List ℕ) : Type 0 where
   -- "`C.where(P)` gives, in order, exactly C's members for which P is true by demand 2's definitions"
-  pub where-members : ComesTo image (c ++ whereText p []) (collection sort (members_for image p members))
+  pub where_members : ComesTo image (c ++ where_text p []) (collection sort (members_for image p members))
   -- "`C.where(P).where(Q)`, `C.where(Q).where(P)` and `C.where((P) and (Q))` are one list"
-  pub where-where : ComesTo image (c ++ whereText p (whereText q [])) (collection sort (members_for image q (members_for image p members)))
-  pub where-exchanged : ComesTo image (c ++ whereText q (whereText p [])) (collection sort (members_for image q (members_for image p members)))
-  pub where-and : ComesTo image (c ++ whereText (and_text p q) []) (collection sort (members_for image q (members_for image p members)))
+  pub where_where : ComesTo image (c ++ where_text p (where_text q [])) (collection sort (members_for image q (members_for image p members)))
+  pub where_exchanged : ComesTo image (c ++ where_text q (where_text p [])) (collection sort (members_for image q (members_for image p members)))
+  pub where_and : ComesTo image (c ++ where_text (and_text p q) []) (collection sort (members_for image q (members_for image p members)))
   -- "and the same calls or comparison set after each give the same outcome, refusals included"
-  pub after_exchanged : (z : List ℕ) → Agree image (c ++ whereText p (whereText q z)) (c ++ whereText q (whereText p z))
-  pub after_and : (z : List ℕ) → Agree image (c ++ whereText p (whereText q z)) (c ++ whereText (and_text p q) z)
+  pub after_exchanged : (z : List ℕ) → Agree image (c ++ where_text p (where_text q z)) (c ++ where_text q (where_text p z))
+  pub after_and : (z : List ℕ) → Agree image (c ++ where_text p (where_text q z)) (c ++ where_text (and_text p q) z)
   -- "the members for P and for `not (P)` together are C's, each as often": by any test on members, so by which member it is too
-  pub not_members : ComesTo image (c ++ whereText (not_text p) []) (collection sort (members_for image (not_text p) members))
+  pub not_members : ComesTo image (c ++ where_text (not_text p) []) (collection sort (members_for image (not_text p) members))
   pub each_as_often :
       (test : Member → Bool) → how_many test (members_for image p members) + how_many test (members_for image (not_text p) members) ≡ how_many test members
   -- "`C.where(P).count()` and `C.count()` give them"
   pub count_all : ComesTo image (c ++ count_text) (count (length members))
-  pub count_p : ComesTo image (c ++ whereText p count_text) (count (count_for image p members))
-  pub count_q : ComesTo image (c ++ whereText q count_text) (count (count_for image q members))
-  pub count_and : ComesTo image (c ++ whereText (and_text p q) count_text) (count (count_for image (and_text p q) members))
-  pub count_or : ComesTo image (c ++ whereText (or_text p q) count_text) (count (count_for image (or_text p q) members))
+  pub count_p : ComesTo image (c ++ where_text p count_text) (count (count_for image p members))
+  pub count_q : ComesTo image (c ++ where_text q count_text) (count (count_for image q members))
+  pub count_and : ComesTo image (c ++ where_text (and_text p q) count_text) (count (count_for image (and_text p q) members))
+  pub count_or : ComesTo image (c ++ where_text (or_text p q) count_text) (count (count_for image (or_text p q) members))
   -- "the counts for P and Q sum to those for `(P) and (Q)` and `(P) or (Q)`"
   pub counts_sum :
       count_for image p members + count_for image q members ≡ count_for image (and_text p q) members + count_for image (or_text p q) members

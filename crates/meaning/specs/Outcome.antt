@@ -10,7 +10,7 @@ use Rattle.board.specs.Check.{check_image}
 use Rattle.meaning.specs.Value.{Outcome, collection, boolean, refused}
 use Rattle.meaning.specs.Calls.{is_empty}
 use Rattle.meaning.specs.Pipeline.{eval_pipeline}
-use Rattle.meaning.specs.Compare.{compared, operator_of, integerOf}
+use Rattle.meaning.specs.Compare.{compared, operator_of, integer_of}
 
 -- the kind of a forest's first node, and what it has inside
 unfoldable pub first_kind : Forest → ℕ
@@ -25,8 +25,8 @@ first_inner (node k s f) = s
 
 -- `eval_count_compare`, of a COUNT_COMPARE_EXPR's children: the pipeline, the operator and the integer
 unfoldable pub eval_count_compare : List ℕ → Forest → Outcome
-unfolding compared operator_of integerOf eval_pipeline first_inner
-eval_count_compare image f = compared (operator_of f) (integerOf f) (eval_pipeline image (first_inner f))
+unfolding compared operator_of integer_of eval_pipeline first_inner
+eval_count_compare image f = compared (operator_of f) (integer_of f) (eval_pipeline image (first_inner f))
 
 -- `eval_node`, of ROOT's children: a COUNT_COMPARE_EXPR or a PIPELINE_EXPR
 unfoldable pub eval_node : List ℕ → Forest → Outcome

@@ -1,1 +1,2 @@
 // What a rule means: definitions in specs/ and laws in proofs/. There is no code.
+#![tactic(auto)]

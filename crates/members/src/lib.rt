@@ -1,4 +1,6 @@
 // The members of a collection, a line each. They stand in the collection table as rows of two numbers.
+#![tactic(auto)]
+
 ghost use Rattle.texts.specs.Append.{Appends};
 ghost use Rattle.members.specs.Member.{component_text, feature_text, port_text, diagnostic_text, member_text};
 

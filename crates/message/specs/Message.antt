@@ -65,9 +65,9 @@ abbrev pub quoted : List ℕ → List ℕ
 quoted text = ascii "'" ++ text ++ ascii "'"
 
 -- `if text.is_empty() { "EOF" } else { &text }`
-abbrev pub text_orEOF : List ℕ → List ℕ
-text_orEOF [] = ascii "EOF"
-text_orEOF (b ∷ s) = b ∷ s
+abbrev pub text_or_eof : List ℕ → List ℕ
+text_or_eof [] = ascii "EOF"
+text_or_eof (b ∷ s) = b ∷ s
 
 -- `found` of `expect` and `expect_ident`: the token in quotes, or EOF without quotes
 abbrev pub found : List ℕ → List ℕ
@@ -80,9 +80,9 @@ message_with form expected text =
     cond (eqb form EXPECT) (ascii "expected '" ++ kind_name expected ++ ascii "', found " ++ found text)
     (cond (eqb form EXPECT_IDENT) (ascii "expected 'contains', found " ++ found text)
     (cond (eqb form LEFT_OVER) (ascii "unexpected " ++ quoted text)
-    (cond (eqb form SOURCE) (ascii "expected 'components' or 'analysis', found " ++ quoted (text_orEOF text))
+    (cond (eqb form SOURCE) (ascii "expected 'components' or 'analysis', found " ++ quoted (text_or_eof text))
     (cond (eqb form METHOD) (ascii "expected method name (where, all, any, none, count, features, diagnostics), found " ++ quoted text)
-    (cond (eqb form ATOM) (ascii "expected 'not', 'has', 'connected', 'category', 'kind', 'direction', 'severity', 'message', or '(', found " ++ quoted (text_orEOF text))
+    (cond (eqb form ATOM) (ascii "expected 'not', 'has', 'connected', 'category', 'kind', 'direction', 'severity', 'message', or '(', found " ++ quoted (text_or_eof text))
     [])))))
 
 -- the message of a rule and an error row. The text found is the rule's bytes from `first` to `end`, and none at the end of text

@@ -1,4 +1,6 @@
 // parser.rs: the messages of its parse errors, as text, from a rule and a row of the error table.
+#![tactic(auto)]
+
 ghost use Rattle.std.specs.Prelude.{◌++◌, ◌+◌, ◌^◌, ◌≤◌, ◌<◌, length};
 ghost use Rattle.syntax.specs.Form.{EXPECT};
 ghost use Rattle.message.specs.Message.{kind_name, message_of};
@@ -11,7 +13,7 @@ use syntax::{form, kind, text};
 const HEAD: usize = 128;
 
 // What writing a message gives: the number of its bytes, or that it is longer than the place.
-#[derive(Drop)]
+#[derive(Clone, Copy)]
 pub enum Message {
     Written(usize),
     NoRoom,

@@ -1,4 +1,6 @@
 // parser.rs: the green tree of a rule, as rows of a lent table, and the parse errors, as rows of another.
+#![tactic(auto)]
+
 ghost use Rattle.std.specs.Prelude.{◌≡◌, List, [], ◌∷◌, ℕ, ◌+◌, ◌*◌, ◌≤◌, ◌<◌, ◌&&◌, leb, length, drop};
 ghost use Rattle.std.proofs.lemmas.List.Edits.{sets};
 ghost use Rattle.syntax.specs.Text.{ascii, same};

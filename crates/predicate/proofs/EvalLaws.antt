@@ -48,24 +48,24 @@ module _ (rule image tree : List ℕ) (m : Member) where
   truth_ignores = record { tokens = λ t f h. refl; nodes = λ k s f l h. absurd (false≢true (sym h ∙ le-leb ROOT k l)) }
 
   -- no node is below a level from a place on, or the one found is the first
-  pub inner-none : (level from : ℕ) → FoundNowhere of_node tree level from → false ≡ truth image m (forest_from rule tree level from)
+  pub inner_none : (level from : ℕ) → FoundNowhere of_node tree level from → false ≡ truth image m (forest_from rule tree level from)
   unfolding truth truths
-  inner-none level from f = sym (ignored_none truth_ignores rule f)
+  inner_none level from f = sym (ignored_none truth_ignores rule f)
 
-  pub inner-found : (level from at : ℕ) → FoundAt of_node tree level from at → truth image m (forest_from rule tree level from) ≡ truth image m (node_at rule tree at)
+  pub inner_found : (level from at : ℕ) → FoundAt of_node tree level from at → truth image m (forest_from rule tree level from) ≡ truth image m (node_at rule tree at)
   unfolding truth truths node_at
-  inner-found level from at f =
+  inner_found level from at f =
       ignored_found truth_ignores rule f
       ∙ ap (truth image m) (forest_node rule tree level at f.whole (found_level f) (leb-true ROOT (kind_at tree at) (found_kind f)))
       ∙ sym (rw (le-leb (at + ROW) (length tree) f.whole, found_level f))
 
   -- of the first node inside one
   pub args_none : (at : ℕ) {l : ℕ} → l ≡ level_at tree at → FoundNowhere of_node tree (l + 1) (at + ROW) → false ≡ truth image m (children_at rule tree at)
-  args_none at {l} e f = inner-none (l + 1) (at + ROW) f ∙ ap (λ (l : ℕ). truth image m (forest_from rule tree (l + 1) (at + ROW))) e
+  args_none at {l} e f = inner_none (l + 1) (at + ROW) f ∙ ap (λ (l : ℕ). truth image m (forest_from rule tree (l + 1) (at + ROW))) e
 
   pub args_found : (at : ℕ) {l first : ℕ} {r : Bool} → l ≡ level_at tree at → FoundAt of_node tree (l + 1) (at + ROW) first → r ≡ truth image m (node_at rule tree first)
       → r ≡ truth image m (children_at rule tree at)
-  args_found at {l} {first} e f h = h ∙ sym (inner-found (l + 1) (at + ROW) first f) ∙ ap (λ (l : ℕ). truth image m (forest_from rule tree (l + 1) (at + ROW))) e
+  args_found at {l} {first} e f h = h ∙ sym (inner_found (l + 1) (at + ROW) first f) ∙ ap (λ (l : ℕ). truth image m (forest_from rule tree (l + 1) (at + ROW))) e
 
 -- an operand that cannot change the truth so far, and one that decides it
 decided : (or before operand : Bool) → beq before or ≡ true → joined_by or before operand ≡ before
@@ -81,8 +81,8 @@ undecided false true operand e = refl
 undecided false false operand e = absurd (false≢true (sym e))
 
 -- the rows below a level from a place on end where those end that follow the node found and its own
-pub inner-skip : {tree : List ℕ} {level from at past next : ℕ} → FoundAt of_node tree (level + 1) from at → Skips tree (level_at tree at) (at + ROW) past → Skips tree level past next → Skips tree level from next
-inner-skip {tree} {level} {from} {at} {past} {next} f s t =
+pub inner_skip : {tree : List ℕ} {level from at past next : ℕ} → FoundAt of_node tree (level + 1) from at → Skips tree (level_at tree at) (at + ROW) past → Skips tree level past next → Skips tree level from next
+inner_skip {tree} {level} {from} {at} {past} {next} f s t =
     record {
       later = omega (arith, f.later, s.later, t.later);
       within = t.within;
@@ -203,20 +203,20 @@ module _ {rule image tree : List ℕ} {m : Member} where
         next = skips_at tree at e j.next;
       }
 
-  pub inner-value : (at : ℕ) {l : ℕ} {r : Truth} → l ≡ level_at tree at → Inner rule image tree m l (at + ROW) r → r.value ≡ truth image m (children_at rule tree at)
-  inner-value at e i = i.value ∙ ap (λ (l : ℕ). truth image m (forest_from rule tree (l + 1) (at + ROW))) e
+  pub inner_value : (at : ℕ) {l : ℕ} {r : Truth} → l ≡ level_at tree at → Inner rule image tree m l (at + ROW) r → r.value ≡ truth image m (children_at rule tree at)
+  inner_value at e i = i.value ∙ ap (λ (l : ℕ). truth image m (forest_from rule tree (l + 1) (at + ROW))) e
 
   pub evaluated_unary : {l at : ℕ} {r : Truth} → at + ROW ≤ length tree → kind_at tree at ≡ UNARY_EXPR → l ≡ level_at tree at → Inner rule image tree m l (at + ROW) r → Evaluated rule image tree m at (record { value = not r.value; next = r.next })
-  evaluated_unary {l} {at} h k e i = record { value = ap not (inner-value at e i) ∙ sym (truth_unary rule image tree m at h k); next = skips_at tree at e i.next }
+  evaluated_unary {l} {at} h k e i = record { value = ap not (inner_value at e i) ∙ sym (truth_unary rule image tree m at h k); next = skips_at tree at e i.next }
 
   pub evaluated_paren : {l at : ℕ} {r : Truth} → at + ROW ≤ length tree → kind_at tree at ≡ PAREN_EXPR → l ≡ level_at tree at → Inner rule image tree m l (at + ROW) r → Evaluated rule image tree m at r
-  evaluated_paren {l} {at} h k e i = record { value = inner-value at e i ∙ sym (truth_paren rule image tree m at h k); next = skips_at tree at e i.next }
+  evaluated_paren {l} {at} h k e i = record { value = inner_value at e i ∙ sym (truth_paren rule image tree m at h k); next = skips_at tree at e i.next }
 
   pub evaluated_atom : {l at next : ℕ} {value : Bool} → value ≡ truth image m (node_at rule tree at) → l ≡ level_at tree at → Skips tree l (at + ROW) next → Evaluated rule image tree m at (record { value = value; next = next })
   evaluated_atom {l} {at} v e n = record { value = v; next = skips_at tree at e n }
 
-  pub inner-empty : {level from next : ℕ} → FoundNowhere of_node tree (level + 1) from → Skips tree level from next → Inner rule image tree m level from (record { value = false; next = next })
-  inner-empty {level} {from} f n = record { value = inner-none rule image tree m (level + 1) from f; next = n }
+  pub inner_empty : {level from next : ℕ} → FoundNowhere of_node tree (level + 1) from → Skips tree level from next → Inner rule image tree m level from (record { value = false; next = next })
+  inner_empty {level} {from} f n = record { value = inner_none rule image tree m (level + 1) from f; next = n }
 
   pub inner_first : {level from at next : ℕ} {r : Truth} → FoundAt of_node tree (level + 1) from at → Evaluated rule image tree m at r → Skips tree level r.next next → Inner rule image tree m level from (record { value = r.value; next = next })
-  inner_first {level} {from} {at} f e n = record { value = e.value ∙ sym (inner-found rule image tree m (level + 1) from at f); next = inner-skip f e.next n }
+  inner_first {level} {from} {at} f e n = record { value = e.value ∙ sym (inner_found rule image tree m (level + 1) from at f); next = inner_skip f e.next n }

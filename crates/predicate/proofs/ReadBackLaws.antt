@@ -13,7 +13,7 @@ use Rattle.lexer.specs.Tokens.{joined}
 use Rattle.lexer.proofs.LexLaws.{lex_joined, joined_append}
 use Rattle.trees.specs.Green.{Forest, nil, leaf, node, ◌⊹◌, span}
 use Rattle.trees.proofs.GreenLaws.{tokens_of}
-use Rattle.trees.specs.Parse.{Parsed, Parser, done, next, fails, fails_ahead, join, ◌▹◌, inNode, choose, eat_ws, Mode, OrExpr, OrRest, AndExpr, AndRest, Atom, Calls, step, steps, parse, parse_pipeline_or_count_compare, remaining, parse_root, parse_expr}
+use Rattle.trees.specs.Parse.{Parsed, Parser, done, next, fails, fails_ahead, join, ◌▹◌, in_node, choose, eat_ws, Mode, OrExpr, OrRest, AndExpr, AndRest, Atom, Calls, step, steps, parse, parse_pipeline_or_count_compare, remaining, parse_root, parse_expr}
 use Rattle.trees.specs.Look.{is_blank}
 use Rattle.trees.specs.Rows.{tree_rows}
 use Rattle.trees.proofs.TreeLaws.{Kinds, kinds_lex, tree_tokens}
@@ -58,8 +58,8 @@ module _ {p q : Parser} (a : Makes p) (b : Makes q) where
   unfolding choose
   makes_choose test = record { makes = λ ts. makes_test (test ts) (a.makes ts) (b.makes ts) }
 
-makes_node : {p : Parser} (k : ℕ) → T (leb ROOT k) → Makes p → Makes (inNode k p)
-unfolding inNode Nodes
+makes_node : {p : Parser} (k : ℕ) → T (leb ROOT k) → Makes p → Makes (in_node k p)
+unfolding in_node Nodes
 makes_node k h a = record { makes = λ ts. record { nodes = (leb→le ROOT k h, (a.makes ts).nodes, tt) } }
 
 makes_done : Makes done

@@ -14,7 +14,7 @@ use matching::search::Found;
 use syntax::{kind, text};
 
 // A member of a collection: a component, a component's feature, or a diagnostic, by their indexes on the board.
-#[derive(Drop)]
+#[derive(Clone, Copy)]
 pub enum Member {
     Component(u32),
     Feature(u32, u32),

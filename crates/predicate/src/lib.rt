@@ -1,5 +1,7 @@
 // eval.rs, "Predicate evaluation": what a predicate says of one member. The Rust has a function for each sort of member; here they are
 // one, as they differ only in the atoms, which `atom` has. It reads the rows of the predicate's tree once, in their order.
+#![tactic(auto)]
+
 pub mod atom;
 pub mod node;
 pub mod rows;
@@ -14,14 +16,14 @@ use matching::search::Found;
 use syntax::kind;
 
 // The truth of a node, and the place of the row after its last.
-#[derive(Drop)]
+#[derive(Clone, Copy)]
 struct Truth {
     value: bool,
     next: usize,
 }
 
 // How far the operands of a BINARY_EXPR are joined: the place reached, whether the last operator is `or`, and the truth so far.
-#[derive(Drop)]
+#[derive(Clone, Copy)]
 struct Operands {
     at: usize,
     or: bool,

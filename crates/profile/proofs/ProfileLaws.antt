@@ -103,23 +103,23 @@ kind_held image held f = held_part held KIND (feature_kind image f)
 abbrev direction_held : List ℕ → ℕ → ℕ → ℕ
 direction_held image held f = held_part held DIRECTION (direction image f)
 
-in-range : (image : List ℕ) (held : ℕ) (m : Member) (k : ℕ) → profile_of image held m ≡ Number k → InRange m k
+in_range : (image : List ℕ) (held : ℕ) (m : Member) (k : ℕ) → profile_of image held m ≡ Number k → InRange m k
 unfolding profile_of component_profile owned_profile
-in-range image held (Component c) k h =
+in_range image held (Component c) k h =
     let i = component_is (category_held image held c) (wired_in image held c) k h in
     omega (arith, i.small, i.is, one_small (wired_in image held c))
-in-range image held (Feature c f) k h =
+in_range image held (Feature c f) k h =
     let i = feature_is_lem (component_profile image held c) (kind_held image held f) (direction_held image held f) k h in
     (omega (arith, i.is), omega (arith, i.small, i.few_kinds, i.few_directions, i.is))
-in-range image held (Diagnostic d) k h =
+in_range image held (Diagnostic d) k h =
     let i = diagnostic_is (severity image d) k h in
     (omega (arith, i.is), omega (arith, i.small, i.is))
 
 -- all are below how many there are
 pub profile_small : (image : List ℕ) (held : ℕ) (m : Member) (k : ℕ) → profile_of image held m ≡ Number k → k < PROFILES
-profile_small image held (Component c) k h = omega (arith, in-range image held (Component c) k h)
-profile_small image held (Feature c f) k h = omega (arith, (in-range image held (Feature c f) k h).1)
-profile_small image held (Diagnostic d) k h = (in-range image held (Diagnostic d) k h).1
+profile_small image held (Component c) k h = omega (arith, in_range image held (Component c) k h)
+profile_small image held (Feature c f) k h = omega (arith, (in_range image held (Feature c f) k h).1)
+profile_small image held (Diagnostic d) k h = (in_range image held (Diagnostic d) k h).1
 
 -- ---- members with the same number: of the same sort, with the same of what is held
 
@@ -160,12 +160,12 @@ module _ (image : List ℕ) (held : ℕ) where
       features {c = c} {f = f} {d = d} {g = e} o.sort o.wired (omega (arith, i.is, j.is)) (omega (arith, i.is, j.is))
   same_profile (Diagnostic c) (Diagnostic d) k h g =
       diagnostics {c = c} {d = d} (omega (arith, (diagnostic_is (severity image c) k h).is, (diagnostic_is (severity image d) k g).is))
-  same_profile (Component c) (Feature d e) k h g = absurd (omega (arith, in-range image held (Component c) k h, (in-range image held (Feature d e) k g).0))
-  same_profile (Component c) (Diagnostic d) k h g = absurd (omega (arith, in-range image held (Component c) k h, (in-range image held (Diagnostic d) k g).0))
-  same_profile (Feature c f) (Component d) k h g = absurd (omega (arith, (in-range image held (Feature c f) k h).0, in-range image held (Component d) k g))
-  same_profile (Feature c f) (Diagnostic d) k h g = absurd (omega (arith, (in-range image held (Feature c f) k h).1, (in-range image held (Diagnostic d) k g).0))
-  same_profile (Diagnostic c) (Component d) k h g = absurd (omega (arith, (in-range image held (Diagnostic c) k h).0, in-range image held (Component d) k g))
-  same_profile (Diagnostic c) (Feature d e) k h g = absurd (omega (arith, (in-range image held (Diagnostic c) k h).0, (in-range image held (Feature d e) k g).1))
+  same_profile (Component c) (Feature d e) k h g = absurd (omega (arith, in_range image held (Component c) k h, (in_range image held (Feature d e) k g).0))
+  same_profile (Component c) (Diagnostic d) k h g = absurd (omega (arith, in_range image held (Component c) k h, (in_range image held (Diagnostic d) k g).0))
+  same_profile (Feature c f) (Component d) k h g = absurd (omega (arith, (in_range image held (Feature c f) k h).0, in_range image held (Component d) k g))
+  same_profile (Feature c f) (Diagnostic d) k h g = absurd (omega (arith, (in_range image held (Feature c f) k h).1, (in_range image held (Diagnostic d) k g).0))
+  same_profile (Diagnostic c) (Component d) k h g = absurd (omega (arith, (in_range image held (Diagnostic c) k h).0, in_range image held (Component d) k g))
+  same_profile (Diagnostic c) (Feature d e) k h g = absurd (omega (arith, (in_range image held (Diagnostic c) k h).0, (in_range image held (Feature d e) k g).1))
 
 -- ---- their atoms, each by its kind
 

@@ -1,5 +1,7 @@
 // Members that are alike: what most predicates ask of a member is one of some thousand numbers, its profile; and whether a node of a
 // predicate asks for more. Any image, member and profile is taken.
+#![tactic(auto)]
+
 ghost use Rattle.std.specs.Prelude.{◌≡◌, ◌<◌};
 ghost use Rattle.board.specs.Image.{field, severity};
 ghost use Rattle.profile.specs.Profile.{holds, held_part, of_component, of_feature, of_diagnostic, wired_in, owned_profile, profile_of, wiring_held, asks_wiring, asks_more, asks_part, asks_of_feature, asks_field};
@@ -18,7 +20,7 @@ pub const FIRST_OF_DIAGNOSTICS: usize = 1148;
 pub const PROFILES: usize = 1151;
 
 // The profile of a member; unknown where one of its fields has no such value.
-#[derive(Drop)]
+#[derive(Clone, Copy)]
 pub enum Profile {
     Number(usize),
     Unknown,

@@ -1,5 +1,7 @@
 // A reader holds the lent token rows and its place in them. What it is asked is done by functions on rows and place,
 // which are covered; those that take or make a reader are thin, and each is proved by hand.
+#![tactic(auto)]
+
 ghost use Rattle.std.specs.Prelude.{◌≡◌};
 ghost use Rattle.reader.specs.Reader.{kind_at, past_ws, current_kind};
 
@@ -9,7 +11,7 @@ use syntax::kind;
 const TOKEN_ROW: usize = 3;
 
 // The token rows, and the number of the next token.
-#[derive(Drop)]
+#[derive(Clone, Copy)]
 pub struct Reader<'a> {
     pub rows: &'a [u32],
     pub place: usize,

@@ -1,6 +1,8 @@
 // Replays fixed cases, one after the other, and prints what the proved code gives for each: every row, and the messages. Standard input
 // has the cases and the file `stdout` the answers of the Rust, both written by the oracle. A case is `TOKENS TREE ERRORS LENGTH:` and the
 // rule's bytes and a line feed: the lengths of the three tables in numbers, and of the rule in bytes.
+#![tactic(auto)]
+
 ghost use Rattle.std.specs.Prelude.{◌≡◌, ◌≤◌, length};
 
 use libc::STDOUT_FILENO;
@@ -67,7 +69,7 @@ fn replay_case(input: &[u8], at: usize, case: usize) -> usize
 }
 
 // A number of the input, and the place past the byte that ends it.
-#[derive(Drop)]
+#[derive(Clone, Copy)]
 struct Number {
     value: usize,
     end: usize,

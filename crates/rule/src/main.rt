@@ -1,5 +1,7 @@
 // Runs a rule on a board: `rule BOARD-FILE`, with the rule on standard input. It prints the verdict on a line of its own, then the outcome
 // in words: the members of a collection, the parse errors with their places, or the members for which a quantifier failed.
+#![tactic(auto)]
+
 ghost use Rattle.std.specs.Prelude.{◌≡◌, length};
 
 use calls::value::{Outcome, Value, Verdict};

@@ -2,6 +2,8 @@
 // boards and the runs, and the file `stdout` the answers of the Rust, all written by the oracle. First stands the number of boards and a
 // line feed, then each board: `LENGTH:`, its bytes and a line feed. A run is `BOARD TOKENS TREE ERRORS COLLECTION LENGTH:`, the rule's
 // bytes and a line feed: the board by its index, the lengths of the four tables in numbers, and of the rule in bytes.
+#![tactic(auto)]
+
 ghost use Rattle.std.specs.Prelude.{◌≡◌, ◌≤◌, length};
 
 use calls::value::{Outcome, Value, Verdict};
@@ -40,7 +42,7 @@ fn replay(input: &[u8]) {
 }
 
 // A number of the input, and the place past the byte that ends it.
-#[derive(Drop)]
+#[derive(Clone, Copy)]
 struct Number {
     value: usize,
     end: usize,
@@ -71,7 +73,7 @@ fn read_number(input: &[u8], at: usize) -> Number
 }
 
 // Bytes of the input from `first` to `end`, and the place past the line feed after them; 0 where the input ends before it.
-#[derive(Drop)]
+#[derive(Clone, Copy)]
 struct Bytes {
     first: usize,
     end: usize,

@@ -127,9 +127,9 @@ unfolding pending trails
 pending_trails zero = refl
 pending_trails (suc n) = refl
 
-in-steps-suc : (n low high b : ℕ) → suc n < ILL → low ≤ b → b ≤ high → Steps (suc n) low high b (suc n - 1) 0x80 0xBF
+in_steps_suc : (n low high b : ℕ) → suc n < ILL → low ≤ b → b ≤ high → Steps (suc n) low high b (suc n - 1) 0x80 0xBF
 unfolding pending
-in-steps-suc n low high b k h l =
+in_steps_suc n low high b k h l =
     let m : suc n - 1 ≡ n = omega arith in
     rw m record {
       small = omega arith;
@@ -137,12 +137,12 @@ in-steps-suc n low high b k h l =
       good = λ q s. well_in b s (to low high) (trails n) (rw (le-leb low b h, le-leb b high l)) ∙ ap (well_from s) (pending_trails n);
     }
 
-pub in-steps : {n low high b : ℕ} → (n ≡ 0 → ⊥) → n < ILL → low ≤ b → b ≤ high → Steps n low high b (n - 1) 0x80 0xBF
-in-steps {n} {low} {high} {b} e k h l = go n e k
+pub in_steps : {n low high b : ℕ} → (n ≡ 0 → ⊥) → n < ILL → low ≤ b → b ≤ high → Steps n low high b (n - 1) 0x80 0xBF
+in_steps {n} {low} {high} {b} e k h l = go n e k
   where
     go : (n : ℕ) → (n ≡ 0 → ⊥) → n < ILL → Steps n low high b (n - 1) 0x80 0xBF
     go zero e k = absurd (e refl)
-    go (suc n) e k = in-steps-suc n low high b k h l
+    go (suc n) e k = in_steps_suc n low high b k h l
 
 -- at the end of the text nothing may be asked any more
 pub well_end : (n low high : ℕ) → well_from [] (pending n low high) ≡ eqb n 0

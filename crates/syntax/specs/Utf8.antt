@@ -71,14 +71,14 @@ is_ascii [] = true
 is_ascii (b ∷ s) = ltb b 0x80 && is_ascii s
 
 -- whether s is one byte in each of the ranges rs, and nothing more
-unfoldable pub inRanges : List ℕ → List Range → Bool
-inRanges [] [] = true
-inRanges [] (r ∷ rs) = false
-inRanges (b ∷ s) [] = false
-inRanges (b ∷ s) (r ∷ rs) = within r b && inRanges s rs
+unfoldable pub in_ranges : List ℕ → List Range → Bool
+in_ranges [] [] = true
+in_ranges [] (r ∷ rs) = false
+in_ranges (b ∷ s) [] = false
+in_ranges (b ∷ s) (r ∷ rs) = within r b && in_ranges s rs
 
 -- whether a text is one character: a first byte of the table, what must follow it, and nothing more
 unfoldable pub is_character : List ℕ → Bool
-unfolding after inRanges
+unfolding after in_ranges
 is_character [] = false
-is_character (b ∷ s) = elim (after b) [ ill ↦ false | needs rs ↦ inRanges s rs ]
+is_character (b ∷ s) = elim (after b) [ ill ↦ false | needs rs ↦ in_ranges s rs ]

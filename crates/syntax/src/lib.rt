@@ -1,5 +1,7 @@
 // What every crate above shares: the kinds of tokens and nodes, the refusals, the lesser of two numbers, texts and their
 // parts, and UTF-8.
+#![tactic(auto)]
+
 pub mod form;
 pub mod kind;
 pub mod number;

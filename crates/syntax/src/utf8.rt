@@ -8,7 +8,7 @@ ghost use Rattle.syntax.specs.Utf8Scan.{ILL, Steps, lead_count, lead_low, lead_h
 const ILL: u8 = 4;
 
 // What the bytes read so far ask of the next ones: how many must come to end a character, and the range of the first of them.
-#[derive(Drop)]
+#[derive(Clone, Copy)]
 struct Pending {
     count: u8,
     low: u8,

@@ -1,5 +1,7 @@
 // Texts appended to a lent place, one after the other: each writer gives the place past what it wrote. Where the lent place ends, a text
 // is cut.
+#![tactic(auto)]
+
 pub mod place;
 
 ghost use Rattle.std.specs.Prelude.{◌≡◌, [], ◌∷◌, ◌++◌};

@@ -14,7 +14,7 @@ use Rattle.lexer.specs.Lex.{Token, lex, token_rows}
 use Rattle.lexer.proofs.ReadLaws.{lex_length}
 use Rattle.trees.specs.Green.{size, width}
 use Rattle.trees.specs.Look.{is_blank, skip_ws, head_text, at_kind, at_text, at_ident, peek_kind, at_message_dot, at_field, at_predicate_method, at_plain_method, has_count_compare_ahead, has_binary_op_at_level}
-use Rattle.trees.specs.Parse.{Parsed, Parser, done, next, fails, fails_ahead, join, ◌▹◌, inNode, choose, eat_ws, bump, next_is, expect, next_is_ident, expect_ident, literal, call_expr, ident_expr, contains_expr, compare_expr, simple_atom, Mode, OrExpr, OrRest, AndExpr, AndRest, Atom, Calls, no_method, parse_method, parse_dot_call, step, steps, parse, parse_source, parse_pipeline, parse_pipeline_or_count_compare, remaining, left_over, parse_root, parse_expr}
+use Rattle.trees.specs.Parse.{Parsed, Parser, done, next, fails, fails_ahead, join, ◌▹◌, in_node, choose, eat_ws, bump, next_is, expect, next_is_ident, expect_ident, literal, call_expr, ident_expr, contains_expr, compare_expr, simple_atom, Mode, OrExpr, OrRest, AndExpr, AndRest, Atom, Calls, no_method, parse_method, parse_dot_call, step, steps, parse, parse_source, parse_pipeline, parse_pipeline_or_count_compare, remaining, left_over, parse_root, parse_expr}
 use Rattle.trees.specs.Writing.{Asks}
 use Rattle.trees.proofs.GreenLaws.{size-⊹, height_size}
 use Rattle.trees.proofs.TreeLaws.{eat_rest}
@@ -45,8 +45,8 @@ infixl 60 ◌then◌
 unfolding ◌▹◌
 ◌then◌ {p = p} f g = record { bound = λ ts e. join_bounded (f.bound ts e) (g.bound (p ts).rest refl) }
 
-bound_node : {test : List Token → Bool} {a b : ℕ} {p : Parser} (k : ℕ) → Bound test a b p → Bound test a (b + 1) (inNode k p)
-unfolding inNode size
+bound_node : {test : List Token → Bool} {a b : ℕ} {p : Parser} (k : ℕ) → Bound test a b p → Bound test a (b + 1) (in_node k p)
+unfolding in_node size
 bound_node k f = record { bound = λ ts e. omega (arith, (f.bound ts e).bounded) }
 
 bound_choose : {test : List Token → Bool} {a b : ℕ} {p q : Parser} → Bound test a b p → Bound always a b q → Bound always a b (choose test p q)

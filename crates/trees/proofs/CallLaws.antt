@@ -13,7 +13,7 @@ use Rattle.lexer.specs.Lex.{Token, lex}
 use Rattle.lexer.proofs.ReadLaws.{lex_length}
 use Rattle.trees.specs.Green.{Forest, nil, leaf, node, ◌⊹◌, dot_calls}
 use Rattle.trees.specs.Look.{is_blank, at_kind, at_text, at_predicate_method, at_plain_method}
-use Rattle.trees.specs.Parse.{Parsed, Parser, done, next, fails, fails_ahead, join, ◌▹◌, inNode, choose, eat_ws, bump, expect, Mode, OrExpr, OrRest, AndExpr, AndRest, Atom, Calls, predicate_args, no_args, no_method, parse_method, parse_dot_call, step, steps, parse, remaining, parse_root, parse_expr}
+use Rattle.trees.specs.Parse.{Parsed, Parser, done, next, fails, fails_ahead, join, ◌▹◌, in_node, choose, eat_ws, bump, expect, Mode, OrExpr, OrRest, AndExpr, AndRest, Atom, Calls, predicate_args, no_args, no_method, parse_method, parse_dot_call, step, steps, parse, remaining, parse_root, parse_expr}
 use Rattle.trees.proofs.GreenLaws.{tokens_of, tokens_of-⊹}
 use Rattle.trees.proofs.TreeLaws.{eat_rest, tree_tokens}
 use Rattle.trees.proofs.StepLaws.{Sees, sees_kind, expect_bump}
@@ -51,8 +51,8 @@ module _ {p q : Parser} (a : Pays p) (b : Pays q) where
   unfolding choose
   pays_choose test = record { pays = λ ts. paid_test (test ts) (λ e. a.pays ts) (b.pays ts) }
 
-pays_node : {p : Parser} (k : ℕ) → eqb k DOT_CALL ≡ false → Pays p → Pays (inNode k p)
-unfolding inNode tokens_of dot_calls
+pays_node : {p : Parser} (k : ℕ) → eqb k DOT_CALL ≡ false → Pays p → Pays (in_node k p)
+unfolding in_node tokens_of dot_calls
 pays_node {p} k e a = record { pays = λ ts. record { paid = rw e (omega (arith, (a.pays ts).paid, length-append (tokens_of (p ts).made) [])) } }
 
 pays_done : Pays done
@@ -124,7 +124,7 @@ method_saves {p} a ts =
 
 -- and the dot the other
 dot_paid : {p : Parser} → Pays p → (ts : List Token) → at_kind DOT ts ≡ true → Paid 0 (parse_dot_call p ts)
-unfolding parse_dot_call inNode ◌▹◌ dot_calls tokens_of
+unfolding parse_dot_call in_node ◌▹◌ dot_calls tokens_of
 dot_paid {p} a ts e =
     let dot : Paid 1 (expect DOT ts) = rw (expect_bump DOT ts e) (bump_saves (sees_kind DOT (omega arith)) ts e) in
     let both = paid_join dot (method_saves a (expect DOT ts).rest) in

@@ -11,7 +11,7 @@ use Rattle.syntax.specs.Kind.{DOT, AND_KW, OR_KW, NONE}
 use Rattle.syntax.proofs.BoolLaws.{both}
 use Rattle.lexer.specs.Lex.{Token}
 use Rattle.trees.specs.Look.{skip_ws, head_kind, current_kind, at_kind, has_binary_op_at_level}
-use Rattle.trees.specs.Parse.{Parser, done, join, ◌▹◌, inNode, choose, eat_ws, bump, expect, predicate_args, no_args, no_method, parse_method, parse_dot_call, Mode, OrExpr, OrRest, AndExpr, AndRest, Atom, Calls, step, parse}
+use Rattle.trees.specs.Parse.{Parser, done, join, ◌▹◌, in_node, choose, eat_ws, bump, expect, predicate_args, no_args, no_method, parse_method, parse_dot_call, Mode, OrExpr, OrRest, AndExpr, AndRest, Atom, Calls, step, parse}
 use Rattle.trees.specs.Writing.{Ready, Solid, Asks, Did, Started, NoOpsFrom}
 use Rattle.trees.specs.declared.Cursor.{Cursor}
 use Rattle.trees.specs.declared.Ops.{Ops}
@@ -37,7 +37,7 @@ unfolding parse_method predicate_args no_args no_method
 keeps_method = search (keeping, keeps_bump, keeps_expect, keeps_parse) depth 20
 
 dot_less : (ts : List Token) → current_kind ts ≡ DOT → length (parse_dot_call (parse OrExpr) ts).rest < length ts
-unfolding parse_dot_call inNode ◌▹◌ join
+unfolding parse_dot_call in_node ◌▹◌ join
 dot_less ts e =
     omega (arith, expect_less DOT (λ q. omega arith) ts (at_kind_lem DOT ts e), short keeps_method (expect DOT ts).rest)
 

@@ -12,7 +12,7 @@ use Rattle.syntax.specs.Text.{ascii}
 use Rattle.syntax.proofs.BoolLaws.{whether}
 use Rattle.lexer.specs.Lex.{Token}
 use Rattle.trees.specs.Look.{skip_ws, head_kind, current_kind, at_kind, at_text, at_predicate_method, at_plain_method, has_binary_op_at_level}
-use Rattle.trees.specs.Parse.{Parser, done, next, join, ◌▹◌, inNode, choose, eat_ws, bump, expect, Mode, OrExpr, OrRest, AndExpr, AndRest, Atom, Calls, no_args, no_method, parse_method, step, steps, parse}
+use Rattle.trees.specs.Parse.{Parser, done, next, join, ◌▹◌, in_node, choose, eat_ws, bump, expect, Mode, OrExpr, OrRest, AndExpr, AndRest, Atom, Calls, no_args, no_method, parse_method, step, steps, parse}
 use Rattle.trees.specs.Writing.{Asks, Did}
 use Rattle.trees.specs.declared.Cursor.{Cursor}
 use Rattle.trees.proofs.WritingLaws.{asks_as, did_as}
@@ -75,8 +75,8 @@ unfolding ◌▹◌ join
       left = λ ts e s. b.left (p' ts).rest refl (a.left ts e s);
     }
 
-alike_node : {test : List Token → Bool} {n m : ℕ} {p p' : Parser} (k : ℕ) → Alike test n m p p' → Alike test n m (inNode k p) (inNode k p')
-unfolding inNode
+alike_node : {test : List Token → Bool} {n m : ℕ} {p p' : Parser} (k : ℕ) → Alike test n m p p' → Alike test n m (in_node k p) (in_node k p')
+unfolding in_node
 alike_node k a = record { same = λ ts e s. rw (a.same ts e s); left = a.left }
 
 module _ {test : List Token → Bool} {n m : ℕ} {p p' : Parser} (a : Alike test n m p p') where

@@ -12,7 +12,7 @@ use Rattle.syntax.proofs.BoolLaws.{whether}
 use Rattle.lexer.specs.Lex.{Token, word_kind, kind_of, past, token, lex_from, lex}
 use Rattle.lexer.specs.Bytes.{shape_of}
 use Rattle.trees.specs.Look.{is_blank, skip_ws, head_kind, current_kind, at_kind}
-use Rattle.trees.specs.Parse.{Parsed, Parser, done, next, fails, fails_ahead, join, ◌▹◌, inNode, choose, eat_ws, bump, expect, simple_atom, Mode, OrExpr, OrRest, AndExpr, AndRest, Atom, Calls, step, steps, parse, parse_pipeline_or_count_compare, remaining, left_over, parse_root, parse_expr}
+use Rattle.trees.specs.Parse.{Parsed, Parser, done, next, fails, fails_ahead, join, ◌▹◌, in_node, choose, eat_ws, bump, expect, simple_atom, Mode, OrExpr, OrRest, AndExpr, AndRest, Atom, Calls, step, steps, parse, parse_pipeline_or_count_compare, remaining, left_over, parse_root, parse_expr}
 use Rattle.trees.proofs.GreenLaws.{tokens_of, tokens_of-⊹}
 
 -- x is what was read from ts: the tokens of its tree and those left are ts
@@ -40,8 +40,8 @@ module _ {p q : Parser} (a : Keeps p) (b : Keeps q) where
   unfolding choose
   keeps_choose test = record { keeps = λ ts. kept_test (test ts) (a.keeps ts) (b.keeps ts) }
 
-pub keeps_node : {p : Parser} (k : ℕ) → Keeps p → Keeps (inNode k p)
-unfolding inNode tokens_of
+pub keeps_node : {p : Parser} (k : ℕ) → Keeps p → Keeps (in_node k p)
+unfolding in_node tokens_of
 keeps_node k a = record { keeps = λ ts. record { kept = rw append-nil (a.keeps ts).kept } }
 
 pub keeps_done : Keeps done

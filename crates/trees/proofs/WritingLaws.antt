@@ -12,7 +12,7 @@ use Rattle.syntax.proofs.TableLaws.{sets_append}
 use Rattle.lexer.specs.Lex.{Token}
 use Rattle.trees.specs.Green.{nil, node, width, span, size, height}
 use Rattle.trees.specs.Look.{head_text}
-use Rattle.trees.specs.Parse.{Parsed, Parser, done, next, fails, fails_ahead, join, ◌▹◌, inNode, choose}
+use Rattle.trees.specs.Parse.{Parsed, Parser, done, next, fails, fails_ahead, join, ◌▹◌, in_node, choose}
 use Rattle.trees.specs.Rows.{tree_rows, error_rows}
 use Rattle.trees.specs.Writing.{Ready, Skipped, Fits, Asks, Wrote, Did, Started, Finished}
 use Rattle.trees.specs.declared.Cursor.{Cursor}
@@ -245,22 +245,22 @@ wrote_node {t₀ = t₀} {t₂ = t₂} {l = l} {c = c} {r = r} {x = x} k o b f =
     })
 
 pub did_node : {ts : List Token} {t₀ t₁ t₂ t₃ e₀ e₁ : List ℕ} {k l : ℕ} {c d r s : Cursor} {p : Parser}
-    → Started t₀ t₁ k l c d → Did ts t₁ t₂ e₀ e₁ (l + 1) d r p → Finished t₂ t₃ c.row r s → Did ts t₀ t₃ e₀ e₁ l c s (inNode k p)
-unfolding inNode
+    → Started t₀ t₁ k l c d → Did ts t₁ t₂ e₀ e₁ (l + 1) d r p → Finished t₂ t₃ c.row r s → Did ts t₀ t₃ e₀ e₁ l c s (in_node k p)
+unfolding in_node
 did_node {k = k} o a f = let w = rw o.cursor at a in record { wrote = wrote_node k o.tree w.wrote f }
 
-module _ {ts : List Token} {tokens t e : List ℕ} {l : ℕ} {c : Cursor} (k : ℕ) (p : Parser) (f : Asks ts tokens t e l c (inNode k p)) where
+module _ {ts : List Token} {tokens t e : List ℕ} {l : ℕ} {c : Cursor} (k : ℕ) (p : Parser) (f : Asks ts tokens t e l c (in_node k p)) where
   -- room for the node's own row, and for one level more
   pub node_room : c.row + 4 ≤ length t
-  unfolding inNode size
+  unfolding in_node size
   node_room = omega (arith, f.fits.room)
 
   pub node_level : l + 1 < 2 ^ 32
-  unfolding inNode height
+  unfolding in_node height
   node_level = omega (arith, f.deep)
 
   pub asks_node : {t₁ : List ℕ} {d : Cursor} → Started t t₁ k l c d → Asks ts tokens t₁ e (l + 1) d p
-  unfolding inNode size height
+  unfolding in_node size height
   asks_node {t₁} {d} o =
       rw o.cursor (record {
         fits =

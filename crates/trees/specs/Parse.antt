@@ -51,8 +51,8 @@ unfolding join
 (p ▹ q) ts = let r = p ts in join r (q r.rest)
 
 -- `start_node(kind); ..; finish_node()`
-unfoldable pub inNode : ℕ → Parser → Parser
-inNode k p ts = let r = p ts in record { made = node k r.made nil; errors = r.errors; rest = r.rest }
+unfoldable pub in_node : ℕ → Parser → Parser
+in_node k p ts = let r = p ts in record { made = node k r.made nil; errors = r.errors; rest = r.rest }
 
 -- `if test { p } else { q }`, by a look at the tokens left
 unfoldable pub choose : (List Token → Bool) → Parser → Parser → Parser
@@ -87,28 +87,28 @@ expect_ident w = eat_ws ▹ choose (next_is_ident w) next (fails EXPECT_IDENT 0)
 
 -- a string literal as a node
 unfoldable pub literal : Parser
-unfolding expect inNode
-literal = inNode LITERAL (expect STRING_LIT)
+unfolding expect in_node
+literal = in_node LITERAL (expect STRING_LIT)
 
 -- `has('..')` and `analysis('..')`
 unfoldable pub call_expr : Parser
-unfolding bump expect literal inNode ◌▹◌
-call_expr = inNode CALL_EXPR (bump ▹ expect L_PAREN ▹ literal ▹ expect R_PAREN)
+unfolding bump expect literal in_node ◌▹◌
+call_expr = in_node CALL_EXPR (bump ▹ expect L_PAREN ▹ literal ▹ expect R_PAREN)
 
 -- `connected` and `components`
 unfoldable pub ident_expr : Parser
-unfolding bump inNode
-ident_expr = inNode IDENT_EXPR bump
+unfolding bump in_node
+ident_expr = in_node IDENT_EXPR bump
 
 -- `message.contains('..')`
 unfoldable pub contains_expr : Parser
-unfolding bump expect expect_ident literal inNode ◌▹◌
-contains_expr = inNode CONTAINS_EXPR (bump ▹ expect DOT ▹ expect_ident (ascii "contains") ▹ expect L_PAREN ▹ literal ▹ expect R_PAREN)
+unfolding bump expect expect_ident literal in_node ◌▹◌
+contains_expr = in_node CONTAINS_EXPR (bump ▹ expect DOT ▹ expect_ident (ascii "contains") ▹ expect L_PAREN ▹ literal ▹ expect R_PAREN)
 
 -- `field == '..'`
 unfoldable pub compare_expr : Parser
-unfolding bump expect literal inNode ◌▹◌
-compare_expr = inNode COMPARE_EXPR (bump ▹ expect EQ_EQ ▹ literal)
+unfolding bump expect literal in_node ◌▹◌
+compare_expr = in_node COMPARE_EXPR (bump ▹ expect EQ_EQ ▹ literal)
 
 -- `parse_atom` past `not` and brackets
 unfoldable pub simple_atom : Parser
@@ -125,13 +125,13 @@ pub data Mode : Type 0 where
 
 -- `.where(..)`, `.all(..)`, `.any(..)`, `.none(..)`: brackets around a predicate
 unfoldable pub predicate_args : Parser → Parser
-unfolding expect inNode ◌▹◌
-predicate_args predicate = inNode CALL_ARGS (expect L_PAREN ▹ predicate ▹ expect R_PAREN)
+unfolding expect in_node ◌▹◌
+predicate_args predicate = in_node CALL_ARGS (expect L_PAREN ▹ predicate ▹ expect R_PAREN)
 
 -- `.count()`: brackets around nothing
 unfoldable pub no_args : Parser
-unfolding expect inNode ◌▹◌
-no_args = inNode CALL_ARGS (expect L_PAREN ▹ expect R_PAREN)
+unfolding expect in_node ◌▹◌
+no_args = in_node CALL_ARGS (expect L_PAREN ▹ expect R_PAREN)
 
 -- no method: an error, and the next token is passed over if there is one
 unfoldable pub no_method : Parser
@@ -147,23 +147,23 @@ parse_method predicate =
 
 -- `parse_dot_call`
 unfoldable pub parse_dot_call : Parser → Parser
-unfolding expect parse_method inNode ◌▹◌
-parse_dot_call predicate = inNode DOT_CALL (expect DOT ▹ parse_method predicate)
+unfolding expect parse_method in_node ◌▹◌
+parse_dot_call predicate = in_node DOT_CALL (expect DOT ▹ parse_method predicate)
 
 -- `parse_atom` at a token that is no blank
 unfoldable pub atom_here : (Mode → Parser) → Parser
-unfolding simple_atom bump expect inNode choose at_kind ◌▹◌
+unfolding simple_atom bump expect in_node choose at_kind ◌▹◌
 atom_here g =
-    choose (at_kind NOT_KW) (inNode UNARY_EXPR (bump ▹ g Atom))
-    (choose (at_kind L_PAREN) (inNode PAREN_EXPR (bump ▹ g OrExpr ▹ expect R_PAREN))
+    choose (at_kind NOT_KW) (in_node UNARY_EXPR (bump ▹ g Atom))
+    (choose (at_kind L_PAREN) (in_node PAREN_EXPR (bump ▹ g OrExpr ▹ expect R_PAREN))
     simple_atom)
 
 -- one step of each of the functions that call each other, over what their calls do
 unfoldable pub step : (Mode → Parser) → Mode → Parser
-unfolding atom_here parse_dot_call bump eat_ws done inNode choose at_kind has_binary_op_at_level ◌▹◌
-step g OrExpr = choose (has_binary_op_at_level OR_KW) (inNode BINARY_EXPR (g AndExpr ▹ g OrRest)) (g AndExpr)
+unfolding atom_here parse_dot_call bump eat_ws done in_node choose at_kind has_binary_op_at_level ◌▹◌
+step g OrExpr = choose (has_binary_op_at_level OR_KW) (in_node BINARY_EXPR (g AndExpr ▹ g OrRest)) (g AndExpr)
 step g OrRest = choose (at_kind OR_KW) (bump ▹ g AndExpr ▹ g OrRest) done
-step g AndExpr = choose (has_binary_op_at_level AND_KW) (inNode BINARY_EXPR (g Atom ▹ g AndRest)) (g Atom)
+step g AndExpr = choose (has_binary_op_at_level AND_KW) (in_node BINARY_EXPR (g Atom ▹ g AndRest)) (g Atom)
 step g AndRest = choose (at_kind AND_KW) (bump ▹ g Atom ▹ g AndRest) done
 step g Atom = eat_ws ▹ atom_here g
 step g Calls = eat_ws ▹ choose (at_kind DOT) (parse_dot_call (g OrExpr) ▹ g Calls) done
@@ -190,13 +190,13 @@ parse_source = choose (at_ident (ascii "components")) ident_expr (choose (at_ide
 
 -- `parse_pipeline`
 unfoldable pub parse_pipeline : Parser
-unfolding parse_source parse inNode ◌▹◌
-parse_pipeline = inNode PIPELINE_EXPR (parse_source ▹ parse_calls)
+unfolding parse_source parse in_node ◌▹◌
+parse_pipeline = in_node PIPELINE_EXPR (parse_source ▹ parse_calls)
 
 -- `parse_pipeline_or_count_compare`
 unfoldable pub parse_pipeline_or_count_compare : Parser
-unfolding parse_pipeline bump inNode choose has_count_compare_ahead ◌▹◌
-parse_pipeline_or_count_compare = choose has_count_compare_ahead (inNode COUNT_COMPARE_EXPR (parse_pipeline ▹ bump ▹ bump)) parse_pipeline
+unfolding parse_pipeline bump in_node choose has_count_compare_ahead ◌▹◌
+parse_pipeline_or_count_compare = choose has_count_compare_ahead (in_node COUNT_COMPARE_EXPR (parse_pipeline ▹ bump ▹ bump)) parse_pipeline
 
 -- all tokens left
 unfoldable pub remaining : Parser
@@ -211,8 +211,8 @@ left_over = choose (at_kind NONE) done (fails LEFT_OVER 0 ▹ remaining)
 
 -- `parse_root`
 unfoldable pub parse_root : Parser
-unfolding parse_pipeline_or_count_compare eat_ws left_over inNode ◌▹◌
-parse_root = inNode ROOT (parse_pipeline_or_count_compare ▹ eat_ws ▹ left_over)
+unfolding parse_pipeline_or_count_compare eat_ws left_over in_node ◌▹◌
+parse_root = in_node ROOT (parse_pipeline_or_count_compare ▹ eat_ws ▹ left_over)
 
 -- `parse_expr`
 unfoldable pub parse_expr : List ℕ → Parsed

@@ -1,8 +1,10 @@
 // parser.rs: what reading a rule gives. The definitions and laws of this crate say which tree and which errors; `parser` has the code.
+#![tactic(auto)]
+
 use syntax::refusal::Refusal;
 
 // What reading a rule gives: the numbers of its rows in the three tables, or the refusal.
-#[derive(Drop)]
+#[derive(Clone, Copy)]
 pub enum Reading {
     Rows {
         tokens: usize,
@@ -13,7 +15,7 @@ pub enum Reading {
 }
 
 // Where the parser stands: the next token and its first byte, and the next places of the tree and the error table.
-#[derive(Drop)]
+#[derive(Clone, Copy)]
 pub struct Cursor {
     pub token: usize,
     pub byte: u32,
@@ -22,7 +24,7 @@ pub struct Cursor {
 }
 
 // The places past the last `and` and past the last `or` of a rule.
-#[derive(Drop)]
+#[derive(Clone, Copy)]
 pub struct Ops {
     pub ands: usize,
     pub ors: usize,

@@ -2,6 +2,8 @@
 // `stdout` the answers of the Rust, both written by the oracle. A case is `IMAGE RULE SORT:`, the image's bytes, the rule's bytes and a
 // line feed: the lengths of image and rule in bytes, and the sort of the members, 0 components, 1 features, 2 diagnostics. The
 // predicate is that of the rule's last call.
+#![tactic(auto)]
+
 ghost use Rattle.std.specs.Prelude.{◌≡◌, ◌≤◌, length};
 
 use board::image;
@@ -66,7 +68,7 @@ fn replay_case(input: &[u8], at: usize, case: usize) -> usize
 }
 
 // A number of the input, and the place past the byte that ends it.
-#[derive(Drop)]
+#[derive(Clone, Copy)]
 struct Number {
     value: usize,
     end: usize,

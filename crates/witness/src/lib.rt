@@ -1,4 +1,6 @@
 // The rule that names the members for which a quantifier failed: `C.where(not (P))` for `C.all(P)`, `C.where(P)` for `C.none(P)`.
+#![tactic(auto)]
+
 ghost use Rattle.std.specs.Prelude.{◌≡◌, ◌+◌, ◌≤◌, get_or};
 ghost use Rattle.texts.specs.Append.{Appends};
 ghost use Rattle.witness.specs.Witness.{last_call, later_call, args_text, by_word, witness_text};

@@ -1,6 +1,8 @@
 // Prints every text that a report is made of: each verdict and refusal, each kind of outcome, the members of a board that has each
 // word, and of the rules on standard input, which a line of `---` ends, the parse errors, or where there are none the rule that names the
 // members for which a quantifier fails.
+#![tactic(auto)]
+
 ghost use Rattle.std.specs.Prelude.{◌≡◌, ◌≤◌, length};
 
 use board::image::Section;

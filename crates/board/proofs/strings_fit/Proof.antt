@@ -4,7 +4,7 @@ use borrow.Author.Tests.{not-true, not-false}
 use Rattle.syntax.specs.Utf8.{is_ascii}
 use Rattle.board.specs.Check.{strings_fit}
 use Rattle.board.proofs.BoardLaws.{ascii_strings}
-use Rattle.board.proofs.WalkLaws.{letters-in, letters-here}
+use Rattle.board.proofs.WalkLaws.{letters_in, letters_here}
 use borrow.Author.Rules.{rules}
 use Rattle.board.proofs.strings_fit.Statement.{statement}
 use Rattle.board.proofs.strings_fit.Tie as tie
@@ -38,14 +38,14 @@ part-is-ascii-start : tie.Need-slice-bounds-is-ascii-start
 part-is-ascii-start c = search rules
 
 part-is-ascii-end : tie.Need-slice-bounds-is-ascii-end
-part-is-ascii-end c = letters-in c.before.before.before.before.before.args.image.now c.before.section-offset.ensures c.section-length.ensures c.before.before.before.before.before.requires
+part-is-ascii-end c = letters_in c.before.before.before.before.before.args.image.now c.before.section-offset.ensures c.section-length.ensures c.before.before.before.before.before.requires
 
 is-ascii-requires : tie.Need-is-ascii-requires
 is-ascii-requires c κs = search rules
 
 returns-2 : tie.Need-returns-2
 unfolding strings_fit
-returns-2 c = rw (sym c.before.before.before.before.before.before.strings_laid_lem.ensures ∙ not-false c.before.before.before.before.before.before.strings_laid_lem.result c.before.before.before.before.before.if1.false, ascii_strings c.before.before.before.before.before.before.before.before.args.image.now c.before.before.before.before.before.before.before.before.requires (sym c.before.before.before.before.before.before.strings_laid_lem.ensures ∙ not-false c.before.before.before.before.before.before.strings_laid_lem.result c.before.before.before.before.before.if1.false) (ap is_ascii (letters-here c.before.before.before.before.before.before.before.before.args.image.now c.before.before.before.before.section-offset.ensures c.before.before.before.section-length.ensures) ∙ sym c.before.is_ascii.ensures ∙ c.if2.true))
+returns-2 c = rw (sym c.before.before.before.before.before.before.strings_laid_lem.ensures ∙ not-false c.before.before.before.before.before.before.strings_laid_lem.result c.before.before.before.before.before.if1.false, ascii_strings c.before.before.before.before.before.before.before.before.args.image.now c.before.before.before.before.before.before.before.before.requires (sym c.before.before.before.before.before.before.strings_laid_lem.ensures ∙ not-false c.before.before.before.before.before.before.strings_laid_lem.result c.before.before.before.before.before.if1.false) (ap is_ascii (letters_here c.before.before.before.before.before.before.before.before.args.image.now c.before.before.before.before.section-offset.ensures c.before.before.before.section-length.ensures) ∙ sym c.before.is_ascii.ensures ∙ c.if2.true))
 
 strings-utf8-requires : tie.Need-strings-utf8-requires
 strings-utf8-requires c κs = (c.before.before.before.before.before.before.before.before.requires, sym c.before.before.before.before.before.before.strings_laid_lem.ensures ∙ not-false c.before.before.before.before.before.before.strings_laid_lem.result c.before.before.before.before.before.if1.false)

@@ -3,12 +3,12 @@ use mathlib.Core.Path.{ap}
 use borrow.Author.Rules.{rules}
 use lib.Dec.{ltb}
 use Rattle.lexer.specs.Read.{MAX_OPENERS}
-use Rattle.lexer.proofs.OpenerLaws.{openers-length, few_openers}
+use Rattle.lexer.proofs.OpenerLaws.{openers_length, few_openers}
 use Rattle.lexer.proofs.too_many_openers.Statement.{statement}
 use Rattle.lexer.proofs.too_many_openers.Tie as tie
 
 returns : tie.Need-returns
-returns c = few_openers c.before.before.args.rule.now (openers-length c.before.before.args.rule.now) c.if1.true
+returns c = few_openers c.before.before.args.rule.now (openers_length c.before.before.args.rule.now) c.if1.true
 
 openers-bound-requires : tie.Need-openers-bound-requires
 openers-bound-requires c κs = search rules

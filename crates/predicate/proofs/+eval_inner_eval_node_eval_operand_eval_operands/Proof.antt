@@ -5,7 +5,7 @@ use lib.ListN.{length}
 use Rattle.predicate.specs.Rows.{of_node}
 use Rattle.predicate.specs.Eval.{Finds}
 use borrow.Author.Rules.{rules}
-use Rattle.predicate.proofs.EvalLaws.{operand_there, joins_deeper, joins_token, joins_decided, joins_open, Joining, joining_start, joining_on, joining_end, evaluated_binary, evaluated_unary, evaluated_paren, evaluated_atom, inner-empty, inner_first}
+use Rattle.predicate.proofs.EvalLaws.{operand_there, joins_deeper, joins_token, joins_decided, joins_open, Joining, joining_start, joining_on, joining_end, evaluated_binary, evaluated_unary, evaluated_paren, evaluated_atom, inner_empty, inner_first}
 use Prim.Native.Nat.{ℕ, ◌<◌, ◌+◌, ◌-◌, ◌*◌}
 use borrow.Fn.Kinds.{In}
 use borrow.Fn.PlainCycle.{Measures, is, falls, and}
@@ -109,7 +109,7 @@ eval-inner-skip-below-requires : (t : ℕ) → eval-inner-lts.Need-skip-below-re
 eval-inner-skip-below-requires t c κs = c.before.before.before.before.before.before.requires.1.0
 
 eval-inner-returns : (t : ℕ) → eval-inner-lts.Need-returns (eval-inner-calls t) (eval-inner-at t) eval-inner.Post
-eval-inner-returns t c = inner-empty (subst (Finds of_node _ _ _) c.before.enum_told.given.1 c.before.before.before.find-child.ensures) c.skip_Below.ensures
+eval-inner-returns t c = inner_empty (subst (Finds of_node _ _ _) c.before.enum_told.given.1 c.before.before.before.find-child.ensures) c.skip_Below.ensures
 
 eval-inner-eval-node-requires : (t : ℕ) → eval-inner-lts.Need-eval-node-requires (eval-inner-calls t) (eval-inner-at t) eval-inner.Post
 eval-inner-eval-node-requires t c κs = let f = subst (Finds of_node _ _ _) c.before.found.given.1 c.before.before.before.find-child.ensures in (omega (arith, c.before.before.before.before.before.before.before.requires.0, f.later, f.whole), f.whole)

@@ -1,4 +1,4 @@
--- `integer` gives `integerFor`: the digits read so far write n. Assumes nothing.
+-- `integer` gives `integer_for`: the digits read so far write n. Assumes nothing.
 use Prim.Native.Nat.{◌-◌}
 use native.Mathlib.Omega.{arith}
 use lib.ListN.{length}

@@ -1,5 +1,5 @@
 -- `eval_count_compare` judges the left side, then the integer, then counts and compares. Assumes nothing.
-use Rattle.eval.proofs.PipelineLaws.{calls_room, inner-few, compare_none, compare_refused, compare_boolean, compare_large, compare_given}
+use Rattle.eval.proofs.PipelineLaws.{calls_room, inner_few, compare_none, compare_refused, compare_boolean, compare_large, compare_given}
 use Rattle.eval.proofs.PlanLaws.{source_at}
 use Rattle.eval.specs.Ready.{Plans}
 use native.Mathlib.Omega.{arith}
@@ -21,7 +21,7 @@ returns : tie.Need-returns
 returns c = compare_none c.before.before.before.before.before.before.before.before.args.rule.now c.before.before.before.before.before.before.before.before.args.image.now c.before.before.before.before.before.before.before.before.args.tree.now c.before.before.before.before.before.before.before.before.args.at c.before.before.first-child.ensures c.enum_told.given.1
 
 plan-requires : tie.Need-plan-requires
-plan-requires c κs = ((source_at c.before.before.before.before.before.before.before.before.before.before.args.rule.now c.before.before.before.before.before.before.before.before.before.before.args.tree.now c.before.before.before.before.before.before.before.before.before.before.args.at c.before.before.before.before.first-child.ensures c.before.before.found.given.1).whole, omega (arith, c.before.before.before.before.before.before.before.before.before.before.requires.1), omega (arith, calls_room c.before.before.before.before.before.before.before.before.before.before.args.rule.now c.before.before.before.before.before.before.before.before.before.before.args.tree.now c.before.before.before.before.before.before.before.before.before.before.args.calls.now c.before.before.found.given.0.0 (inner-few c.before.before.before.before.before.before.before.before.before.before.requires.4 (source_at c.before.before.before.before.before.before.before.before.before.before.args.rule.now c.before.before.before.before.before.before.before.before.before.before.args.tree.now c.before.before.before.before.before.before.before.before.before.before.args.at c.before.before.before.before.first-child.ensures c.before.before.found.given.1)) c.before.before.before.before.before.before.before.before.before.before.requires.2))
+plan-requires c κs = ((source_at c.before.before.before.before.before.before.before.before.before.before.args.rule.now c.before.before.before.before.before.before.before.before.before.before.args.tree.now c.before.before.before.before.before.before.before.before.before.before.args.at c.before.before.before.before.first-child.ensures c.before.before.found.given.1).whole, omega (arith, c.before.before.before.before.before.before.before.before.before.before.requires.1), omega (arith, calls_room c.before.before.before.before.before.before.before.before.before.before.args.rule.now c.before.before.before.before.before.before.before.before.before.before.args.tree.now c.before.before.before.before.before.before.before.before.before.before.args.calls.now c.before.before.found.given.0.0 (inner_few c.before.before.before.before.before.before.before.before.before.before.requires.4 (source_at c.before.before.before.before.before.before.before.before.before.before.args.rule.now c.before.before.before.before.before.before.before.before.before.before.args.tree.now c.before.before.before.before.before.before.before.before.before.before.args.at c.before.before.before.before.first-child.ensures c.before.before.found.given.1)) c.before.before.before.before.before.before.before.before.before.before.requires.2))
 
 enum-known-r : tie.Need-enum-known-r
 enum-known-r c = search rules
@@ -54,7 +54,7 @@ returns-3 : tie.Need-returns-3
 returns-3 c = compare_large c.before.before.before.before.before.before.before.before.before.before.before.before.before.before.before.before.before.before.before.before.before.args.rule.now c.before.before.before.before.before.before.before.before.before.before.before.before.before.before.before.before.before.before.before.before.before.args.image.now c.before.before.before.before.before.before.before.before.before.before.before.before.before.before.before.before.before.before.before.before.before.args.tree.now c.before.before.before.before.before.before.before.before.before.before.before.before.before.before.before.before.before.before.before.before.before.args.at (source_at c.before.before.before.before.before.before.before.before.before.before.before.before.before.before.before.before.before.before.before.before.before.args.rule.now c.before.before.before.before.before.before.before.before.before.before.before.before.before.before.before.before.before.before.before.before.before.args.tree.now c.before.before.before.before.before.before.before.before.before.before.before.before.before.before.before.before.before.before.before.before.before.args.at c.before.before.before.before.before.before.before.before.before.before.before.before.before.before.before.first-child.ensures c.before.before.before.before.before.before.before.before.before.before.before.before.before.found.given.1) (subst (Plans _ _ _ _) c.before.before.before.before.before.before.source.given.1 c.before.before.before.before.before.before.before.before.before.before.plan.ensures) c.before.before.before.before.if1.false c.before.before.before.integer.ensures c.before.before.integer2.ensures c.enum-told2.given.1
 
 count-members-requires : tie.Need-count-members-requires
-count-members-requires c κs = ((subst (Plans _ _ _ _) c.before.before.before.before.before.before.before.before.before.source.given.1 c.before.before.before.before.before.before.before.before.before.before.before.before.before.plan.ensures).found.whole, omega (arith, calls_room c.before.before.before.before.before.before.before.before.before.before.before.before.before.before.before.before.before.before.before.before.before.before.before.before.args.rule.now c.before.before.before.before.before.before.before.before.before.before.before.before.before.before.before.before.before.before.before.before.before.before.before.before.args.tree.now c.before.before.before.before.before.before.before.before.before.before.before.before.before.before.before.before.before.before.before.before.before.before.before.before.args.calls.now c.before.before.before.before.before.before.before.before.before.before.before.before.before.before.before.before.found.given.0.0 (inner-few c.before.before.before.before.before.before.before.before.before.before.before.before.before.before.before.before.before.before.before.before.before.before.before.before.requires.4 (source_at c.before.before.before.before.before.before.before.before.before.before.before.before.before.before.before.before.before.before.before.before.before.before.before.before.args.rule.now c.before.before.before.before.before.before.before.before.before.before.before.before.before.before.before.before.before.before.before.before.before.before.before.before.args.tree.now c.before.before.before.before.before.before.before.before.before.before.before.before.before.before.before.before.before.before.before.before.before.before.before.before.args.at c.before.before.before.before.before.before.before.before.before.before.before.before.before.before.before.before.before.before.first-child.ensures c.before.before.before.before.before.before.before.before.before.before.before.before.before.before.before.before.found.given.1)) c.before.before.before.before.before.before.before.before.before.before.before.before.before.before.before.before.before.before.before.before.before.before.before.before.requires.2, (subst (Plans _ _ _ _) c.before.before.before.before.before.before.before.before.before.source.given.1 c.before.before.before.before.before.before.before.before.before.before.before.before.before.plan.ensures).holds.number), c.before.before.before.before.before.before.before.before.before.before.before.before.before.before.before.before.before.before.before.before.before.before.before.before.requires.3)
+count-members-requires c κs = ((subst (Plans _ _ _ _) c.before.before.before.before.before.before.before.before.before.source.given.1 c.before.before.before.before.before.before.before.before.before.before.before.before.before.plan.ensures).found.whole, omega (arith, calls_room c.before.before.before.before.before.before.before.before.before.before.before.before.before.before.before.before.before.before.before.before.before.before.before.before.args.rule.now c.before.before.before.before.before.before.before.before.before.before.before.before.before.before.before.before.before.before.before.before.before.before.before.before.args.tree.now c.before.before.before.before.before.before.before.before.before.before.before.before.before.before.before.before.before.before.before.before.before.before.before.before.args.calls.now c.before.before.before.before.before.before.before.before.before.before.before.before.before.before.before.before.found.given.0.0 (inner_few c.before.before.before.before.before.before.before.before.before.before.before.before.before.before.before.before.before.before.before.before.before.before.before.before.requires.4 (source_at c.before.before.before.before.before.before.before.before.before.before.before.before.before.before.before.before.before.before.before.before.before.before.before.before.args.rule.now c.before.before.before.before.before.before.before.before.before.before.before.before.before.before.before.before.before.before.before.before.before.before.before.before.args.tree.now c.before.before.before.before.before.before.before.before.before.before.before.before.before.before.before.before.before.before.before.before.before.before.before.before.args.at c.before.before.before.before.before.before.before.before.before.before.before.before.before.before.before.before.before.before.first-child.ensures c.before.before.before.before.before.before.before.before.before.before.before.before.before.before.before.before.found.given.1)) c.before.before.before.before.before.before.before.before.before.before.before.before.before.before.before.before.before.before.before.before.before.before.before.before.requires.2, (subst (Plans _ _ _ _) c.before.before.before.before.before.before.before.before.before.source.given.1 c.before.before.before.before.before.before.before.before.before.before.before.before.before.plan.ensures).holds.number), c.before.before.before.before.before.before.before.before.before.before.before.before.before.before.before.before.before.before.before.before.before.before.before.before.requires.3)
 
 operator-requires : tie.Need-operator-requires
 operator-requires c κs = c.before.before.before.before.before.before.before.before.before.before.before.before.before.before.before.before.before.before.before.before.before.before.before.before.before.before.before.before.before.requires.0

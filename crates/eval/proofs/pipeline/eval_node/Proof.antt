@@ -1,5 +1,5 @@
 -- `eval_node` goes by the kind of the first node in the root. Assumes nothing.
-use Rattle.eval.proofs.PipelineLaws.{inner-few, node_empty, node_compare, node_pipeline}
+use Rattle.eval.proofs.PipelineLaws.{inner_few, node_empty, node_compare, node_pipeline}
 use Rattle.eval.proofs.PlanLaws.{source_at}
 use native.Mathlib.Omega.{arith}
 use borrow.Author.Rules.{rules}
@@ -28,7 +28,7 @@ slice-aggregate-eval-count-compare : tie.Need-slice-aggregate-eval-count-compare
 slice-aggregate-eval-count-compare c = search rules
 
 eval-count-compare-requires : tie.Need-eval-count-compare-requires
-eval-count-compare-requires c κs = ((source_at c.before.before.before.before.before.before.before.before.before.before.before.before.args.rule.now c.before.before.before.before.before.before.before.before.before.before.before.before.args.tree.now 0 c.before.before.before.before.before.before.before.first-child.ensures c.before.before.before.before.before.found.given.1).whole, c.before.before.before.before.before.before.before.before.before.before.before.before.requires.0, omega arith, c.before.before.before.before.before.before.before.before.before.before.before.before.requires.1, inner-few c.before.before.before.before.before.before.before.before.before.before.before.before.requires.2 (source_at c.before.before.before.before.before.before.before.before.before.before.before.before.args.rule.now c.before.before.before.before.before.before.before.before.before.before.before.before.args.tree.now 0 c.before.before.before.before.before.before.before.first-child.ensures c.before.before.before.before.before.found.given.1))
+eval-count-compare-requires c κs = ((source_at c.before.before.before.before.before.before.before.before.before.before.before.before.args.rule.now c.before.before.before.before.before.before.before.before.before.before.before.before.args.tree.now 0 c.before.before.before.before.before.before.before.first-child.ensures c.before.before.before.before.before.found.given.1).whole, c.before.before.before.before.before.before.before.before.before.before.before.before.requires.0, omega arith, c.before.before.before.before.before.before.before.before.before.before.before.before.requires.1, inner_few c.before.before.before.before.before.before.before.before.before.before.before.before.requires.2 (source_at c.before.before.before.before.before.before.before.before.before.before.before.before.args.rule.now c.before.before.before.before.before.before.before.before.before.before.before.before.args.tree.now 0 c.before.before.before.before.before.before.before.first-child.ensures c.before.before.before.before.before.found.given.1))
 
 same_length : tie.Need-same-length
 same_length c = search rules
@@ -40,7 +40,7 @@ slice-aggregate-eval-pipeline : tie.Need-slice-aggregate-eval-pipeline
 slice-aggregate-eval-pipeline c = search rules
 
 eval-pipeline-requires : tie.Need-eval-pipeline-requires
-eval-pipeline-requires c κs = ((source_at c.before.before.before.before.before.before.before.before.before.before.before.before.args.rule.now c.before.before.before.before.before.before.before.before.before.before.before.before.args.tree.now 0 c.before.before.before.before.before.before.before.first-child.ensures c.before.before.before.before.before.found.given.1).whole, c.before.before.before.before.before.before.before.before.before.before.before.before.requires.0, omega arith, c.before.before.before.before.before.before.before.before.before.before.before.before.requires.1, inner-few c.before.before.before.before.before.before.before.before.before.before.before.before.requires.2 (source_at c.before.before.before.before.before.before.before.before.before.before.before.before.args.rule.now c.before.before.before.before.before.before.before.before.before.before.before.before.args.tree.now 0 c.before.before.before.before.before.before.before.first-child.ensures c.before.before.before.before.before.found.given.1))
+eval-pipeline-requires c κs = ((source_at c.before.before.before.before.before.before.before.before.before.before.before.before.args.rule.now c.before.before.before.before.before.before.before.before.before.before.before.before.args.tree.now 0 c.before.before.before.before.before.before.before.first-child.ensures c.before.before.before.before.before.found.given.1).whole, c.before.before.before.before.before.before.before.before.before.before.before.before.requires.0, omega arith, c.before.before.before.before.before.before.before.before.before.before.before.before.requires.1, inner_few c.before.before.before.before.before.before.before.before.before.before.before.before.requires.2 (source_at c.before.before.before.before.before.before.before.before.before.before.before.before.args.rule.now c.before.before.before.before.before.before.before.before.before.before.before.before.args.tree.now 0 c.before.before.before.before.before.before.before.first-child.ensures c.before.before.before.before.before.found.given.1))
 
 same-length-2 : tie.Need-same-length-2
 same-length-2 c = search rules

@@ -1,5 +1,5 @@
 -- `utf8::pending_after` steps by one byte, in one of the four ways. Assumes nothing.
-use Rattle.syntax.proofs.Utf8Laws.{first_steps, low_steps, high_steps, in-steps}
+use Rattle.syntax.proofs.Utf8Laws.{first_steps, low_steps, high_steps, in_steps}
 use borrow.Author.Rules.{rules}
 use Rattle.syntax.proofs.utf8.pending_after.Statement.{statement}
 use Rattle.syntax.proofs.utf8.pending_after.Tie as tie
@@ -20,7 +20,7 @@ sub-t4 : tie.Need-overflow-sub-t4
 sub-t4 c = search rules
 
 returns-4 : tie.Need-returns-4
-returns-4 c = in-steps c.before.before.before.before.before.if1.false c.before.before.before.before.before.before.before.requires c.before.before.before.if2.false c.before.if3.false
+returns-4 c = in_steps c.before.before.before.before.before.if1.false c.before.before.before.before.before.before.before.requires c.before.before.before.if2.false c.before.if3.false
 
 pub pending-after-spec : {M : Type 1} → statement M
 pending-after-spec =
