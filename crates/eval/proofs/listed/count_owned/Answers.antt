@@ -1,0 +1,23 @@
+-- `count_owned` adds the features of each component: those of the ones left are still to come. Assumes nothing.
+use Rattle.eval.proofs.ListedLaws.{counting_start, counting_on, counting_end}
+use native.Mathlib.Omega.{arith}
+use Prim.Native.Nat.{◌-◌}
+use Rattle.eval.proofs.listed.count_owned.Goals as goal
+
+pub loop-component-init : goal.loop-component-init
+loop-component-init c = counting_start _ c.record_count-count.ensures
+
+pub overflow_add-features : goal.overflow_add-features
+overflow_add-features c = omega (arith, c.loop-component.invariant.most, c.loop-component-test.true)
+
+pub overflow_add-component : goal.overflow_add-component
+overflow_add-component c = omega (arith, c.loop-component-test.true)
+
+pub loop-component-smaller : goal.loop-component-smaller
+loop-component-smaller c = omega (arith, c.loop-component-test.true)
+
+pub loop-component-preserved : goal.loop-component-preserved
+loop-component-preserved c = counting_on c.loop-component.invariant c.loop-component-test.true c.count_features.ensures (omega arith)
+
+pub returns : goal.returns
+returns c = counting_end c.loop-component.invariant c.loop-component-test.false

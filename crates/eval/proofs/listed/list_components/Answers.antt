@@ -1,0 +1,31 @@
+-- `list_components` writes the rows of all components: those before one are written. Assumes nothing.
+use Rattle.eval.proofs.ListedLaws.{listing_start, listing_on, listing_end, listing_room, lists_one, made_next, made_none, every_made}
+use Rattle.predicate.specs.declared.atom.Member.TheVariants.{Component}
+use native.Mathlib.Omega.{arith}
+use mathlib.Core.List.{◌∷◌, []}
+use Prim.Native.Nat.{◌-◌}
+use Rattle.eval.proofs.listed.list_components.Goals as goal
+
+pub loop-component-init : goal.loop-component-init
+loop-component-init c = (listing_start _ _ _ (every_made _ c.record_count-count.ensures), omega arith)
+
+pub put_member-requires : goal.put_member-requires
+put_member-requires c = listing_room c.loop-component.invariant.0 (Component _ ∷ []) _ (made_next Component _ _ c.loop-component-test.true) (omega (arith, c.requires))
+
+pub overflow_add-component : goal.overflow_add-component
+overflow_add-component c = omega (arith, c.loop-component-test.true)
+
+pub loop-component-smaller : goal.loop-component-smaller
+loop-component-smaller c = omega (arith, c.loop-component-test.true)
+
+pub loop-component-preserved : goal.loop-component-preserved
+loop-component-preserved c = (listing_on c.loop-component.invariant.0 (Component _ ∷ []) (made_next Component _ _ c.loop-component-test.true) (lists_one (Component _) _ _ c.put_member.ensures), omega (arith, c.loop-component-test.true))
+
+pub overflow_cast-result : goal.overflow_cast-result
+overflow_cast-result c = omega (arith, c.loop-component.invariant.1)
+
+pub shape_of-collection : goal.shape_of-collection
+shape_of-collection c = c.loop-component.invariant.0.long
+
+pub returns : goal.returns
+returns c = listing_end c.loop-component.invariant.0 (made_none Component _ _ c.loop-component-test.false)

@@ -1,0 +1,12 @@
+-- `owners_wired` gives `owners_wired`, connection by connection. Assumes nothing.
+use mathlib.Core.Bool.{not}
+use Prim.Native.Nat.{◌-◌}
+use Rattle.instance.specs.Instance.{owner_unwired, owners_wired}
+use Rattle.instance.proofs.InstanceLaws.{Searching}
+use Rattle.instance.proofs.owners_wired.Given as goal
+
+abbrev pub invariant-loop-n : goal.invariant-loop-n
+invariant-loop-n l = Searching (owner_unwired l.image) l.count l.n (not (owners_wired l.image))
+
+abbrev pub decreases-loop-n : goal.decreases-loop-n
+decreases-loop-n l = l.count - l.n

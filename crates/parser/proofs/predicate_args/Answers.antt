@@ -1,0 +1,63 @@
+-- `predicate_args` follows `predicate_args`. Assumes nothing.
+use mathlib.Core.Path.{sym, ◌∙◌}
+use mathlib.Core.Logic.{⊎_elim}
+use Prim.{tt}
+use Prim.Native.Nat.{◌+◌}
+use Rattle.lexer.specs.Lex.{lex}
+use Rattle.trees.specs.Parse.{parse, OrExpr}
+use Rattle.trees.specs.Writing.{Did}
+use Rattle.trees.proofs.ParseLaws.{predicate_args_is}
+use Rattle.trees.proofs.WritingLaws.{did_then, asks_first, asks_then, tree_long, errors_long, node_room, node_level, asks_node, did_node, started_long, finished_long, finish_room, asks_is, did_meet, did_is}
+use Rattle.trees.proofs.CycleLaws.{asks_alone, did_alone}
+use Rattle.parser.proofs.predicate_args.Goals as goal
+
+-- the predicate, by either way
+inner : (c : tie.Joined1)
+    → Did (lex c.before.before.before.before.before.before.before.before.before.before.before.before.before.before.before.before.before.args.rule.now) c.before.before.before.before.before.before.expect.new.1.1.0 c.if1.tree c.before.before.before.before.before.before.expect.new.1.1.1.0 c.if1.errors (c.before.before.before.before.before.before.before.before.before.before.before.before.before.before.before.before.before.args.level + 1) c.before.before.before.before.before.before.expect.result c.if1.b (parse OrExpr)
+inner c =
+    ⊎_elim
+    (λ w. did_meet w.8 w.9 w.10 (did_alone c.before.before.before.before.before.before.before.before.before.before.before.before.before.before.before.before.before.requires.1 _ (sym c.before.past-ops.ensures ∙ w.0.taken) w.3.ensures))
+    (λ w. did_meet w.8 w.9 w.10 w.3.ensures)
+    c.if1.branch
+
+pub start_node-o-requires : goal.start_node-o-requires
+start_node-o-requires c = node_room _ _ (asks_is predicate_args_is c.requires.0)
+
+pub overflow_add-level : goal.overflow_add-level
+overflow_add-level c = record { fits = node_level _ _ (asks_is predicate_args_is c.requires.0) }
+
+pub expect-a-requires : goal.expect-a-requires
+expect-a-requires c = (asks_first _ _ (asks_first _ _ (asks_node _ _ (asks_is predicate_args_is c.requires.0) c.start_node-o.ensures)))
+
+pub past_ops-requires : goal.past_ops-requires
+past_ops-requires c = tt
+
+pub overflow_add-level-then-past_ops : goal.overflow_add-level-then-past_ops
+overflow_add-level-then-past_ops c = record { fits = node_level _ _ (asks_is predicate_args_is c.requires.0) }
+
+pub parse_atom-b-requires : goal.parse_atom-b-requires
+parse_atom-b-requires c = (asks_alone c.requires.1 _ (sym c.past_ops.ensures ∙ c.if-past_ops.true) (asks_then _ _ (asks_first _ _ (asks_node _ _ (asks_is predicate_args_is c.requires.0) c.start_node-o.ensures)) c.expect-a.ensures), c.requires.1)
+
+pub overflow_add-level-else-past_ops : goal.overflow_add-level-else-past_ops
+overflow_add-level-else-past_ops c = record { fits = node_level _ _ (asks_is predicate_args_is c.requires.0) }
+
+pub parse_or_expr-b-requires : goal.parse_or_expr-b-requires
+parse_or_expr-b-requires c = (asks_then _ _ (asks_first _ _ (asks_node _ _ (asks_is predicate_args_is c.requires.0) c.start_node-o.ensures)) c.expect-a.ensures, c.requires.1)
+
+pub overflow_add-level-2 : goal.overflow_add-level-2
+overflow_add-level-2 c = record { fits = node_level _ _ (asks_is predicate_args_is c.requires.0) }
+
+pub expect-d-requires : goal.expect-d-requires
+expect-d-requires c = (asks_then _ _ (asks_node _ _ (asks_is predicate_args_is c.requires.0) c.start_node-o.ensures) (did_then c.expect-a.ensures (inner UNRESOLVED.c.before.before)))
+
+pub finish_node-requires : goal.finish_node-requires
+finish_node-requires c = finish_room (node_room _ _ (asks_is predicate_args_is c.requires.0)) c.start_node-o.ensures (did_then (did_then c.expect-a.ensures (inner UNRESOLVED.c.before.before.before.before.before.before.before.before)) c.expect-d.ensures)
+
+pub shape_of-tree : goal.shape_of-tree
+shape_of-tree c = finished_long c.finish_node.ensures ∙ tree_long (did_then (did_then c.expect-a.ensures (inner UNRESOLVED.c.before.before.before.before.before.before.before.before.before.before.before)) c.expect-d.ensures) ∙ started_long c.start_node-o.ensures
+
+pub shape_of-errors : goal.shape_of-errors
+shape_of-errors c = errors_long (did_then (did_then c.expect-a.ensures (inner UNRESOLVED.c.before.before.before.before.before.before.before.before.before.before.before)) c.expect-d.ensures)
+
+pub returns : goal.returns
+returns c = did_is predicate_args_is ((did_node c.start_node-o.ensures (did_then (did_then c.expect-a.ensures (inner UNRESOLVED.c.before.before.before.before.before.before.before.before.before.before.before)) c.expect-d.ensures) c.finish_node.ensures))

@@ -1,0 +1,11 @@
+-- `node::find_string_literal` lends the content of the string in the first literal. Assumes nothing.
+use mathlib.Core.Path.{sym, ap, ◌∙◌}
+use Rattle.predicate.specs.Truth.{content}
+use Rattle.predicate.proofs.NodeLaws.{row_found, row_absent, literal_none, literal_found}
+use Rattle.predicate.proofs.node.find_string_literal.Goals as goal
+
+pub returns-in_default : goal.returns-in_default
+returns-in_default c = literal_none _ (row_absent (sym c.child_of_kind-literal.ensures ∙ c.in_default.is))
+
+pub returns : goal.returns
+returns c = c.content.ensures ∙ ap content c.first_text.ensures ∙ literal_found _ (row_found (sym c.child_of_kind-literal.ensures ∙ c.in-At.is))
