@@ -3,7 +3,6 @@ use mathlib.Core.Path.{refl, sym, ◌∙◌}
 use Prim.Native.Nat.{◌-◌}
 use native.Mathlib.Nat.{sub_self}
 use native.Mathlib.Omega.{arith}
-use borrow.Author.Tests.{not-true, not-false}
 use Rattle.board.specs.declared.image.Section.TheVariants.{Components}
 use Rattle.board.specs.Check.{component_fits, features_laid, components_fit}
 use Rattle.board.proofs.CheckLaws.{laying_start, laying_off, laying_on, laying_done, passing_start, passing_no, passing_yes, passing_done, both_first, both_second, both_done}
@@ -28,13 +27,13 @@ component_fits-requires c = walk_in c.loop-left.invariant.0 c.loop-left-test.tru
 
 pub returns-then-not-component_fits : goal.returns-then-not-component_fits
 unfolding components_fit
-returns-then-not-component_fits c = rw (← c.record_count-components.ensures) (both_second (features_laid c.args.image.now) (passing_no c.loop-left.invariant.2 (walk_on c.loop-left.invariant.0 c.loop-left-test.true) (sym (component_here c.loop-left.invariant.0 c.section_offset-at.ensures c.record_count-components.ensures) ∙ sym c.component_fits.ensures ∙ not-true c.component_fits.result (not-true _ c.if-not-component_fits.true))))
+returns-then-not-component_fits c = rw (← c.record_count-components.ensures) (both_second (features_laid c.args.image.now) (passing_no c.loop-left.invariant.2 (walk_on c.loop-left.invariant.0 c.loop-left-test.true) (sym (component_here c.loop-left.invariant.0 c.section_offset-at.ensures c.record_count-components.ensures) ∙ sym c.component_fits.ensures ∙ c.if-not-component_fits.true)))
 
 pub overflow_add-at : goal.overflow_add-at
 overflow_add-at c = omega (arith, walk_in c.loop-left.invariant.0 c.loop-left-test.true)
 
 pub loop-left-preserved : goal.loop-left-preserved
-loop-left-preserved c = (walk_next c.loop-left.invariant.0 c.loop-left-test.true, rw (walk_more c.loop-left.invariant.0 c.loop-left-test.true) at (laying_on c.loop-left.invariant.1 (walk_on c.loop-left.invariant.0 c.loop-left-test.true) (c.number_at-first.ensures ∙ field_here c.loop-left.invariant.0 Components c.section_offset-at.ensures refl 2) c.if-first-next.false (c.number_at-count.ensures ∙ field_here c.loop-left.invariant.0 Components c.section_offset-at.ensures refl 3)), rw (walk_more c.loop-left.invariant.0 c.loop-left-test.true) at (passing_yes c.loop-left.invariant.2 (walk_on c.loop-left.invariant.0 c.loop-left-test.true) (sym (component_here c.loop-left.invariant.0 c.section_offset-at.ensures c.record_count-components.ensures) ∙ sym c.component_fits.ensures ∙ not-false c.component_fits.result (not-false _ c.if-not-component_fits.false))))
+loop-left-preserved c = (walk_next c.loop-left.invariant.0 c.loop-left-test.true, rw (walk_more c.loop-left.invariant.0 c.loop-left-test.true) at (laying_on c.loop-left.invariant.1 (walk_on c.loop-left.invariant.0 c.loop-left-test.true) (c.number_at-first.ensures ∙ field_here c.loop-left.invariant.0 Components c.section_offset-at.ensures refl 2) c.if-first-next.false (c.number_at-count.ensures ∙ field_here c.loop-left.invariant.0 Components c.section_offset-at.ensures refl 3)), rw (walk_more c.loop-left.invariant.0 c.loop-left-test.true) at (passing_yes c.loop-left.invariant.2 (walk_on c.loop-left.invariant.0 c.loop-left-test.true) (sym (component_here c.loop-left.invariant.0 c.section_offset-at.ensures c.record_count-components.ensures) ∙ sym c.component_fits.ensures ∙ c.if-not-component_fits.false)))
 
 pub returns : goal.returns
 unfolding components_fit features_laid

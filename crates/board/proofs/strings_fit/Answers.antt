@@ -1,6 +1,5 @@
 -- `strings_fit` gives `strings_fit`: strings that are laid are parts of the letters, and parts of ASCII letters are UTF-8. Assumes nothing.
 use mathlib.Core.Path.{sym, ap, ◌∙◌}
-use borrow.Author.Tests.{not-true, not-false}
 use Rattle.syntax.specs.Utf8.{is_ascii}
 use Rattle.board.specs.Check.{strings_fit}
 use Rattle.board.proofs.BoardLaws.{ascii_strings}
@@ -9,18 +8,18 @@ use Rattle.board.proofs.strings_fit.Goals as goal
 
 pub returns-then-not-strings_laid : goal.returns-then-not-strings_laid
 unfolding strings_fit
-returns-then-not-strings_laid c = rw (sym c.strings_laid.ensures ∙ not-true c.strings_laid.result (not-true _ c.if-not-strings_laid.true))
+returns-then-not-strings_laid c = rw (sym c.strings_laid.ensures ∙ c.if-not-strings_laid.true)
 
 pub slice_bounds-is_ascii-end : goal.slice_bounds-is_ascii-end
 slice_bounds-is_ascii-end c = letters_in c.args.image.now c.section_offset-from.ensures c.section_length.ensures c.requires
 
 pub returns-then-is_ascii : goal.returns-then-is_ascii
 unfolding strings_fit
-returns-then-is_ascii c = rw (sym c.strings_laid.ensures ∙ not-false c.strings_laid.result (not-false _ c.if-not-strings_laid.false), ascii_strings c.args.image.now c.requires (sym c.strings_laid.ensures ∙ not-false c.strings_laid.result (not-false _ c.if-not-strings_laid.false)) (ap is_ascii (letters_here c.args.image.now c.section_offset-from.ensures c.section_length.ensures) ∙ sym c.is_ascii.ensures ∙ c.if-is_ascii.true))
+returns-then-is_ascii c = rw (sym c.strings_laid.ensures ∙ c.if-not-strings_laid.false, ascii_strings c.args.image.now c.requires (sym c.strings_laid.ensures ∙ c.if-not-strings_laid.false) (ap is_ascii (letters_here c.args.image.now c.section_offset-from.ensures c.section_length.ensures) ∙ sym c.is_ascii.ensures ∙ c.if-is_ascii.true))
 
 pub strings_utf8-requires : goal.strings_utf8-requires
-strings_utf8-requires c = (c.requires, sym c.strings_laid.ensures ∙ not-false c.strings_laid.result (not-false _ c.if-not-strings_laid.false))
+strings_utf8-requires c = (c.requires, sym c.strings_laid.ensures ∙ c.if-not-strings_laid.false)
 
 pub returns : goal.returns
 unfolding strings_fit
-returns c = rw (sym c.strings_laid.ensures ∙ not-false c.strings_laid.result (not-false _ c.if-not-strings_laid.false)) c.strings_utf8.ensures
+returns c = rw (sym c.strings_laid.ensures ∙ c.if-not-strings_laid.false) c.strings_utf8.ensures

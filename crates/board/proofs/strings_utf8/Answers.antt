@@ -3,7 +3,6 @@ use mathlib.Core.Path.{refl, sym, ap, ◌∙◌}
 use Prim.Native.Nat.{◌-◌}
 use native.Mathlib.Nat.{sub_self}
 use native.Mathlib.Omega.{arith}
-use borrow.Author.Tests.{not-true, not-false}
 use Rattle.syntax.specs.Utf8.{utf8}
 use Rattle.board.specs.declared.image.Section.TheVariants.{Strings}
 use Rattle.board.specs.Image.{text}
@@ -26,13 +25,13 @@ slice_bounds-is_utf8-end c = text_in c.requires c.loop-left.invariant.0 c.loop-l
 
 pub returns-then-not-is_utf8 : goal.returns-then-not-is_utf8
 unfolding strings_utf8
-returns-then-not-is_utf8 c = rw (← c.record_count-left.ensures) (passing_no c.loop-left.invariant.1 (walk_on c.loop-left.invariant.0 c.loop-left-test.true) (ap utf8 (text_here c.requires c.loop-left.invariant.0 c.loop-left-test.true c.section_offset-at.ensures c.record_count-left.ensures c.section_offset-letters.ensures c.number_at.ensures c.number_at-in-loop-left.ensures) ∙ sym c.is_utf8.ensures ∙ not-true c.is_utf8.result (not-true _ c.if-not-is_utf8.true)))
+returns-then-not-is_utf8 c = rw (← c.record_count-left.ensures) (passing_no c.loop-left.invariant.1 (walk_on c.loop-left.invariant.0 c.loop-left-test.true) (ap utf8 (text_here c.requires c.loop-left.invariant.0 c.loop-left-test.true c.section_offset-at.ensures c.record_count-left.ensures c.section_offset-letters.ensures c.number_at.ensures c.number_at-in-loop-left.ensures) ∙ sym c.is_utf8.ensures ∙ c.if-not-is_utf8.true))
 
 pub overflow_add-at : goal.overflow_add-at
 overflow_add-at c = omega (arith, walk_in c.loop-left.invariant.0 c.loop-left-test.true)
 
 pub loop-left-preserved : goal.loop-left-preserved
-loop-left-preserved c = (walk_next c.loop-left.invariant.0 c.loop-left-test.true, rw (walk_more c.loop-left.invariant.0 c.loop-left-test.true) at (passing_yes c.loop-left.invariant.1 (walk_on c.loop-left.invariant.0 c.loop-left-test.true) (ap utf8 (text_here c.requires c.loop-left.invariant.0 c.loop-left-test.true c.section_offset-at.ensures c.record_count-left.ensures c.section_offset-letters.ensures c.number_at.ensures c.number_at-in-loop-left.ensures) ∙ sym c.is_utf8.ensures ∙ not-false c.is_utf8.result (not-false _ c.if-not-is_utf8.false))))
+loop-left-preserved c = (walk_next c.loop-left.invariant.0 c.loop-left-test.true, rw (walk_more c.loop-left.invariant.0 c.loop-left-test.true) at (passing_yes c.loop-left.invariant.1 (walk_on c.loop-left.invariant.0 c.loop-left-test.true) (ap utf8 (text_here c.requires c.loop-left.invariant.0 c.loop-left-test.true c.section_offset-at.ensures c.record_count-left.ensures c.section_offset-letters.ensures c.number_at.ensures c.number_at-in-loop-left.ensures) ∙ sym c.is_utf8.ensures ∙ c.if-not-is_utf8.false)))
 
 pub returns : goal.returns
 unfolding strings_utf8

@@ -4,7 +4,6 @@ use Prim.Native.Nat.{◌+◌, ◌-◌}
 use native.Mathlib.Omega.{arith}
 use Rattle.predicate.proofs.RowLaws.{row_there, below_row}
 use Rattle.eval.proofs.MarkedLaws.{tells_more, telling_on, telling_end}
-use borrow.Author.Tests.{not-false}
 use Rattle.eval.proofs.marked.asks_below.Goals as goal
 
 pub returns-then-tree-lt-ROW : goal.returns-then-tree-lt-ROW
@@ -35,7 +34,7 @@ pub loop-member-smaller : goal.loop-member-smaller
 loop-member-smaller c = omega (arith, row_there _ _ (below_row _ _ _ (sym c.is_below.ensures ∙ c.loop-member-test.true)).0)
 
 pub loop-member-preserved : goal.loop-member-preserved
-loop-member-preserved c = telling_on c.loop-member.invariant (sym c.is_below.ensures ∙ c.loop-member-test.true) c.is_told.ensures (not-false _ c.if-not-is_told.false)
+loop-member-preserved c = telling_on c.loop-member.invariant (sym c.is_below.ensures ∙ c.loop-member-test.true) c.is_told.ensures c.if-not-is_told.false
 
 pub returns : goal.returns
 returns c = telling_end c.loop-member.invariant (sym c.is_below.ensures ∙ c.loop-member-test.false)

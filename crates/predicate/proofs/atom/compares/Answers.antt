@@ -1,11 +1,10 @@
 -- `atom::compares` gives `compares`, by the sort of member. Assumes nothing.
-use borrow.Author.Tests.{not-true, not-false}
 use Rattle.predicate.specs.Truth.{compares}
 use Rattle.predicate.proofs.atom.compares.Goals as goal
 
 pub returns-then-not-same : goal.returns-then-not-same
 unfolding compares
-returns-then-not-same c = rw (c.in-Diagnostic.is, ← c.same.ensures, not-true c.same.result (not-true _ c.if-not-same.true))
+returns-then-not-same c = rw (c.in-Diagnostic.is, ← c.same.ensures, c.if-not-same.true)
 
 pub returns-in-Component : goal.returns-in-Component
 unfolding compares
@@ -17,4 +16,4 @@ returns-in-Feature c = rw c.in-Feature.is c.feature_compares.ensures
 
 pub returns-else-not-same : goal.returns-else-not-same
 unfolding compares
-returns-else-not-same c = rw (c.in-Diagnostic.is, ← c.same.ensures, not-false c.same.result (not-false _ c.if-not-same.false), ← c.field-severity.ensures) c.severity_matches.ensures
+returns-else-not-same c = rw (c.in-Diagnostic.is, ← c.same.ensures, c.if-not-same.false, ← c.field-severity.ensures) c.severity_matches.ensures
