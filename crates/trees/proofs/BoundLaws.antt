@@ -81,7 +81,11 @@ next_seen (t ∷ ts) l = omega arith
 
 bound_next : Bound always 0 0 next
 unfolding next size
-bound_next = record { bound = λ ts e. elim ts [ [] ↦ omega arith | t ∷ us ↦ omega arith ] }
+bound_next = record { bound = λ ts e. go ts }
+  where
+    go : (ts : List Token) → Bounded ts 0 0 (next ts)
+    go [] = omega arith
+    go (t ∷ ts) = omega arith
 
 bound_eat : Bound always 0 0 eat_ws
 unfolding eat_ws size

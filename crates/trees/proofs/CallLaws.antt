@@ -61,7 +61,11 @@ pays_done = record { pays = λ ts. omega arith }
 
 pays_next : Pays next
 unfolding next dot_calls
-pays_next = record { pays = λ ts. elim ts [ [] ↦ omega arith | t ∷ us ↦ omega arith ] }
+pays_next = record { pays = go }
+  where
+    go : (ts : List Token) → Paid 0 (next ts)
+    go [] = omega arith
+    go (t ∷ ts) = omega arith
 
 pays_fails : (form k : ℕ) → Pays (fails form k)
 unfolding fails dot_calls
