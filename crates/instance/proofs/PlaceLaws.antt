@@ -162,7 +162,7 @@ pub record Passing (passes : ℕ → Bool) (first count : ℕ) (records : List �
   pub inside : (at : ℕ) → at + NUMBER_SIZE ≤ length records → at < first + RECORD_SIZE * count
   pub unlike : (at : ℕ) → at + NUMBER_SIZE ≤ length records → (word records at ≡ one → ⊥) → (word records at ≡ other → ⊥) → passes at ≡ false
 
-pub walking_over : {passes : ℕ → Bool} {first count from at : ℕ} {whole : Bool} {records : List ℕ} {one other : ℕ} → Passing passes first count records one other
+pub walking_over : {passes : ℕ → Bool} {first count from : ℕ} {records : List ℕ} {one other : ℕ} {at : ℕ} {whole : Bool} → Passing passes first count records one other
     → Walking passes first count from whole → Skipped records one other from at → Walking passes first count at whole
 walking_over p w Skipped.none = w
 walking_over p w (Skipped.past {at} s h a b) = walking_miss (walking_over p w s) (p.inside at h) (p.unlike at h a b)

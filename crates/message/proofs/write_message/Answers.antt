@@ -35,6 +35,9 @@ put-opened-requires c = omega (arith, c.put_head-n.ensures.place, head_short c.a
 pub slice_bounds-head-end-2 : goal.slice_bounds-head-end-2
 slice_bounds-head-end-2 c = (begun refl (omega arith) c.put_head-n.ensures c.put-opened.ensures).fits
 
+pub slice_bounds-write_pieces-end-2 : goal.slice_bounds-write_pieces-end-2
+slice_bounds-write_pieces-end-2 c = (begun refl (omega arith) c.put_head-n.ensures c.put-opened.ensures).long
+
 pub write_pieces-requires-2 : goal.write_pieces-requires-2
 write_pieces-requires-2 c = let b = begun refl (omega arith) c.put_head-n.ensures c.put-opened.ensures in omega (arith, b.long, b.short, ap length c.part-text.ensures, (part_length c.args.rule.now c.args.first c.args.end).0)
 
