@@ -30,6 +30,7 @@ module _ (image set name : List ℕ) where
 
   marks_from : (c n k : ℕ) → k < n → get_or (property_marks image set name c n) k 0 ≡ mark_of (has_property image (c + k) set name)
   unfolding property_marks
+  marks_from c zero k h = absurd (omega arith)
   marks_from c (suc n) zero h = ap (λ (c : ℕ). mark_of (has_property image c set name)) (omega arith)
   marks_from c (suc n) (suc k) h =
       marks_from (suc c) n k (omega arith) ∙ ap (λ (c : ℕ). mark_of (has_property image c set name)) (omega arith)

@@ -13,7 +13,7 @@ pub loop-n-preserved : goal.loop-n-preserved
 loop-n-preserved c = marking_on c.loop-n.invariant c.loop-n-test.true c.mark_owner.ensures
 
 pub shape_of-marks : goal.shape_of-marks
-shape_of-marks c = c.loop-n.invariant.long ∙ c.clear.auto.0
+shape_of-marks c = c.loop-n.invariant.long ∙ c.clear.auto.marks
 
 pub returns : goal.returns
-returns c = marking_end c.loop-n.invariant c.loop-n-test.false ∙ ap (property_marks _ _ _ 0) c.clear.auto.0
+returns c = marking_end c.loop-n.invariant c.loop-n-test.false ∙ ap (property_marks _ _ _ 0) c.clear.auto.marks

@@ -21,7 +21,7 @@ pub returns-then-next_kind-kind : goal.returns-then-next_kind-kind
 returns-then-next_kind-kind c = did_is (expect_is _) (did_then (c.eat_ws-a.ensures _) (did_true _ _ _ (next_yes _ c.next_kind.ensures c.if-next_kind-kind.true) (c.put_token.ensures _)))
 
 pub fail-requires : goal.fail-requires
-fail-requires c = ((asks_then _ _ (asks_is (expect_is _) c.requires) (c.eat_ws-a.ensures _)).fits.ready, fail_room _ _ (asks_false _ _ _ (next_no _ c.next_kind.ensures c.if-next_kind-kind.false) (asks_then _ _ (asks_is (expect_is _) c.requires) (c.eat_ws-a.ensures _))))
+fail-requires c = record { ready = (asks_then _ _ (asks_is (expect_is _) c.requires) (c.eat_ws-a.ensures _)).fits.ready; error_in_bounds = fail_room _ _ (asks_false _ _ _ (next_no _ c.next_kind.ensures c.if-next_kind-kind.false) (asks_then _ _ (asks_is (expect_is _) c.requires) (c.eat_ws-a.ensures _))) }
 
 pub shape_of-tree : goal.shape_of-tree
 shape_of-tree c = tree_long (c.eat_ws-a.ensures [])

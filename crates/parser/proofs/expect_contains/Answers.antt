@@ -22,7 +22,7 @@ pub returns-then-next_is_ident : goal.returns-then-next_is_ident
 returns-then-next_is_ident c = did_is (expect_ident_is _) (did_then (c.eat_ws-a.ensures _) (did_true _ _ _ (sym c.next_is_ident.ensures ∙ c.if-next_is_ident.true) (c.put_token.ensures _)))
 
 pub fail-requires : goal.fail-requires
-fail-requires c = ((asks_then _ _ (asks_is (expect_ident_is _) c.requires) (c.eat_ws-a.ensures _)).fits.ready, fail_room _ _ (asks_false _ _ _ (sym c.next_is_ident.ensures ∙ c.if-next_is_ident.false) (asks_then _ _ (asks_is (expect_ident_is _) c.requires) (c.eat_ws-a.ensures _))))
+fail-requires c = record { ready = (asks_then _ _ (asks_is (expect_ident_is _) c.requires) (c.eat_ws-a.ensures _)).fits.ready; error_in_bounds = fail_room _ _ (asks_false _ _ _ (sym c.next_is_ident.ensures ∙ c.if-next_is_ident.false) (asks_then _ _ (asks_is (expect_ident_is _) c.requires) (c.eat_ws-a.ensures _))) }
 
 pub shape_of-tree : goal.shape_of-tree
 shape_of-tree c = tree_long (c.eat_ws-a.ensures [])

@@ -3,4 +3,4 @@ use Rattle.trees.proofs.WritingLaws.{did_fail}
 use Rattle.parser.proofs.fail.Goals as goal
 
 pub returns : goal.returns
-returns c = did_fail _ _ _ c.requires.0 c.found_end-end.ensures c.put_row.ensures
+returns c = did_fail _ _ _ c.requires.ready c.found_end-end.ensures c.put_row.ensures

@@ -4,7 +4,7 @@ use native.Mathlib.Omega.{arith}
 use Rattle.parser.proofs.fail_ahead.Goals as goal
 
 pub fail-d-requires : goal.fail-d-requires
-fail-d-requires c = (c.skip_ws-a.ensures.ready, omega (arith, c.skip_ws-a.ensures.error, c.requires.1))
+fail-d-requires c = record { ready = c.skip_ws-a.ensures.ready; error_in_bounds = omega (arith, c.skip_ws-a.ensures.error, c.requires.error_in_bounds) }
 
 pub returns : goal.returns
-returns c = did_fail_ahead _ c.requires.0 c.skip_ws-a.ensures c.fail-d.ensures
+returns c = did_fail_ahead _ c.requires.ready c.skip_ws-a.ensures c.fail-d.ensures

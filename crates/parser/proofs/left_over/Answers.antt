@@ -12,7 +12,7 @@ pub returns-then-current_kind-eq-NONE : goal.returns-then-current_kind-eq-NONE
 returns-then-current_kind-eq-NONE c = did_is left_over_is (did_true _ _ _ (at_yes _ c.current_kind.ensures c.if-current_kind-eq-NONE.true) (did_done c.requires.fits.ready))
 
 pub fail-a-requires : goal.fail-a-requires
-fail-a-requires c = ((asks_first _ _ (asks_false _ _ _ (at_no _ c.current_kind.ensures c.if-current_kind-eq-NONE.false) (asks_is left_over_is c.requires))).fits.ready, fail_room _ _ (asks_first _ _ (asks_false _ _ _ (at_no _ c.current_kind.ensures c.if-current_kind-eq-NONE.false) (asks_is left_over_is c.requires))))
+fail-a-requires c = record { ready = (asks_first _ _ (asks_false _ _ _ (at_no _ c.current_kind.ensures c.if-current_kind-eq-NONE.false) (asks_is left_over_is c.requires))).fits.ready; error_in_bounds = fail_room _ _ (asks_first _ _ (asks_false _ _ _ (at_no _ c.current_kind.ensures c.if-current_kind-eq-NONE.false) (asks_is left_over_is c.requires))) }
 
 pub take_remaining-requires : goal.take_remaining-requires
 take_remaining-requires c = (asks_then _ _ (asks_false _ _ _ (at_no _ c.current_kind.ensures c.if-current_kind-eq-NONE.false) (asks_is left_over_is c.requires)) (c.fail-a.ensures _ _)).fits

@@ -6,7 +6,7 @@ use Rattle.trees.proofs.LookLaws.{at_yes, at_no, fail_ahead_room}
 use Rattle.parser.proofs.no_method.Goals as goal
 
 pub fail_ahead-a-requires : goal.fail_ahead-a-requires
-fail_ahead-a-requires c = (c.requires.fits.ready, fail_ahead_room _ (asks_first _ _ (asks_is no_method_is c.requires)))
+fail_ahead-a-requires c = record { ready = c.requires.fits.ready; error_in_bounds = fail_ahead_room _ (asks_first _ _ (asks_is no_method_is c.requires)) }
 
 pub current_kind-requires : goal.current_kind-requires
 current_kind-requires c = ready_then (c.fail_ahead-a.ensures [] 0) c.requires.fits.ready

@@ -12,7 +12,7 @@ use native.Mathlib.Omega.{arith}
 use Rattle.parser.proofs.parse_calls.Goals as goal
 
 pub loop-ops-init : goal.loop-ops-init
-loop-ops-init c = ongoing_start c.requires.0
+loop-ops-init c = ongoing_start c.requires.asks
 
 pub eat_ws-a-requires : goal.eat_ws-a-requires
 eat_ws-a-requires c = (asks_first _ _ (asks_is step_calls_is (asks_step Calls c.loop-ops.invariant.asks))).fits
@@ -30,7 +30,7 @@ pub returns-then-next_kind-ne-DOT : goal.returns-then-next_kind-ne-DOT
 returns-then-next_kind-ne-DOT c = calls_end c.loop-ops.invariant (c.eat_ws-a.ensures _) (at_no _ (eaten (c.eat_ws-a.ensures []) c.next_kind.ensures) c.if-next_kind-ne-DOT.true)
 
 pub parse_dot_call-d-requires : goal.parse_dot_call-d-requires
-parse_dot_call-d-requires c = (calls_asks c.loop-ops.invariant (c.eat_ws-a.ensures _) (at_yes _ (eaten (c.eat_ws-a.ensures []) c.next_kind.ensures) c.if-next_kind-ne-DOT.false), c.requires.1)
+parse_dot_call-d-requires c = record { asks = calls_asks c.loop-ops.invariant (c.eat_ws-a.ensures _) (at_yes _ (eaten (c.eat_ws-a.ensures []) c.next_kind.ensures) c.if-next_kind-ne-DOT.false); no_ops_from = c.requires.no_ops_from }
 
 pub loop-ops-smaller : goal.loop-ops-smaller
 loop-ops-smaller c = omega (arith, (c.eat_ws-a.ensures []).wrote.ahead, dot_ahead (sym (eaten (c.eat_ws-a.ensures []) c.next_kind.ensures) ∙ c.if-next_kind-ne-DOT.false) c.parse_dot_call-d.ensures, c.parse_dot_call-d.ensures.wrote.within)

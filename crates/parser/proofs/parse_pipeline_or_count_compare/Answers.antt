@@ -5,31 +5,31 @@ use Rattle.trees.proofs.WritingLaws.{did_then, asks_first, asks_then, tree_long,
 use Rattle.parser.proofs.parse_pipeline_or_count_compare.Goals as goal
 
 pub has_count_compare_ahead-requires : goal.has_count_compare_ahead-requires
-has_count_compare_ahead-requires c = c.requires.0.fits.ready
+has_count_compare_ahead-requires c = c.requires.asks.fits.ready
 
 pub start_node-o-requires : goal.start_node-o-requires
-start_node-o-requires c = node_room _ _ (asks_true _ _ _ (sym c.has_count_compare_ahead.ensures ∙ c.if-has_count_compare_ahead.true) (asks_is parse_compare_is c.requires.0))
+start_node-o-requires c = node_room _ _ (asks_true _ _ _ (sym c.has_count_compare_ahead.ensures ∙ c.if-has_count_compare_ahead.true) (asks_is parse_compare_is c.requires.asks))
 
 pub overflow_add-level : goal.overflow_add-level
-overflow_add-level c = record { fits = node_level _ _ (asks_true _ _ _ (sym c.has_count_compare_ahead.ensures ∙ c.if-has_count_compare_ahead.true) (asks_is parse_compare_is c.requires.0)) }
+overflow_add-level c = record { fits = node_level _ _ (asks_true _ _ _ (sym c.has_count_compare_ahead.ensures ∙ c.if-has_count_compare_ahead.true) (asks_is parse_compare_is c.requires.asks)) }
 
 pub parse_pipeline-a-requires : goal.parse_pipeline-a-requires
-parse_pipeline-a-requires c = (asks_first _ _ (asks_first _ _ (asks_node _ _ (asks_true _ _ _ (sym c.has_count_compare_ahead.ensures ∙ c.if-has_count_compare_ahead.true) (asks_is parse_compare_is c.requires.0)) c.start_node-o.ensures)), c.requires.1)
+parse_pipeline-a-requires c = record { asks = asks_first _ _ (asks_first _ _ (asks_node _ _ (asks_true _ _ _ (sym c.has_count_compare_ahead.ensures ∙ c.if-has_count_compare_ahead.true) (asks_is parse_compare_is c.requires.asks)) c.start_node-o.ensures)); no_ops_from = c.requires.no_ops_from }
 
 pub overflow_add-level-then-has_count_compare_ahead : goal.overflow_add-level-then-has_count_compare_ahead
-overflow_add-level-then-has_count_compare_ahead c = record { fits = node_level _ _ (asks_true _ _ _ (sym c.has_count_compare_ahead.ensures ∙ c.if-has_count_compare_ahead.true) (asks_is parse_compare_is c.requires.0)) }
+overflow_add-level-then-has_count_compare_ahead c = record { fits = node_level _ _ (asks_true _ _ _ (sym c.has_count_compare_ahead.ensures ∙ c.if-has_count_compare_ahead.true) (asks_is parse_compare_is c.requires.asks)) }
 
 pub bump-b-requires : goal.bump-b-requires
-bump-b-requires c = (asks_then _ _ (asks_first _ _ (asks_node _ _ (asks_true _ _ _ (sym c.has_count_compare_ahead.ensures ∙ c.if-has_count_compare_ahead.true) (asks_is parse_compare_is c.requires.0)) c.start_node-o.ensures)) c.parse_pipeline-a.ensures).fits
+bump-b-requires c = (asks_then _ _ (asks_first _ _ (asks_node _ _ (asks_true _ _ _ (sym c.has_count_compare_ahead.ensures ∙ c.if-has_count_compare_ahead.true) (asks_is parse_compare_is c.requires.asks)) c.start_node-o.ensures)) c.parse_pipeline-a.ensures).fits
 
 pub overflow_add-level-then-has_count_compare_ahead-2 : goal.overflow_add-level-then-has_count_compare_ahead-2
-overflow_add-level-then-has_count_compare_ahead-2 c = record { fits = node_level _ _ (asks_true _ _ _ (sym c.has_count_compare_ahead.ensures ∙ c.if-has_count_compare_ahead.true) (asks_is parse_compare_is c.requires.0)) }
+overflow_add-level-then-has_count_compare_ahead-2 c = record { fits = node_level _ _ (asks_true _ _ _ (sym c.has_count_compare_ahead.ensures ∙ c.if-has_count_compare_ahead.true) (asks_is parse_compare_is c.requires.asks)) }
 
 pub bump-d-requires : goal.bump-d-requires
-bump-d-requires c = (asks_then _ _ (asks_node _ _ (asks_true _ _ _ (sym c.has_count_compare_ahead.ensures ∙ c.if-has_count_compare_ahead.true) (asks_is parse_compare_is c.requires.0)) c.start_node-o.ensures) (did_then c.parse_pipeline-a.ensures (c.bump-b.ensures _))).fits
+bump-d-requires c = (asks_then _ _ (asks_node _ _ (asks_true _ _ _ (sym c.has_count_compare_ahead.ensures ∙ c.if-has_count_compare_ahead.true) (asks_is parse_compare_is c.requires.asks)) c.start_node-o.ensures) (did_then c.parse_pipeline-a.ensures (c.bump-b.ensures _))).fits
 
 pub finish_node-requires : goal.finish_node-requires
-finish_node-requires c = finish_room (node_room _ _ (asks_true _ _ _ (sym c.has_count_compare_ahead.ensures ∙ c.if-has_count_compare_ahead.true) (asks_is parse_compare_is c.requires.0))) c.start_node-o.ensures (did_then (did_then c.parse_pipeline-a.ensures (c.bump-b.ensures _)) (c.bump-d.ensures _))
+finish_node-requires c = finish_room (node_room _ _ (asks_true _ _ _ (sym c.has_count_compare_ahead.ensures ∙ c.if-has_count_compare_ahead.true) (asks_is parse_compare_is c.requires.asks))) c.start_node-o.ensures (did_then (did_then c.parse_pipeline-a.ensures (c.bump-b.ensures _)) (c.bump-d.ensures _))
 
 pub shape_of-tree-then-has_count_compare_ahead : goal.shape_of-tree-then-has_count_compare_ahead
 shape_of-tree-then-has_count_compare_ahead c = finished_long c.finish_node.ensures ∙ tree_long (did_then (did_then c.parse_pipeline-a.ensures (c.bump-b.ensures _)) (c.bump-d.ensures _)) ∙ started_long c.start_node-o.ensures
@@ -41,7 +41,7 @@ pub returns-then-has_count_compare_ahead : goal.returns-then-has_count_compare_a
 returns-then-has_count_compare_ahead c = did_is parse_compare_is (did_true _ _ _ (sym c.has_count_compare_ahead.ensures ∙ c.if-has_count_compare_ahead.true) (did_node c.start_node-o.ensures (did_then (did_then c.parse_pipeline-a.ensures (c.bump-b.ensures _)) (c.bump-d.ensures _)) c.finish_node.ensures))
 
 pub parse_pipeline-requires : goal.parse_pipeline-requires
-parse_pipeline-requires c = (asks_false _ _ _ (sym c.has_count_compare_ahead.ensures ∙ c.if-has_count_compare_ahead.false) (asks_is parse_compare_is c.requires.0), c.requires.1)
+parse_pipeline-requires c = record { asks = asks_false _ _ _ (sym c.has_count_compare_ahead.ensures ∙ c.if-has_count_compare_ahead.false) (asks_is parse_compare_is c.requires.asks); no_ops_from = c.requires.no_ops_from }
 
 pub shape_of-tree : goal.shape_of-tree
 shape_of-tree c = tree_long c.parse_pipeline.ensures

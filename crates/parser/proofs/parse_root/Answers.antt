@@ -17,7 +17,7 @@ pub overflow_add-level : goal.overflow_add-level
 overflow_add-level c = record { fits = node_level _ _ (asks_is parse_root_is c.requires) }
 
 pub parse_pipeline_or_count_compare-a-requires : goal.parse_pipeline_or_count_compare-a-requires
-parse_pipeline_or_count_compare-a-requires c = (asks_first _ _ (asks_first _ _ (asks_node _ _ (asks_is parse_root_is c.requires) c.start_node-o.ensures)), record { ands = c.past_last-ands.ensures; ors = c.past_last-ors.ensures })
+parse_pipeline_or_count_compare-a-requires c = record { asks = asks_first _ _ (asks_first _ _ (asks_node _ _ (asks_is parse_root_is c.requires) c.start_node-o.ensures)); no_ops_from = record { ands = c.past_last-ands.ensures; ors = c.past_last-ors.ensures } }
 
 pub overflow_add-level-2 : goal.overflow_add-level-2
 overflow_add-level-2 c = record { fits = node_level _ _ (asks_is parse_root_is c.requires) }

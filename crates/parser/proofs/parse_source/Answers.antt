@@ -37,7 +37,7 @@ pub returns-then-at_ident-2 : goal.returns-then-at_ident-2
 returns-then-at_ident-2 c = did_is parse_source_is ((did_false _ _ _ (sym c.at_ident.ensures ∙ c.if-at_ident.false) (did_true _ _ _ (sym c.at_ident-2.ensures ∙ c.if-at_ident-2.true) c.call_expr.ensures)))
 
 pub fail_ahead-requires : goal.fail_ahead-requires
-fail_ahead-requires c = ((asks_false _ _ _ (sym c.at_ident-2.ensures ∙ c.if-at_ident-2.false) (asks_false _ _ _ (sym c.at_ident.ensures ∙ c.if-at_ident.false) (asks_is parse_source_is c.requires))).fits.ready, fail_ahead_room _ (asks_false _ _ _ (sym c.at_ident-2.ensures ∙ c.if-at_ident-2.false) (asks_false _ _ _ (sym c.at_ident.ensures ∙ c.if-at_ident.false) (asks_is parse_source_is c.requires))))
+fail_ahead-requires c = record { ready = (asks_false _ _ _ (sym c.at_ident-2.ensures ∙ c.if-at_ident-2.false) (asks_false _ _ _ (sym c.at_ident.ensures ∙ c.if-at_ident.false) (asks_is parse_source_is c.requires))).fits.ready; error_in_bounds = fail_ahead_room _ (asks_false _ _ _ (sym c.at_ident-2.ensures ∙ c.if-at_ident-2.false) (asks_false _ _ _ (sym c.at_ident.ensures ∙ c.if-at_ident.false) (asks_is parse_source_is c.requires))) }
 
 pub shape_of-errors : goal.shape_of-errors
 shape_of-errors c = errors_long (c.fail_ahead.ensures [] 0)

@@ -5,7 +5,7 @@ use native.Mathlib.Omega.{arith}
 use Rattle.parser.proofs.past_token.Goals as goal
 
 pub bounds-tokens-i : goal.bounds-tokens-i
-bounds-tokens-i c = omega (arith, table_length c.requires.0)
+bounds-tokens-i c = omega (arith, table_length c.requires.ready)
 
 pub returns : goal.returns
-returns c = record { ready = ready_past c.requires.0 _ _ c.requires.1; token = refl; here = tail_past c.requires.0 c.requires.1; error = refl }
+returns c = record { ready = ready_past c.requires.ready _ _ c.requires.token_in_bounds; token = refl; here = tail_past c.requires.ready c.requires.token_in_bounds; error = refl }

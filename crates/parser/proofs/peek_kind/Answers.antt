@@ -15,7 +15,7 @@ unfolding peek_kind
 returns-then-tokens-a c = rw (sym c.skip_ws-a.ensures.here ∙ at_end c.skip_ws-a.ensures.ready c.if-tokens-a.true)
 
 pub past_token-b-requires : goal.past_token-b-requires
-past_token-b-requires c = (c.skip_ws-a.ensures.ready, c.if-tokens-a.false)
+past_token-b-requires c = record { ready = c.skip_ws-a.ensures.ready; token_in_bounds = c.if-tokens-a.false }
 
 pub current_kind-requires : goal.current_kind-requires
 current_kind-requires c = c.past_token-b.ensures.ready

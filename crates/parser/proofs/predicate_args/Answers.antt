@@ -21,37 +21,37 @@ inner c =
     c.if1.branch
 
 pub start_node-o-requires : goal.start_node-o-requires
-start_node-o-requires c = node_room _ _ (asks_is predicate_args_is c.requires.0)
+start_node-o-requires c = node_room _ _ (asks_is predicate_args_is c.requires.asks)
 
 pub overflow_add-level : goal.overflow_add-level
-overflow_add-level c = record { fits = node_level _ _ (asks_is predicate_args_is c.requires.0) }
+overflow_add-level c = record { fits = node_level _ _ (asks_is predicate_args_is c.requires.asks) }
 
 pub expect-a-requires : goal.expect-a-requires
-expect-a-requires c = (asks_first _ _ (asks_first _ _ (asks_node _ _ (asks_is predicate_args_is c.requires.0) c.start_node-o.ensures)))
+expect-a-requires c = (asks_first _ _ (asks_first _ _ (asks_node _ _ (asks_is predicate_args_is c.requires.asks) c.start_node-o.ensures)))
 
 pub past_ops-requires : goal.past_ops-requires
 past_ops-requires c = tt
 
 pub overflow_add-level-then-past_ops : goal.overflow_add-level-then-past_ops
-overflow_add-level-then-past_ops c = record { fits = node_level _ _ (asks_is predicate_args_is c.requires.0) }
+overflow_add-level-then-past_ops c = record { fits = node_level _ _ (asks_is predicate_args_is c.requires.asks) }
 
 pub parse_atom-b-requires : goal.parse_atom-b-requires
-parse_atom-b-requires c = (asks_alone c.requires.1 _ (sym c.past_ops.ensures ∙ c.if-past_ops.true) (asks_then _ _ (asks_first _ _ (asks_node _ _ (asks_is predicate_args_is c.requires.0) c.start_node-o.ensures)) c.expect-a.ensures), c.requires.1)
+parse_atom-b-requires c = record { asks = asks_alone c.requires.no_ops_from _ (sym c.past_ops.ensures ∙ c.if-past_ops.true) (asks_then _ _ (asks_first _ _ (asks_node _ _ (asks_is predicate_args_is c.requires.asks) c.start_node-o.ensures)) c.expect-a.ensures); no_ops_from = c.requires.no_ops_from }
 
 pub overflow_add-level-else-past_ops : goal.overflow_add-level-else-past_ops
-overflow_add-level-else-past_ops c = record { fits = node_level _ _ (asks_is predicate_args_is c.requires.0) }
+overflow_add-level-else-past_ops c = record { fits = node_level _ _ (asks_is predicate_args_is c.requires.asks) }
 
 pub parse_or_expr-b-requires : goal.parse_or_expr-b-requires
-parse_or_expr-b-requires c = (asks_then _ _ (asks_first _ _ (asks_node _ _ (asks_is predicate_args_is c.requires.0) c.start_node-o.ensures)) c.expect-a.ensures, c.requires.1)
+parse_or_expr-b-requires c = record { asks = asks_then _ _ (asks_first _ _ (asks_node _ _ (asks_is predicate_args_is c.requires.asks) c.start_node-o.ensures)) c.expect-a.ensures; no_ops_from = c.requires.no_ops_from }
 
 pub overflow_add-level-2 : goal.overflow_add-level-2
-overflow_add-level-2 c = record { fits = node_level _ _ (asks_is predicate_args_is c.requires.0) }
+overflow_add-level-2 c = record { fits = node_level _ _ (asks_is predicate_args_is c.requires.asks) }
 
 pub expect-d-requires : goal.expect-d-requires
-expect-d-requires c = (asks_then _ _ (asks_node _ _ (asks_is predicate_args_is c.requires.0) c.start_node-o.ensures) (did_then c.expect-a.ensures (inner UNRESOLVED.c.before.before)))
+expect-d-requires c = (asks_then _ _ (asks_node _ _ (asks_is predicate_args_is c.requires.asks) c.start_node-o.ensures) (did_then c.expect-a.ensures (inner UNRESOLVED.c.before.before)))
 
 pub finish_node-requires : goal.finish_node-requires
-finish_node-requires c = finish_room (node_room _ _ (asks_is predicate_args_is c.requires.0)) c.start_node-o.ensures (did_then (did_then c.expect-a.ensures (inner UNRESOLVED.c.before.before.before.before.before.before.before.before)) c.expect-d.ensures)
+finish_node-requires c = finish_room (node_room _ _ (asks_is predicate_args_is c.requires.asks)) c.start_node-o.ensures (did_then (did_then c.expect-a.ensures (inner UNRESOLVED.c.before.before.before.before.before.before.before.before)) c.expect-d.ensures)
 
 pub shape_of-tree : goal.shape_of-tree
 shape_of-tree c = finished_long c.finish_node.ensures ∙ tree_long (did_then (did_then c.expect-a.ensures (inner UNRESOLVED.c.before.before.before.before.before.before.before.before.before.before.before)) c.expect-d.ensures) ∙ started_long c.start_node-o.ensures

@@ -13,7 +13,7 @@ pub next_kind-requires : goal.next_kind-requires
 next_kind-requires c = c.loop-d.invariant.ready
 
 pub past_token-d-requires : goal.past_token-d-requires
-past_token-d-requires c = (c.loop-d.invariant.ready, some_token c.loop-d.invariant.ready 0 (sym c.next_kind.ensures ∙ c.loop-d-test.true) (λ e. omega arith))
+past_token-d-requires c = record { ready = c.loop-d.invariant.ready; token_in_bounds = some_token c.loop-d.invariant.ready 0 (sym c.next_kind.ensures ∙ c.loop-d-test.true) (λ e. omega arith) }
 
 pub loop-d-smaller : goal.loop-d-smaller
 loop-d-smaller c = omega (arith, c.past_token-d.ensures.token, c.past_token-d.ensures.ready.within)
