@@ -384,7 +384,7 @@ fn past_ops(c: Cursor, ops: Ops) -> bool
 }
 
 // or_expr = and_expr ( 'or' and_expr )*: a node only where an `or` stands ahead.
-#[cycle(and_rest_or_rest_parse_and_expr_parse_atom_parse_or_expr)]
+#[cycle(parse_or_expr)]
 fn parse_or_expr(
     rule: &[u8],
     tokens: &[u32],
@@ -408,7 +408,7 @@ fn parse_or_expr(
 }
 
 // ( 'or' and_expr )*
-#[cycle(and_rest_or_rest_parse_and_expr_parse_atom_parse_or_expr)]
+#[cycle(parse_or_expr)]
 fn or_rest(
     rule: &[u8],
     tokens: &[u32],
@@ -431,7 +431,7 @@ fn or_rest(
 }
 
 // and_expr = atom ( 'and' atom )*: a node only where an `and` stands ahead, even past an `or`.
-#[cycle(and_rest_or_rest_parse_and_expr_parse_atom_parse_or_expr)]
+#[cycle(parse_or_expr)]
 fn parse_and_expr(
     rule: &[u8],
     tokens: &[u32],
@@ -455,7 +455,7 @@ fn parse_and_expr(
 }
 
 // ( 'and' atom )*
-#[cycle(and_rest_or_rest_parse_and_expr_parse_atom_parse_or_expr)]
+#[cycle(parse_or_expr)]
 fn and_rest(
     rule: &[u8],
     tokens: &[u32],
@@ -513,7 +513,7 @@ fn has_binary_op_at_level(rule: &[u8], tokens: &[u32], op: u32, c: Cursor, end: 
 }
 
 // atom = 'not' atom | '(' or_expr ')' | one of the others
-#[cycle(and_rest_or_rest_parse_and_expr_parse_atom_parse_or_expr)]
+#[cycle(parse_or_expr)]
 fn parse_atom(
     rule: &[u8],
     tokens: &[u32],

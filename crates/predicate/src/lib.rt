@@ -45,7 +45,7 @@ pub fn eval_predicate(rule: &[u8], image: &[u8], tree: &[u32], member: Member, a
 }
 
 // The same of the first node inside the one whose row is at a place, as the predicate in a CALL_ARGS; false where there is none.
-#[cycle(eval_alone_eval_args)]
+#[cycle(eval_args)]
 pub fn eval_args(rule: &[u8], image: &[u8], tree: &[u32], member: Member, at: usize) -> bool
     ensures { result ≡ truth image.now member (children_at rule.now tree.now at) }
 {
@@ -61,7 +61,7 @@ pub fn eval_args(rule: &[u8], image: &[u8], tree: &[u32], member: Member, at: us
 }
 
 // The truth of a node after which no row is looked at, so that its rows need not be passed over.
-#[cycle(eval_alone_eval_args)]
+#[cycle(eval_args)]
 fn eval_alone(rule: &[u8], image: &[u8], tree: &[u32], member: Member, at: usize) -> bool
     requires { at + ROW ≤ length tree.now }
     ensures { result ≡ truth image.now member (node_at rule.now tree.now at) }
@@ -74,7 +74,7 @@ fn eval_alone(rule: &[u8], image: &[u8], tree: &[u32], member: Member, at: usize
     }
 }
 
-#[cycle(eval_inner_eval_node_eval_operand_eval_operands)]
+#[cycle(eval_node)]
 fn eval_node(rule: &[u8], image: &[u8], tree: &[u32], member: Member, at: usize) -> Truth
     requires { at + ROW ≤ length tree.now }
     ensures { Evaluated rule.now image.now tree.now member at result }
@@ -102,7 +102,7 @@ fn eval_node(rule: &[u8], image: &[u8], tree: &[u32], member: Member, at: usize)
 }
 
 // The first node below a level from a place on: its truth, or false where there is none.
-#[cycle(eval_inner_eval_node_eval_operand_eval_operands)]
+#[cycle(eval_node)]
 fn eval_inner(
     rule: &[u8],
     image: &[u8],
@@ -129,7 +129,7 @@ fn eval_inner(
 }
 
 // The operands below a level from a place on, joined from left to right.
-#[cycle(eval_inner_eval_node_eval_operand_eval_operands)]
+#[cycle(eval_node)]
 fn eval_operands(
     rule: &[u8],
     image: &[u8],
@@ -156,7 +156,7 @@ fn eval_operands(
 }
 
 // One row more: an operator, or an operand, which is passed over where it cannot change the truth so far.
-#[cycle(eval_inner_eval_node_eval_operand_eval_operands)]
+#[cycle(eval_node)]
 fn eval_operand(
     rule: &[u8],
     image: &[u8],

@@ -1,6 +1,5 @@
 -- `predicate_args` follows `predicate_args`. Assumes nothing.
 use mathlib.Core.Path.{sym, ◌∙◌}
-use mathlib.Core.Logic.{⊎_elim}
 use Prim.{tt}
 use Prim.Native.Nat.{◌+◌}
 use Rattle.lexer.specs.Lex.{lex}
@@ -10,15 +9,7 @@ use Rattle.trees.proofs.ParseLaws.{predicate_args_is}
 use Rattle.trees.proofs.WritingLaws.{did_then, asks_first, asks_then, tree_long, errors_long, node_room, node_level, asks_node, did_node, started_long, finished_long, finish_room, asks_is, did_meet, did_is}
 use Rattle.trees.proofs.CycleLaws.{asks_alone, did_alone}
 use Rattle.parser.proofs.predicate_args.Goals as goal
-
--- the predicate, by either way
-inner : (c : tie.Joined1)
-    → Did (lex c.before.before.before.before.before.before.before.before.before.before.before.before.before.before.before.before.before.args.rule.now) c.before.before.before.before.before.before.expect.new.1.1.0 c.if1.tree c.before.before.before.before.before.before.expect.new.1.1.1.0 c.if1.errors (c.before.before.before.before.before.before.before.before.before.before.before.before.before.before.before.before.before.args.level + 1) c.before.before.before.before.before.before.expect.result c.if1.b (parse OrExpr)
-inner c =
-    ⊎_elim
-    (λ w. did_meet w.8 w.9 w.10 (did_alone c.before.before.before.before.before.before.before.before.before.before.before.before.before.before.before.before.before.requires.1 _ (sym c.before.past-ops.ensures ∙ w.0.taken) w.3.ensures))
-    (λ w. did_meet w.8 w.9 w.10 w.3.ensures)
-    c.if1.branch
+use Rattle.parser.proofs.predicate_args.Goals.{then-past_ops, else-past_ops}
 
 pub start_node-o-requires : goal.start_node-o-requires
 start_node-o-requires c = node_room _ _ (asks_is predicate_args_is c.requires.asks)
@@ -48,16 +39,16 @@ pub overflow_add-level-2 : goal.overflow_add-level-2
 overflow_add-level-2 c = record { fits = node_level _ _ (asks_is predicate_args_is c.requires.asks) }
 
 pub expect-d-requires : goal.expect-d-requires
-expect-d-requires c = (asks_then _ _ (asks_node _ _ (asks_is predicate_args_is c.requires.asks) c.start_node-o.ensures) (did_then c.expect-a.ensures (inner UNRESOLVED.c.before.before)))
+expect-d-requires c = (asks_then _ _ (asks_node _ _ (asks_is predicate_args_is c.requires.asks) c.start_node-o.ensures) (did_then c.expect-a.ensures (let inner : Did (lex c.args.rule.now) c.expect-a.new.tree c.if-past_ops.tree c.expect-a.new.errors c.if-past_ops.errors (c.args.level + 1) c.expect-a.result c.if-past_ops.b (parse OrExpr) = elim c.if-past_ops.branch [ then-past_ops w ↦ did_meet w.tree-is w.errors-is w.b-is (did_alone c.requires.no_ops_from _ (sym c.past_ops.ensures ∙ w.if-past_ops.true) w.parse_atom-b.ensures) | else-past_ops w ↦ did_meet w.tree-is w.errors-is w.b-is w.parse_or_expr-b.ensures ] in inner)))
 
 pub finish_node-requires : goal.finish_node-requires
-finish_node-requires c = finish_room (node_room _ _ (asks_is predicate_args_is c.requires.asks)) c.start_node-o.ensures (did_then (did_then c.expect-a.ensures (inner UNRESOLVED.c.before.before.before.before.before.before.before.before)) c.expect-d.ensures)
+finish_node-requires c = finish_room (node_room _ _ (asks_is predicate_args_is c.requires.asks)) c.start_node-o.ensures (did_then (did_then c.expect-a.ensures (let inner : Did (lex c.args.rule.now) c.expect-a.new.tree c.if-past_ops.tree c.expect-a.new.errors c.if-past_ops.errors (c.args.level + 1) c.expect-a.result c.if-past_ops.b (parse OrExpr) = elim c.if-past_ops.branch [ then-past_ops w ↦ did_meet w.tree-is w.errors-is w.b-is (did_alone c.requires.no_ops_from _ (sym c.past_ops.ensures ∙ w.if-past_ops.true) w.parse_atom-b.ensures) | else-past_ops w ↦ did_meet w.tree-is w.errors-is w.b-is w.parse_or_expr-b.ensures ] in inner)) c.expect-d.ensures)
 
 pub shape_of-tree : goal.shape_of-tree
-shape_of-tree c = finished_long c.finish_node.ensures ∙ tree_long (did_then (did_then c.expect-a.ensures (inner UNRESOLVED.c.before.before.before.before.before.before.before.before.before.before.before)) c.expect-d.ensures) ∙ started_long c.start_node-o.ensures
+shape_of-tree c = finished_long c.finish_node.ensures ∙ tree_long (did_then (did_then c.expect-a.ensures (let inner : Did (lex c.args.rule.now) c.expect-a.new.tree c.if-past_ops.tree c.expect-a.new.errors c.if-past_ops.errors (c.args.level + 1) c.expect-a.result c.if-past_ops.b (parse OrExpr) = elim c.if-past_ops.branch [ then-past_ops w ↦ did_meet w.tree-is w.errors-is w.b-is (did_alone c.requires.no_ops_from _ (sym c.past_ops.ensures ∙ w.if-past_ops.true) w.parse_atom-b.ensures) | else-past_ops w ↦ did_meet w.tree-is w.errors-is w.b-is w.parse_or_expr-b.ensures ] in inner)) c.expect-d.ensures) ∙ started_long c.start_node-o.ensures
 
 pub shape_of-errors : goal.shape_of-errors
-shape_of-errors c = errors_long (did_then (did_then c.expect-a.ensures (inner UNRESOLVED.c.before.before.before.before.before.before.before.before.before.before.before)) c.expect-d.ensures)
+shape_of-errors c = errors_long (did_then (did_then c.expect-a.ensures (let inner : Did (lex c.args.rule.now) c.expect-a.new.tree c.if-past_ops.tree c.expect-a.new.errors c.if-past_ops.errors (c.args.level + 1) c.expect-a.result c.if-past_ops.b (parse OrExpr) = elim c.if-past_ops.branch [ then-past_ops w ↦ did_meet w.tree-is w.errors-is w.b-is (did_alone c.requires.no_ops_from _ (sym c.past_ops.ensures ∙ w.if-past_ops.true) w.parse_atom-b.ensures) | else-past_ops w ↦ did_meet w.tree-is w.errors-is w.b-is w.parse_or_expr-b.ensures ] in inner)) c.expect-d.ensures)
 
 pub returns : goal.returns
-returns c = did_is predicate_args_is ((did_node c.start_node-o.ensures (did_then (did_then c.expect-a.ensures (inner UNRESOLVED.c.before.before.before.before.before.before.before.before.before.before.before)) c.expect-d.ensures) c.finish_node.ensures))
+returns c = did_is predicate_args_is ((did_node c.start_node-o.ensures (did_then (did_then c.expect-a.ensures (let inner : Did (lex c.args.rule.now) c.expect-a.new.tree c.if-past_ops.tree c.expect-a.new.errors c.if-past_ops.errors (c.args.level + 1) c.expect-a.result c.if-past_ops.b (parse OrExpr) = elim c.if-past_ops.branch [ then-past_ops w ↦ did_meet w.tree-is w.errors-is w.b-is (did_alone c.requires.no_ops_from _ (sym c.past_ops.ensures ∙ w.if-past_ops.true) w.parse_atom-b.ensures) | else-past_ops w ↦ did_meet w.tree-is w.errors-is w.b-is w.parse_or_expr-b.ensures ] in inner)) c.expect-d.ensures) c.finish_node.ensures))

@@ -1,5 +1,6 @@
 -- `atom::has_property_of` gives `has_property_of`, by where `::` is found. Assumes nothing.
 use mathlib.Core.Path.{sym, ◌∙◌}
+use lib.ListN.{length-take}
 use native.Mathlib.Omega.{arith}
 use Rattle.matching.proofs.SearchLaws.{found_within}
 use Rattle.predicate.proofs.AtomLaws.{property_whole, property_parted}
@@ -16,6 +17,9 @@ slice_bounds-has_property-count c = omega (arith, found_within _ _ (sym c.find-f
 
 pub slice_bounds-has_property-start : goal.slice_bounds-has_property-start
 slice_bounds-has_property-start c = omega (arith, found_within _ _ (sym c.find-found.ensures ∙ c.in-At.is))
+
+pub slice_bounds-has_property-end-2 : goal.slice_bounds-has_property-end-2
+slice_bounds-has_property-end-2 c = simp length-take (omega (arith, found_within _ _ (sym c.find-found.ensures ∙ c.in-At.is)))
 
 pub returns : goal.returns
 returns c = c.has_property-2.ensures ∙ property_parted _ _ _ (sym c.find-found.ensures ∙ c.in-At.is)

@@ -3,6 +3,7 @@ use mathlib.Core.Path.{refl}
 use Prim.Native.Nat.{◌+◌}
 use native.Mathlib.Omega.{arith}
 use mir.Syntax.{w64}
+use borrow.Author.Rules.{Fits-under}
 use Rattle.predicate.proofs.rows.level_at.Goals as goal
 
 pub overflow_cast-result : goal.overflow_cast-result
