@@ -2,13 +2,11 @@
 use mathlib.Core.Path.{sym, ap, ◌∙◌, subst}
 use mathlib.Core.Bool.{not}
 use native.Mathlib.Omega.{arith}
-use borrow.Author.Tests.{not-true, not-false}
 use Rattle.predicate.specs.Rows.{of_node}
 use Rattle.predicate.specs.Eval.{Finds}
 use Rattle.predicate.proofs.RowLaws.{row_there}
 use Rattle.predicate.proofs.EvalLaws.{truth_unary, truth_paren, args_missing, args_none, args_found}
 use Prim.Native.Nat.{◌-◌}
-use borrow.Author.Tests.{not-true, not-false}
 use Rattle.predicate.proofs.+eval_args.Goals as goal
 
 pub eval_alone-bounds-tree-at : goal.eval_alone-bounds-tree-at
@@ -39,16 +37,16 @@ pub eval_alone-returns-in_default : goal.eval_alone-returns-in_default
 eval_alone-returns-in_default t c = c.eval_atom.ensures
 
 pub eval_args-returns-then-not-is_row : goal.eval_args-returns-then-not-is_row
-eval_args-returns-then-not-is_row t c = args_missing _ _ _ _ _ (sym c.is_row.ensures ∙ not-true _ (not-true _ c.if-not-is_row.true))
+eval_args-returns-then-not-is_row t c = args_missing _ _ _ _ _ (sym c.is_row.ensures ∙ c.if-not-is_row.true)
 
 pub eval_args-level_at-children-requires : goal.eval_args-level_at-children-requires
-eval_args-level_at-children-requires t c = row_there _ _ (sym c.is_row.ensures ∙ not-false _ (not-false _ c.if-not-is_row.false))
+eval_args-level_at-children-requires t c = row_there _ _ (sym c.is_row.ensures ∙ c.if-not-is_row.false)
 
 pub eval_args-overflow_add-at : goal.eval_args-overflow_add-at
-eval_args-overflow_add-at t c = omega (arith, row_there _ _ (sym c.is_row.ensures ∙ not-false _ (not-false _ c.if-not-is_row.false)))
+eval_args-overflow_add-at t c = omega (arith, row_there _ _ (sym c.is_row.ensures ∙ c.if-not-is_row.false))
 
 pub eval_args-find_child-found-requires : goal.eval_args-find_child-found-requires
-eval_args-find_child-found-requires t c = omega (arith, row_there _ _ (sym c.is_row.ensures ∙ not-false _ (not-false _ c.if-not-is_row.false)))
+eval_args-find_child-found-requires t c = omega (arith, row_there _ _ (sym c.is_row.ensures ∙ c.if-not-is_row.false))
 
 pub eval_args-returns-in_default : goal.eval_args-returns-in_default
 eval_args-returns-in_default t c = args_none _ _ _ _ _ c.level_at-children.ensures.0 (subst (Finds of_node _ _ _) c.in_default.is c.find_child-found.ensures)
