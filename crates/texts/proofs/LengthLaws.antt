@@ -12,7 +12,7 @@ use Rattle.syntax.proofs.BoolLaws.{whether}
 use Rattle.syntax.specs.Text.{bytes_between}
 use Rattle.syntax.proofs.TextLaws.{part_length}
 use Rattle.texts.specs.Append.{Appends}
-use Rattle.texts.specs.Text.{BLANK, TAB, MOST_DIGITS, each, digits, number_text, shown}
+use Rattle.texts.specs.Text.{BLANK, TAB, MOST_DIGITS, each, digits, number_text, shown_byte, shown}
 use Rattle.texts.specs.Place.{CARET, mark_place, line_start, line_end, mark_end, column, columns, place_text}
 use Rattle.texts.proofs.NumberLaws.{digits_one, digits_more}
 
@@ -41,7 +41,7 @@ each_length f one (b ∷ s) = let ih = each_length f one s in simp length-append
 
 pub shown_length : (s : List ℕ) → length (shown s) ≤ length s
 unfolding shown
-shown_length s = each_length _ (λ b. omega arith) s
+shown_length s = each_length (λ b. shown_byte b ∷ []) (λ b. omega arith) s
 
 column_length : (mark b : ℕ) → length (column mark b) ≤ 1
 unfolding column
