@@ -83,7 +83,7 @@ pub(crate) fn is_decided(last: usize, tally: Tally) -> bool
 }
 
 // Sends one member through the calls from the i-th on.
-#[cycle(feed_feed_feature_feed_features)]
+#[cycle(feed)]
 pub(crate) fn feed(
     rule: &[u8],
     image: &[u8],
@@ -134,7 +134,7 @@ pub(crate) fn feed(
 }
 
 // Sends the features of a component through the calls from the i-th on.
-#[cycle(feed_feed_feature_feed_features)]
+#[cycle(feed)]
 pub(crate) fn feed_features(
     rule: &[u8],
     image: &[u8],
@@ -167,7 +167,7 @@ pub(crate) fn feed_features(
 }
 
 // Sends one feature, whose owner's profile is at hand: as the notes tell, or by asking.
-#[cycle(feed_feed_feature_feed_features)]
+#[cycle(feed)]
 fn feed_feature(
     rule: &[u8],
     image: &[u8],

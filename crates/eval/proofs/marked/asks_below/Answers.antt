@@ -1,5 +1,6 @@
 -- `asks_below` looks at the rows below, by the laws of `Telling`. Assumes nothing.
-use mathlib.Core.Path.{sym, ◌∙◌}
+use mathlib.Core.Path.{sym, ap, ◌∙◌}
+use mathlib.Core.Bool.{not}
 use Prim.Native.Nat.{◌+◌, ◌-◌}
 use native.Mathlib.Omega.{arith}
 use Rattle.predicate.proofs.RowLaws.{row_there, below_row}
@@ -34,7 +35,7 @@ pub loop-member-smaller : goal.loop-member-smaller
 loop-member-smaller c = omega (arith, row_there _ _ (below_row _ _ _ (sym c.is_below.ensures ∙ c.loop-member-test.true)).0)
 
 pub loop-member-preserved : goal.loop-member-preserved
-loop-member-preserved c = telling_on c.loop-member.invariant (sym c.is_below.ensures ∙ c.loop-member-test.true) c.is_told.ensures c.if-not-is_told.false
+loop-member-preserved c = telling_on c.loop-member.invariant (sym c.is_below.ensures ∙ c.loop-member-test.true) c.is_told.ensures (ap not c.if-not-is_told.false)
 
 pub returns : goal.returns
 returns c = telling_end c.loop-member.invariant (sym c.is_below.ensures ∙ c.loop-member-test.false)

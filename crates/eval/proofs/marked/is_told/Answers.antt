@@ -1,4 +1,6 @@
 -- `is_told` goes by the kind of the row, by the field that it compares, and looks for a `has` among the rows of the memo. Assumes nothing.
+use mathlib.Core.Path.{ap}
+use mathlib.Core.Bool.{not}
 use Rattle.eval.proofs.MarkedLaws.{row_compared, row_plain, row_untold, row_marked}
 use Rattle.eval.proofs.marked.is_told.Goals as goal
 
@@ -6,7 +8,7 @@ pub returns-then-tree-row-eq-COMPARE_EXPR : goal.returns-then-tree-row-eq-COMPAR
 returns-then-tree-row-eq-COMPARE_EXPR c = row_compared c.if-tree-row-eq-COMPARE_EXPR.true c.ident.ensures c.asks_field.ensures
 
 pub returns-then-not-asks_more : goal.returns-then-not-asks_more
-returns-then-not-asks_more c = row_plain c.if-tree-row-eq-COMPARE_EXPR.false c.asks_more.ensures c.if-not-asks_more.true
+returns-then-not-asks_more c = row_plain c.if-tree-row-eq-COMPARE_EXPR.false c.asks_more.ensures (ap not c.if-not-asks_more.true)
 
 pub returns-then-tree-row-ne-CALL_EXPR : goal.returns-then-tree-row-ne-CALL_EXPR
 returns-then-tree-row-ne-CALL_EXPR c = row_untold

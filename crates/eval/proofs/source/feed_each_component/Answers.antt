@@ -20,7 +20,7 @@ pub shape_of-collection-then-is_decided : goal.shape_of-collection-then-is_decid
 shape_of-collection-then-is_decided c = same_length _ _ _ (begin c.args.collection.now) (feeding_stop c.loop-component.invariant.0 (turn _ _ Component _ _ c.loop-component-test.true) c.feed_component-tally.ensures.0 (sym c.is_decided.ensures ∙ c.if-is_decided.true))
 
 pub shape_of-notes-then-is_decided : goal.shape_of-notes-then-is_decided
-shape_of-notes-then-is_decided c = c.feed_component-tally.auto.1.1.1.1.1.1.1.0 ∙ c.loop-component.invariant.2
+shape_of-notes-then-is_decided c = c.feed_component-tally.auto.notes ∙ c.loop-component.invariant.2
 
 pub returns-then-is_decided : goal.returns-then-is_decided
 returns-then-is_decided c = feeding_stop c.loop-component.invariant.0 (turn _ _ Component _ _ c.loop-component-test.true) c.feed_component-tally.ensures.0 (sym c.is_decided.ensures ∙ c.if-is_decided.true)
@@ -32,7 +32,7 @@ pub loop-component-smaller : goal.loop-component-smaller
 loop-component-smaller c = omega (arith, c.loop-component-test.true)
 
 pub loop-component-preserved : goal.loop-component-preserved
-loop-component-preserved c = (feeding_on c.loop-component.invariant.0 (turn _ _ Component _ _ c.loop-component-test.true) c.feed_component-tally.ensures.0 (sym c.is_decided.ensures ∙ c.if-is_decided.false), c.feed_component-tally.ensures.1, c.feed_component-tally.auto.1.1.1.1.1.1.1.0 ∙ c.loop-component.invariant.2)
+loop-component-preserved c = (feeding_on c.loop-component.invariant.0 (turn _ _ Component _ _ c.loop-component-test.true) c.feed_component-tally.ensures.0 (sym c.is_decided.ensures ∙ c.if-is_decided.false), c.feed_component-tally.ensures.1, c.feed_component-tally.auto.notes ∙ c.loop-component.invariant.2)
 
 pub shape_of-collection : goal.shape_of-collection
 shape_of-collection c = feeding_length c.loop-component.invariant.0
