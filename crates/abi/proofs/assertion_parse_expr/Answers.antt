@@ -17,9 +17,9 @@ overflow_cast-error_rows c = omega (arith, rows_few c.args.rule.now (length c.ar
 pub returns-in-Rows : goal.returns-in-Rows
 returns-in-Rows c =
     let e = sym c.in-Rows.is ∙ c.parse_expr.ensures.answer in
-    (record { answer = rw (← e); tokens = rw (← e); tree = rw (← e); errors = rw (← e) }, record { tokens = c.parse_expr.ensures.tokens; tree = c.parse_expr.ensures.tree; errors = c.parse_expr.ensures.errors })
+    record { rows_answer = record { answer = rw (← e); tokens = rw (← e); tree = rw (← e); errors = rw (← e) }; tables = record { tokens = c.parse_expr.ensures.tokens; tree = c.parse_expr.ensures.tree; errors = c.parse_expr.ensures.errors } }
 
 pub returns-in-Refused : goal.returns-in-Refused
 returns-in-Refused c =
     let e = sym c.in-Refused.is ∙ c.parse_expr.ensures.answer in
-    (record { answer = rw (← e) c.number.ensures; tokens = rw (← e); tree = rw (← e); errors = rw (← e) }, record { tokens = c.parse_expr.ensures.tokens; tree = c.parse_expr.ensures.tree; errors = c.parse_expr.ensures.errors })
+    record { rows_answer = record { answer = rw (← e) c.number.ensures; tokens = rw (← e); tree = rw (← e); errors = rw (← e) }; tables = record { tokens = c.parse_expr.ensures.tokens; tree = c.parse_expr.ensures.tree; errors = c.parse_expr.ensures.errors } }
