@@ -1,7 +1,7 @@
 /*
  * The library for C: rules run on board images, and rules read.
  *
- * `rt staticlib abi` writes target/staticlib/libabi.a, for x86-64. Its functions allocate nothing, keep nothing between calls and
+ * `tools/staticlib` writes target/staticlib/libabi.a, for x86-64. Its functions allocate nothing, keep nothing between calls and
  * write only where the caller lends room, so several threads may call them at once, each with tables of its own. They need less than
  * 200,000 bytes of stack.
  *

@@ -175,7 +175,7 @@ fn link_proved() {
     println!("cargo::rerun-if-changed={}", archive.display());
     if !archive.is_file() {
         fail(&format!(
-            "{} is missing: run `rt staticlib abi` in the repository's root first",
+            "{} is missing: run `tools/staticlib` in the repository's root first",
             archive.display()
         ));
     }

@@ -17,7 +17,7 @@ fn main() {
     println!("cargo::rerun-if-changed={}", archive.display());
     if !archive.is_file() {
         println!(
-            "cargo::error={} is missing: run `rt staticlib abi` in the repository's root first",
+            "cargo::error={} is missing: run `tools/staticlib` in the repository's root first",
             archive.display()
         );
         return;

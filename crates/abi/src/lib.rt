@@ -1,4 +1,4 @@
-// The static library for C and Rust: what the crates below do, over plain numbers and slices. A slice passes as a pointer and a length.
+// What the crates below do, over plain numbers and slices, as C and Rust call it: the crate abi_c exports these functions.
 #![tactic(auto)]
 
 mod answer;
@@ -18,8 +18,7 @@ use trees::Reading;
 
 // Reads a rule into any three tables. It gives 1, and the eight numbers of the reading at the front of `answer`; or 0, with all tables as
 // they were, where `answer` has fewer than eight numbers.
-#[unsafe(no_mangle)]
-pub extern "C" fn spar_read(
+pub fn spar_read(
     rule: &[u8],
     tokens: &mut [u32],
     tree: &mut [u32],
@@ -39,8 +38,7 @@ pub extern "C" fn spar_read(
 
 // Runs a rule on a board image with any four tables. It gives 1, and the eight numbers of what the rule comes to at the front of `answer`;
 // or 0, with all tables as they were, where `answer` has fewer than eight numbers.
-#[unsafe(no_mangle)]
-pub extern "C" fn spar_run(
+pub fn spar_run(
     rule: &[u8],
     image: &[u8],
     tokens: &mut [u32],
@@ -65,8 +63,7 @@ pub extern "C" fn spar_run(
 
 // Reads a rule's tokens into a table. `tree` and `errors` are the lengths of the other two tables. It gives 0, and the number of
 // tokens in `count`; or the number of a refusal from 1 to 4, with table and count as they were.
-#[unsafe(no_mangle)]
-pub extern "C" fn assertion_read_tokens(
+pub fn assertion_read_tokens(
     rule: &[u8],
     tokens: &mut [u32],
     tree: usize,
@@ -86,8 +83,7 @@ pub extern "C" fn assertion_read_tokens(
 
 // Reads a rule into three tables. It gives 0, and the numbers of token, tree and error rows in their places; or the number of a
 // refusal from 1 to 4, with tables and places as they were.
-#[unsafe(no_mangle)]
-pub extern "C" fn assertion_parse_expr(
+pub fn assertion_parse_expr(
     rule: &[u8],
     tokens: &mut [u32],
     tree: &mut [u32],
@@ -116,8 +112,7 @@ pub extern "C" fn assertion_parse_expr(
 
 // Writes the message of an error row. It gives 0, and the number of the message's bytes in `written`; or 1 where `out` is shorter
 // than the message, with both as they were.
-#[unsafe(no_mangle)]
-pub extern "C" fn assertion_message(
+pub fn assertion_message(
     rule: &[u8],
     form: u32,
     expected: u32,
@@ -138,8 +133,7 @@ pub extern "C" fn assertion_message(
 }
 
 // Checks a board image, and the length of the collection table that its members are to fit: 0, or the number of a refusal from 5 to 8.
-#[unsafe(no_mangle)]
-pub extern "C" fn assertion_check_image(image: &[u8], collection: usize) -> u32
+pub fn assertion_check_image(image: &[u8], collection: usize) -> u32
     ensures { result ≡ check_number (check_image image.now collection) }
 {
     match board::check_image(image, collection) {

@@ -1,0 +1,101 @@
+// The static library for C and Rust: each function calls that of the same name in the crate abi. A slice passes as a pointer and a length.
+#![tactic(auto)]
+
+ghost use Rattle.std.specs.Prelude.{◌≡◌, length};
+ghost use Rattle.board.specs.Check.{check_image};
+ghost use Rattle.lexer.specs.Read.{check_rule};
+ghost use Rattle.message.specs.Message.{message_of};
+ghost use Rattle.abi.specs.Abi.{Answers, RowsAnswer, Tables, MessageAnswer, check_number};
+ghost use Rattle.abi.specs.Numbers.{ReadAnswer, RunAnswer};
+
+// Reads a rule into any three tables. It gives 1, and the eight numbers of the reading at the front of `answer`; or 0, with all tables as
+// they were, where `answer` has fewer than eight numbers.
+#[unsafe(no_mangle)]
+pub extern "C" fn spar_read(
+    rule: &[u8],
+    tokens: &mut [u32],
+    tree: &mut [u32],
+    errors: &mut [u32],
+    answer: &mut [u32],
+) -> u32
+    ensures { ReadAnswer rule.now tokens.old tokens.new tree.old tree.new errors.old errors.new answer.old answer.new result }
+{
+    abi::spar_read(rule, tokens, tree, errors, answer)
+}
+
+// Runs a rule on a board image with any four tables. It gives 1, and the eight numbers of what the rule comes to at the front of `answer`;
+// or 0, with all tables as they were, where `answer` has fewer than eight numbers.
+#[unsafe(no_mangle)]
+pub extern "C" fn spar_run(
+    rule: &[u8],
+    image: &[u8],
+    tokens: &mut [u32],
+    tree: &mut [u32],
+    errors: &mut [u32],
+    collection: &mut [u32],
+    answer: &mut [u32],
+) -> u32
+    ensures { RunAnswer rule.now image.now tokens.old tokens.new tree.old tree.new errors.old errors.new collection.old collection.new answer.old answer.new result }
+{
+    abi::spar_run(rule, image, tokens, tree, errors, collection, answer)
+}
+
+// Reads a rule's tokens into a table. `tree` and `errors` are the lengths of the other two tables. It gives 0, and the number of
+// tokens in `count`; or the number of a refusal from 1 to 4, with table and count as they were.
+#[unsafe(no_mangle)]
+pub extern "C" fn assertion_read_tokens(
+    rule: &[u8],
+    tokens: &mut [u32],
+    tree: usize,
+    errors: usize,
+    count: &mut u32,
+) -> u32
+    ensures { Answers (check_rule rule.now (length tokens.old) tree errors) rule.now tokens.old tokens.new count.old count.new result }
+{
+    abi::assertion_read_tokens(rule, tokens, tree, errors, count)
+}
+
+// Reads a rule into three tables. It gives 0, and the numbers of token, tree and error rows in their places; or the number of a
+// refusal from 1 to 4, with tables and places as they were.
+#[unsafe(no_mangle)]
+pub extern "C" fn assertion_parse_expr(
+    rule: &[u8],
+    tokens: &mut [u32],
+    tree: &mut [u32],
+    errors: &mut [u32],
+    token_rows: &mut u32,
+    tree_rows: &mut u32,
+    error_rows: &mut u32,
+) -> u32
+    ensures rows_answer { RowsAnswer (check_rule rule.now (length tokens.old) (length tree.old) (length errors.old)) rule.now token_rows.old token_rows.new tree_rows.old tree_rows.new error_rows.old error_rows.new result }
+    ensures tables { Tables (check_rule rule.now (length tokens.old) (length tree.old) (length errors.old)) rule.now tokens.old tokens.new tree.old tree.new errors.old errors.new }
+{
+    abi::assertion_parse_expr(
+        rule, tokens, tree, errors, token_rows, tree_rows, error_rows,
+    )
+}
+
+// Writes the message of an error row. It gives 0, and the number of the message's bytes in `written`; or 1 where `out` is shorter
+// than the message, with both as they were.
+#[unsafe(no_mangle)]
+pub extern "C" fn assertion_message(
+    rule: &[u8],
+    form: u32,
+    expected: u32,
+    first: u32,
+    end: u32,
+    out: &mut [u8],
+    written: &mut usize,
+) -> u32
+    ensures { MessageAnswer (message_of rule.now form expected first end) out.old out.new written.old written.new result }
+{
+    abi::assertion_message(rule, form, expected, first, end, out, written)
+}
+
+// Checks a board image, and the length of the collection table that its members are to fit: 0, or the number of a refusal from 5 to 8.
+#[unsafe(no_mangle)]
+pub extern "C" fn assertion_check_image(image: &[u8], collection: usize) -> u32
+    ensures { result ≡ check_number (check_image image.now collection) }
+{
+    abi::assertion_check_image(image, collection)
+}
