@@ -18,7 +18,7 @@ use Rattle.predicate.specs.Rows.{ROW, kind_at, level_at, forest_from, children_a
 use Rattle.predicate.specs.Eval.{FoundAt, FoundNowhere}
 use Rattle.predicate.proofs.ForestLaws.{forest_node, found_level, found_kind, Ignores, ignored_none, ignored_found}
 use Rattle.predicate.proofs.NodeLaws.{row_found, row_absent}
-use Rattle.meaning.specs.Value.{Sort, collection, refused, Kind, sort_kind}
+use Rattle.meaning.specs.Value.{Sort, collection, refused, sort_kind}
 use Rattle.meaning.specs.Calls.{Call, call_gives, calls_give, kind_number}
 use Rattle.meaning.specs.Pipeline.{all_components, diagnostics_of, source_of, calls_of, eval_pipeline}
 use Rattle.meaning.proofs.WalkLaws.{calls_refused}

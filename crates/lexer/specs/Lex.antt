@@ -1,5 +1,5 @@
 -- lexer.rs `lex`: the tokens of a text, without positions; positions stand in the rows alone. Assumes nothing: these are definitions.
-use Rattle.std.specs.Prelude.{ℕ, zero, suc, ◌+◌, Bool, true, false, cond, ◌||◌, not, List, [], ◌∷◌, eqb, length, take}
+use Rattle.std.specs.Prelude.{ℕ, zero, suc, ◌+◌, Bool, true, false, cond, ◌||◌, List, [], ◌∷◌, eqb, length, take}
 use Rattle.syntax.specs.Kind.{WHITESPACE, IDENT, STRING_LIT, INT_LIT, L_PAREN, AND_KW, OR_KW, NOT_KW, ERROR}
 use Rattle.syntax.specs.Text.{ascii, is, same}
 use Rattle.lexer.specs.declared.Shape.{Shape}

@@ -1,6 +1,5 @@
 -- `all_below` gives `all_below`, record by record. Assumes nothing.
 use mathlib.Core.Path.{sym, ◌∙◌}
-use Prim.Native.Nat.{◌-◌}
 use native.Mathlib.Nat.{sub_self}
 use native.Mathlib.Omega.{arith}
 use Rattle.board.proofs.CheckLaws.{passing_start, passing_no, passing_yes, passing_done}

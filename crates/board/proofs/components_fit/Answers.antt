@@ -1,10 +1,9 @@
 -- `components_fit` gives `components_fit`, component by component. Assumes nothing.
 use mathlib.Core.Path.{refl, sym, ◌∙◌}
-use Prim.Native.Nat.{◌-◌}
 use native.Mathlib.Nat.{sub_self}
 use native.Mathlib.Omega.{arith}
 use Rattle.board.specs.declared.image.Section.TheVariants.{Components}
-use Rattle.board.specs.Check.{component_fits, features_laid, components_fit}
+use Rattle.board.specs.Check.{features_laid, components_fit}
 use Rattle.board.proofs.CheckLaws.{laying_start, laying_off, laying_on, laying_done, passing_start, passing_no, passing_yes, passing_done, both_first, both_second, both_done}
 use Rattle.board.proofs.WalkLaws.{walk_start, walk_on, walk_done, walk_more, walk_next, walk_in, field_here, component_here}
 use Rattle.board.proofs.components_fit.Goals as goal

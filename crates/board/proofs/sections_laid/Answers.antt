@@ -1,6 +1,4 @@
 -- `sections_laid` gives `sections_laid`, pair by pair. Assumes nothing.
-use Prim.Native.Nat.{◌-◌}
-use lib.ListN.{length}
 use Rattle.board.specs.Image.{pair_offset, pair_length}
 use Rattle.board.specs.Check.{sections_laid}
 use Rattle.board.proofs.CheckLaws.{laying_start, laying_off, laying_on, laying_done}

@@ -1,6 +1,5 @@
 -- `strings_laid` gives `strings_laid`, pair by pair. Assumes nothing.
 use mathlib.Core.Path.{refl, ◌∙◌}
-use Prim.Native.Nat.{◌-◌}
 use native.Mathlib.Nat.{sub_self}
 use native.Mathlib.Omega.{arith}
 use Rattle.board.specs.declared.image.Section.TheVariants.{Strings}

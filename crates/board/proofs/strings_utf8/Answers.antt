@@ -1,11 +1,9 @@
 -- `strings_utf8` gives `strings_utf8`, string by string. Assumes nothing.
 use mathlib.Core.Path.{refl, sym, ap, ◌∙◌}
-use Prim.Native.Nat.{◌-◌}
 use native.Mathlib.Nat.{sub_self}
 use native.Mathlib.Omega.{arith}
 use Rattle.syntax.specs.Utf8.{utf8}
 use Rattle.board.specs.declared.image.Section.TheVariants.{Strings}
-use Rattle.board.specs.Image.{text}
 use Rattle.board.specs.Check.{strings_utf8}
 use Rattle.board.proofs.CheckLaws.{passing_start, passing_no, passing_yes, passing_done}
 use Rattle.board.proofs.WalkLaws.{walk_start, walk_on, walk_done, walk_more, walk_next, walk_in, text_in, text_here}

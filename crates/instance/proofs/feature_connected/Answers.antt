@@ -1,6 +1,5 @@
 -- `feature_connected` gives `feature_connected`: the component first, and then connection by connection. Assumes nothing.
 use mathlib.Core.Path.{sym, ◌∙◌}
-use Prim.Native.Nat.{◌-◌}
 use native.Mathlib.Omega.{arith}
 use Rattle.instance.proofs.InstanceLaws.{feature_whole, connections_start}
 use Rattle.instance.proofs.PlaceLaws.{walking_start, walking_hit, walking_miss, walking_done, walking_over, skipped_onward, connection_placed, connections_passing}

@@ -1,7 +1,5 @@
 -- `has_feature` gives `has_feature`, feature by feature from the component's first. Assumes nothing.
 use mathlib.Core.Path.{sym, ◌∙◌}
-use Prim.Native.Nat.{◌-◌}
-use Rattle.instance.specs.Instance.{feature_is}
 use Rattle.instance.proofs.InstanceLaws.{features_start, searching_hit, searching_miss, searching_done}
 use Rattle.instance.proofs.PlaceLaws.{feature_placed}
 use Rattle.instance.proofs.has_feature.Goals as goal

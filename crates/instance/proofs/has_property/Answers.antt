@@ -1,6 +1,5 @@
 -- `has_property` gives `has_property`, property by property of the component. Assumes nothing.
 use mathlib.Core.Path.{sym, ◌∙◌}
-use Prim.Native.Nat.{◌-◌}
 use native.Mathlib.Omega.{arith}
 use Rattle.instance.proofs.InstanceLaws.{properties_start}
 use Rattle.instance.proofs.PlaceLaws.{walking_start, walking_hit, walking_miss, walking_done, walking_over, skipped_onward, property_placed, properties_passing}

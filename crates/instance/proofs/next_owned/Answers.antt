@@ -1,6 +1,5 @@
 -- `next_owned` passes over records whose first number is neither of two. Assumes nothing.
 use mathlib.Core.Path.{◌∙◌}
-use Prim.Native.Nat.{◌-◌}
 use native.Mathlib.Omega.{arith}
 use Rattle.instance.specs.Places.Skipped.{none, past}
 use Rattle.instance.proofs.next_owned.Goals as goal

@@ -1,9 +1,6 @@
 -- `owners_wired` gives `owners_wired`, connection by connection. Assumes nothing.
 use mathlib.Core.Path.{sym}
-use mathlib.Core.Bool.{not}
-use Prim.Native.Nat.{◌-◌}
 use borrow.Author.Tests.{not-true, not-false}
-use Rattle.instance.specs.Instance.{owner_unwired}
 use Rattle.instance.proofs.InstanceLaws.{owners_start, searching_hit, searching_miss, searching_done}
 use Rattle.instance.proofs.PlaceLaws.{owner_wired, owner_unwired_lem}
 use Rattle.instance.proofs.owners_wired.Goals as goal

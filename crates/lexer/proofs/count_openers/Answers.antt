@@ -1,6 +1,5 @@
 -- `count_openers` counts token by token. Assumes nothing.
 use mathlib.Core.Path.{sym, ◌∙◌}
-use Prim.Native.Nat.{◌-◌}
 use Rattle.lexer.proofs.ReadLaws.{counted_start, counted_step, counted_skip, counted_end}
 use native.Mathlib.Omega.{arith}
 use Rattle.lexer.proofs.count_openers.Goals as goal

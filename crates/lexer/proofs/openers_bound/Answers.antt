@@ -1,5 +1,4 @@
 -- `openers_bound` counts byte by byte. Assumes nothing.
-use Prim.Native.Nat.{◌-◌}
 use native.Mathlib.Omega.{arith}
 use Rattle.lexer.proofs.OpenerLaws.{bounded_start, bounded_step, bounded_end}
 use Rattle.lexer.proofs.openers_bound.Goals as goal

@@ -1,8 +1,6 @@
 -- `quote_end` ends where the whole literal does, from each byte passed. Assumes nothing.
 use mathlib.Core.Path.{refl, sym, ◌∙◌}
-use Prim.Native.Nat.{◌-◌}
 use borrow.Author.Tests.{eq-eqb, ne_eqb}
-use Rattle.lexer.specs.Lex.{quoted}
 use Rattle.lexer.proofs.PlaceLaws.{quoted_goes, quoted_stops, quoted_ends}
 use native.Mathlib.Omega.{arith}
 use Rattle.lexer.proofs.quote_end.Goals as goal

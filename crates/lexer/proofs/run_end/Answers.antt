@@ -1,8 +1,5 @@
 -- `run_end` ends where the whole run does, from each byte passed. Assumes nothing.
 use mathlib.Core.Path.{refl, sym, ◌∙◌}
-use Prim.Native.Nat.{◌-◌}
-use Rattle.lexer.specs.Bytes.{goes_on}
-use Rattle.lexer.specs.Lex.{run}
 use Rattle.lexer.proofs.PlaceLaws.{run_goes, run_stops, run_ends}
 use native.Mathlib.Omega.{arith}
 use Rattle.lexer.proofs.run_end.Goals as goal

@@ -1,5 +1,4 @@
 -- `write_tokens` writes a row for each token, and finishing from each place ends as the whole does. Assumes nothing.
-use Prim.Native.Nat.{◌-◌}
 use Rattle.lexer.proofs.ReadLaws.{written_start, written_step, written_end}
 use native.Mathlib.Omega.{arith}
 use Rattle.lexer.proofs.write_tokens.Goals as goal

@@ -1,5 +1,4 @@
 -- `clear` sets each mark to 0, one by one. Assumes nothing.
-use Prim.Native.Nat.{◌-◌}
 use native.Mathlib.Omega.{arith}
 use Rattle.marks.proofs.MarkLaws.{clearing_start, clearing_on, clearing_end}
 use Rattle.marks.proofs.clear.Goals as goal

@@ -1,5 +1,4 @@
 -- `mark_features` gives `feature_marks`, component by component. Assumes nothing.
-use Prim.Native.Nat.{◌-◌}
 use native.Mathlib.Omega.{arith}
 use Rattle.marks.proofs.MarkLaws.{features_start, featuring_on, featuring_length, featuring_end}
 use Rattle.marks.proofs.mark_features.Goals as goal

@@ -1,6 +1,5 @@
 -- `mark_named` gives `property_marks`: all marks are cleared, then properties are looked at one by one. Assumes nothing.
 use mathlib.Core.Path.{ap, ◌∙◌}
-use Prim.Native.Nat.{◌-◌}
 use lib.ListN.{length}
 use Rattle.marks.specs.Marks.{property_marks}
 use Rattle.marks.proofs.MarkLaws.{marking_start, marking_on, marking_end}

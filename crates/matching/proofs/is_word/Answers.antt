@@ -1,6 +1,4 @@
 -- `is_word` says whether a value, folded, is a word, by the laws of the two compared byte by byte. Assumes nothing.
-use Prim.Native.Nat.{◌-◌}
-use lib.ListN.{length}
 use Rattle.matching.proofs.WordLaws.{folding_lengths, folding_start, folding_within, folding_goes, folding_stops, folding_ends}
 use Rattle.matching.proofs.is_word.Goals as goal
 

@@ -1,5 +1,4 @@
 -- `put` copies a piece byte by byte. Assumes nothing.
-use Prim.Native.Nat.{◌-◌}
 use Rattle.message.proofs.PutLaws.{copied_start, copied_step, copied_end}
 use Rattle.message.proofs.put.Goals as goal
 

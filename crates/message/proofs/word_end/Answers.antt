@@ -1,5 +1,4 @@
 -- `word_end` looks for the next blank. Assumes nothing.
-use Prim.Native.Nat.{◌-◌}
 use mathlib.Core.Path.{refl}
 use Rattle.message.proofs.WordLaws.{spans_goes, spans_stops, spans_ends}
 use Rattle.message.proofs.word_end.Goals as goal

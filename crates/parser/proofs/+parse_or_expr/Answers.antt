@@ -3,7 +3,6 @@ use mathlib.Core.Path.{sym, ◌∙◌}
 use mathlib.Core.List.{[]}
 use Prim.{tt}
 use native.Mathlib.Omega.{arith}
-use lib.ListN.{length}
 use Rattle.trees.specs.Parse.{parse, OrExpr, AndExpr, Atom}
 use Rattle.lexer.specs.Lex.{lex}
 use Rattle.trees.specs.Writing.{Did}
@@ -13,7 +12,7 @@ use Rattle.trees.proofs.ParseLaws.{step_or_is, step_and_is, step_atom_is, atom_h
 use Rattle.trees.proofs.LookLaws.{at_yes, at_no}
 use Rattle.trees.proofs.StepLaws.{asks_step, did_step, bump_ahead}
 use Rattle.trees.proofs.CycleLaws.{started_token, bump_inside, eaten, eaten_solid, asks_alone, did_alone, ongoing_start, while_or, while_and, rest_end, rest_asks, rest_next}
-use Prim.Native.Nat.{◌+◌, ◌-◌}
+use Prim.Native.Nat.{◌+◌}
 use Rattle.parser.proofs.+parse_or_expr.Goals as goal
 use Rattle.parser.proofs.+parse_or_expr.Goals.{parse_atom-then-past_ops, parse_atom-else-past_ops}
 

@@ -1,7 +1,6 @@
 -- `eat_ws` writes blanks, and going on from each place ends as the whole does. Assumes nothing.
 use mathlib.Core.Path.{sym, ◌∙◌}
 use mathlib.Core.List.{[]}
-use Prim.Native.Nat.{◌-◌}
 use Rattle.trees.proofs.TokenLaws.{some_token}
 use Rattle.trees.proofs.LookLaws.{going_start, going_end, going_next, going_fits, eat_blank, eat_stop, next_ahead}
 use native.Mathlib.Omega.{arith}

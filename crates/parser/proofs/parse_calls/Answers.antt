@@ -1,8 +1,7 @@
 -- `parse_calls` follows its definition: going on from each call ends as the whole does. Assumes nothing.
 use mathlib.Core.Path.{sym, ◌∙◌}
 use mathlib.Core.List.{[]}
-use Prim.Native.Nat.{◌-◌}
-use Rattle.trees.specs.Parse.{parse, Calls}
+use Rattle.trees.specs.Parse.{Calls}
 use Rattle.trees.proofs.ParseLaws.{step_calls_is}
 use Rattle.trees.proofs.WritingLaws.{asks_first, asks_is, tree_long, ready_then}
 use Rattle.trees.proofs.LookLaws.{at_yes, at_no}

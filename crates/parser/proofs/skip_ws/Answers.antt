@@ -1,6 +1,5 @@
 -- `skip_ws` passes blanks, and looking from each place on finds what it found from the first. Assumes nothing.
 use mathlib.Core.Path.{sym, ◌∙◌}
-use Prim.Native.Nat.{◌-◌}
 use Rattle.trees.proofs.TokenLaws.{some_token}
 use Rattle.trees.proofs.LookLaws.{skipping_start, skipping_past, skipping_end}
 use native.Mathlib.Omega.{arith}

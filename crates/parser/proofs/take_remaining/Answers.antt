@@ -1,8 +1,5 @@
 -- `take_remaining` writes all tokens left, and going on from each place ends as the whole does. Assumes nothing.
 use mathlib.Core.List.{[]}
-use Prim.Native.Nat.{◌-◌}
-use lib.ListN.{length}
-use Rattle.trees.specs.Parse.{remaining}
 use Rattle.trees.proofs.TokenLaws.{table_length}
 use Rattle.trees.proofs.LookLaws.{going_start, going_end, going_next, going_fits, remaining_next, remaining_end, next_ahead}
 use native.Mathlib.Omega.{arith}

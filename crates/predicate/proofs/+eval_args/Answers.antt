@@ -6,7 +6,6 @@ use Rattle.predicate.specs.Rows.{of_node}
 use Rattle.predicate.specs.Eval.{Finds}
 use Rattle.predicate.proofs.RowLaws.{row_there}
 use Rattle.predicate.proofs.EvalLaws.{truth_unary, truth_paren, args_missing, args_none, args_found}
-use Prim.Native.Nat.{◌-◌}
 use Rattle.predicate.proofs.+eval_args.Goals as goal
 
 pub eval_alone-bounds-tree-at : goal.eval_alone-bounds-tree-at

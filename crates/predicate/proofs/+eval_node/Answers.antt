@@ -4,7 +4,6 @@ use native.Mathlib.Omega.{arith}
 use Rattle.predicate.specs.Rows.{of_node}
 use Rattle.predicate.specs.Eval.{Finds}
 use Rattle.predicate.proofs.EvalLaws.{operand_there, joins_deeper, joins_token, joins_decided, joins_open, joining_start, joining_on, joining_end, evaluated_binary, evaluated_unary, evaluated_paren, evaluated_atom, inner_empty, inner_first}
-use Prim.Native.Nat.{◌-◌}
 use Rattle.predicate.proofs.+eval_node.Goals as goal
 
 pub eval_inner-overflow_add-level : goal.eval_inner-overflow_add-level

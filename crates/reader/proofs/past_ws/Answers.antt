@@ -1,6 +1,5 @@
 -- `past_ws` passes blanks, and from each place on the same place is looked for. Assumes nothing.
 use mathlib.Core.Path.{sym, ◌∙◌}
-use Prim.Native.Nat.{◌-◌}
 use native.Mathlib.Omega.{arith}
 use Rattle.reader.proofs.ReaderLaws.{blank_within, past_blank, past_stop}
 use Rattle.reader.proofs.past_ws.Goals as goal

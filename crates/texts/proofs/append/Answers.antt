@@ -1,5 +1,4 @@
 -- `append` copies a piece byte by byte. Assumes nothing.
-use Prim.Native.Nat.{◌-◌}
 use Rattle.texts.proofs.AppendLaws.{walks_itself, walks_on, walks_end}
 use Rattle.texts.proofs.append.Goals as goal
 

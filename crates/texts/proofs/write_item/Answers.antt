@@ -1,5 +1,4 @@
 -- `write_item` passes the items before the n-th and appends its bytes. Assumes nothing.
-use Prim.Native.Nat.{◌-◌}
 use mathlib.Core.Path.{◌∙◌}
 use Rattle.texts.proofs.AppendLaws.{appends_long}
 use Rattle.texts.proofs.ItemLaws.{picks_start, picks_done, picks_next, picks_skips, picks_goes, picks_end, picks_none}

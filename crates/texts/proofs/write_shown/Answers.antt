@@ -1,6 +1,5 @@
 -- `write_shown` appends a text byte by byte, each as it is shown. Assumes nothing.
-use Prim.Native.Nat.{◌-◌}
-use Rattle.texts.specs.Text.{shown_byte, shown}
+use Rattle.texts.specs.Text.{shown}
 use Rattle.texts.proofs.AppendLaws.{walks_all, walks_on, walks_end}
 use Rattle.texts.proofs.write_shown.Goals as goal
 

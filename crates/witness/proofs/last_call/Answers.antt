@@ -1,6 +1,5 @@
 -- `last_call` gives `last_call`: the rows before are looked at. Assumes nothing.
 use Rattle.witness.proofs.WitnessLaws.{looked_none, looked_more, looked_all}
-use Prim.Native.Nat.{◌-◌}
 use Rattle.witness.proofs.last_call.Goals as goal
 
 pub loop-i-init : goal.loop-i-init

@@ -1,5 +1,4 @@
 -- `integer` gives `integer_for`: the digits read so far write n. Assumes nothing.
-use Prim.Native.Nat.{◌-◌}
 use native.Mathlib.Omega.{arith}
 use Rattle.calls.proofs.CompareLaws.{read_none, read_more, read_large, read_whole}
 use Rattle.calls.proofs.compare.integer.Goals as goal

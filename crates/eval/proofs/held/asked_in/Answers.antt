@@ -1,5 +1,4 @@
 -- `asked_in` goes from row to row. Assumes nothing.
-use Prim.Native.Nat.{◌-◌}
 use Rattle.eval.proofs.held.asked_in.Goals as goal
 
 pub loop-row-init : goal.loop-row-init

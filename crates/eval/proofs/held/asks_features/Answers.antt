@@ -1,5 +1,5 @@
 -- `asks_features` goes from call to call. Assumes nothing.
-use Prim.Native.Nat.{◌*◌, ◌-◌}
+use Prim.Native.Nat.{◌*◌}
 use native.Mathlib.Omega.{arith}
 use Rattle.eval.specs.Ready.{CALL_ROW}
 use Rattle.eval.proofs.held.asks_features.Goals as goal

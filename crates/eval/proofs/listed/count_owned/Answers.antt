@@ -1,7 +1,6 @@
 -- `count_owned` adds the features of each component: those of the ones left are still to come. Assumes nothing.
 use Rattle.eval.proofs.ListedLaws.{counting_start, counting_on, counting_end}
 use native.Mathlib.Omega.{arith}
-use Prim.Native.Nat.{◌-◌}
 use Rattle.eval.proofs.listed.count_owned.Goals as goal
 
 pub loop-component-init : goal.loop-component-init

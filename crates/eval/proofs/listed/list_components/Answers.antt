@@ -3,7 +3,6 @@ use Rattle.eval.proofs.ListedLaws.{listing_start, listing_on, listing_end, listi
 use Rattle.predicate.specs.declared.atom.Member.TheVariants.{Component}
 use native.Mathlib.Omega.{arith}
 use mathlib.Core.List.{◌∷◌, []}
-use Prim.Native.Nat.{◌-◌}
 use Rattle.eval.proofs.listed.list_components.Goals as goal
 
 pub loop-component-init : goal.loop-component-init

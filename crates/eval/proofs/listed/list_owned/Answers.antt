@@ -2,7 +2,6 @@
 use Rattle.eval.proofs.ListedLaws.{listing_start, listing_on, listing_end, listing_room, owned_next, owned_none, owned_made}
 use Rattle.meaning.specs.Calls.{features_of}
 use native.Mathlib.Omega.{arith}
-use Prim.Native.Nat.{◌-◌}
 use Rattle.eval.proofs.listed.list_owned.Goals as goal
 
 pub loop-component-init : goal.loop-component-init

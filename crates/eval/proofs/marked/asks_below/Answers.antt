@@ -1,7 +1,7 @@
 -- `asks_below` looks at the rows below, by the laws of `Telling`. Assumes nothing.
 use mathlib.Core.Path.{sym, ap, ◌∙◌}
 use mathlib.Core.Bool.{not}
-use Prim.Native.Nat.{◌+◌, ◌-◌}
+use Prim.Native.Nat.{◌+◌}
 use native.Mathlib.Omega.{arith}
 use Rattle.predicate.proofs.RowLaws.{row_there, below_row}
 use Rattle.eval.proofs.MarkedLaws.{tells_more, telling_on, telling_end}

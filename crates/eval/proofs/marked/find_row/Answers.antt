@@ -1,6 +1,5 @@
 -- `marked::find_row` looks at one row of the memo after the other. Assumes nothing.
 use mathlib.Core.Path.{sym, ◌∙◌}
-use Prim.Native.Nat.{◌-◌}
 use native.Mathlib.Omega.{arith}
 use Rattle.eval.proofs.marked.find_row.Goals as goal
 

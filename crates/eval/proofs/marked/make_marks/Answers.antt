@@ -1,5 +1,4 @@
 -- `marked::make_marks` makes a block after the other. Assumes nothing.
-use Prim.Native.Nat.{◌-◌}
 use native.Mathlib.Omega.{arith}
 use Rattle.eval.proofs.MarkedLaws.{making_start, making_length, making_on}
 use Rattle.eval.proofs.marked.make_marks.Goals as goal

@@ -1,5 +1,4 @@
 -- `marked::next_row` goes from row to row. Assumes nothing.
-use Prim.Native.Nat.{◌-◌}
 use Rattle.eval.proofs.marked.next_row.Goals as goal
 
 pub loop-row-init : goal.loop-row-init

@@ -2,7 +2,7 @@
 use Rattle.eval.proofs.ValueLaws.{seeking_start, seeking_found, seeking_on, seeking_end}
 use Rattle.predicate.proofs.RowLaws.{row_there, below_row}
 use native.Mathlib.Omega.{arith}
-use Prim.Native.Nat.{◌+◌, ◌-◌}
+use Prim.Native.Nat.{◌+◌}
 use mathlib.Core.Path.{refl, sym, ◌∙◌}
 use Rattle.eval.proofs.pipeline.operator.Goals as goal
 

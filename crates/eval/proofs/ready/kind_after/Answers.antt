@@ -1,7 +1,7 @@
 -- `kind_after` gives the plan's entry: the kind so far is that after the calls read. Assumes nothing.
 use Rattle.eval.proofs.ReadyLaws.{kinds_start, kinds_refused, kinds_on, kinds_end}
 use native.Mathlib.Omega.{arith}
-use Prim.Native.Nat.{◌-◌, ◌*◌}
+use Prim.Native.Nat.{◌*◌}
 use Rattle.eval.proofs.ready.kind_after.Goals as goal
 
 pub loop-i-init : goal.loop-i-init

@@ -1,7 +1,6 @@
 -- `last_method` gives the number of the last call: no call read so far is it. Assumes nothing.
 use Rattle.eval.proofs.ReadyLaws.{not_yet, last_found, last_on, last_over}
 use native.Mathlib.Omega.{arith}
-use Prim.Native.Nat.{◌-◌}
 use mathlib.Core.Path.{sym, ◌∙◌}
 use Rattle.eval.proofs.ready.last_method.Goals as goal
 

@@ -2,7 +2,7 @@
 use Rattle.eval.proofs.CallLaws.{walking_start, walking_on, walking_end}
 use Rattle.predicate.proofs.RowLaws.{row_there, below_row}
 use native.Mathlib.Omega.{arith}
-use Prim.Native.Nat.{◌+◌, ◌-◌}
+use Prim.Native.Nat.{◌+◌}
 use mathlib.Core.Path.{refl, sym, ◌∙◌}
 use Rattle.eval.proofs.ready.put_calls.Goals as goal
 

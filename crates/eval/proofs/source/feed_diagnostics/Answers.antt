@@ -9,8 +9,8 @@ use Rattle.eval.specs.Memo.{PLAIN}
 use Rattle.eval.specs.Feed.{KNOWN, begin}
 use Rattle.eval.specs.Ready.{calls_from}
 use native.Mathlib.Omega.{arith}
-use lib.ListN.{length, length-replicate}
-use Prim.Native.Nat.{ℕ, ◌-◌}
+use lib.ListN.{length-replicate}
+use Prim.Native.Nat.{ℕ}
 use mathlib.Core.List.{map}
 use mathlib.Core.Path.{sym, ◌∙◌}
 use Rattle.eval.proofs.source.feed_diagnostics.Goals as goal

@@ -4,8 +4,6 @@ use Rattle.predicate.specs.declared.atom.Member.TheVariants.{Component}
 use Rattle.eval.specs.Feed.{begin}
 use Rattle.eval.specs.Ready.{calls_from}
 use native.Mathlib.Omega.{arith}
-use lib.ListN.{length}
-use Prim.Native.Nat.{◌-◌}
 use mathlib.Core.List.{map}
 use mathlib.Core.Path.{refl, sym, ◌∙◌}
 use Rattle.eval.proofs.source.feed_each_component.Goals as goal

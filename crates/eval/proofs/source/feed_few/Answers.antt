@@ -5,8 +5,6 @@ use Rattle.eval.proofs.MemoLaws.{notes_none}
 use Rattle.eval.specs.Feed.{begin}
 use Rattle.eval.specs.Ready.{calls_from}
 use native.Mathlib.Omega.{arith}
-use lib.ListN.{length}
-use Prim.Native.Nat.{◌-◌}
 use mathlib.Core.List.{map}
 use mathlib.Core.Path.{refl, sym, ◌∙◌}
 use Rattle.eval.proofs.source.feed_few.Goals as goal

@@ -3,7 +3,7 @@
 use Rattle.eval.proofs.StepLaws.{passing_start, passing_on, passing_over, before_features, step_open, step_count, step_false, step_true, step_listed}
 use native.Mathlib.Omega.{arith}
 use mathlib.Core.Path.{sym, ◌∙◌}
-use Prim.Native.Nat.{◌-◌, ◌*◌}
+use Prim.Native.Nat.{◌*◌}
 use Rattle.eval.proofs.step.step_of.Goals as goal
 
 pub loop-i-init : goal.loop-i-init

@@ -6,11 +6,10 @@ use Rattle.eval.specs.Feed.{state_of}
 use Rattle.predicate.specs.declared.atom.Member.TheVariants.{Component, Feature}
 use Rattle.profile.specs.Profile.{profile_of}
 use Rattle.profile.proofs.ProfileLaws.{feature_owned}
-use lib.ListN.{length}
 use native.Mathlib.Omega.{arith}
 use mathlib.Core.Path.{refl, sym, ap, ◌∙◌}
 use Rattle.eval.specs.Memo.{Placed}
-use Prim.Native.Nat.{ℕ, ◌*◌, ◌-◌}
+use Prim.Native.Nat.{ℕ, ◌*◌}
 use Rattle.eval.proofs.walk.+feed.Goals as goal
 use Rattle.eval.proofs.walk.+feed.Goals.{feed_feature-then-notes-gt-PLACES, feed_feature-else-notes-gt-PLACES}
 

@@ -1,7 +1,6 @@
 -- `clear` sets the whole rows to 0: so many numbers from the front are. Assumes nothing.
 use Rattle.eval.proofs.TableLaws.{clearing_start, clearing_length, clearing_on, clearing_end}
 use native.Mathlib.Omega.{arith}
-use Prim.Native.Nat.{◌-◌}
 use Rattle.eval.proofs.walk.clear.Goals as goal
 
 pub loop-i-init : goal.loop-i-init

@@ -1,6 +1,5 @@
 -- `search::find` gives the first place of a part, by the laws of a part searched for where its first byte is. Assumes nothing.
 use mathlib.Core.Path.{sym, ◌∙◌}
-use Prim.Native.Nat.{◌-◌}
 use native.Mathlib.Omega.{arith}
 use Rattle.matching.proofs.SearchLaws.{seeking_start, seeking_found, seeking_on, seeking_over, seeking_absent, passed_onward, starting_empty}
 use Rattle.matching.proofs.search.find.Goals as goal

@@ -1,5 +1,4 @@
 -- `search::next_byte` passes over places with another byte. Assumes nothing.
-use Prim.Native.Nat.{◌-◌}
 use native.Mathlib.Omega.{arith}
 use Rattle.matching.specs.SearchScan.Passed.{none, past}
 use Rattle.matching.proofs.search.next_byte.Goals as goal

@@ -1,7 +1,6 @@
 -- `search::starts_with` gives `starts_with` of the text from a place on, by the laws of the two compared byte by byte. Assumes nothing.
-use Prim.Native.Nat.{◌-◌}
 use native.Mathlib.Omega.{arith}
-use lib.ListN.{length, drop, length-drop}
+use lib.ListN.{length-drop}
 use lib.Seq.{get_or-drop}
 use Rattle.matching.proofs.SearchLaws.{starting_start, starting_goes, starting_stops, starting_ends}
 use Rattle.matching.proofs.search.starts_with.Goals as goal

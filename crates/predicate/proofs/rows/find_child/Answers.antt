@@ -1,6 +1,5 @@
 -- `rows::find_child` finds the first node, by the laws of `Finding`. Assumes nothing.
 use mathlib.Core.Path.{sym, ◌∙◌}
-use Prim.Native.Nat.{◌-◌}
 use native.Mathlib.Omega.{arith}
 use Rattle.predicate.proofs.RowLaws.{row_there, finding_start, finding_above, finding_hit, finding_on, finding_end}
 use Rattle.predicate.proofs.rows.find_child.Goals as goal

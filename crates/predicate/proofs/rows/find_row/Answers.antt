@@ -1,6 +1,5 @@
 -- `rows::find_row` finds the first row of a kind, by the laws of `Finding`. Assumes nothing.
 use mathlib.Core.Path.{sym, ◌∙◌}
-use Prim.Native.Nat.{◌-◌}
 use native.Mathlib.Omega.{arith}
 use Rattle.predicate.proofs.RowLaws.{row_there, finding_start, finding_above, finding_hit, finding_on, finding_end}
 use Rattle.predicate.proofs.rows.find_row.Goals as goal

@@ -1,6 +1,5 @@
 -- `rows::skip_below` passes over the rows below a level, by the laws of `Skipping`. Assumes nothing.
 use mathlib.Core.Path.{sym, ◌∙◌}
-use Prim.Native.Nat.{◌-◌}
 use native.Mathlib.Omega.{arith}
 use Rattle.predicate.proofs.RowLaws.{row_there, below_row, skipping_start, skipping_on, skipping_end}
 use Rattle.predicate.proofs.rows.skip_below.Goals as goal

@@ -1,8 +1,6 @@
 -- `text::same` gives `same`, by the laws of two texts compared byte by byte. Assumes nothing.
 use mathlib.Core.Path.{sym}
-use Prim.Native.Nat.{◌-◌}
 use native.Mathlib.Omega.{arith}
-use lib.ListN.{length}
 use Rattle.syntax.proofs.TextLaws.{same_start, same_goes, same_stops, same_ends, same_lengths}
 use Rattle.syntax.proofs.text.same.Goals as goal
 

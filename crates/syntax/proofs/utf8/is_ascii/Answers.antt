@@ -1,5 +1,4 @@
 -- `utf8::is_ascii` gives `is_ascii`, by the highest byte. Assumes nothing.
-use Prim.Native.Nat.{◌-◌}
 use Rattle.syntax.proofs.Utf8Laws.{highest_start, highest_goes, highest_ends}
 use Rattle.syntax.proofs.utf8.is_ascii.Goals as goal
 

@@ -1,9 +1,9 @@
 use mathlib.Core.Path.{refl, sym, ◌∙◌}
-use Prim.Native.Nat.{◌+◌, ◌-◌}
+use Prim.Native.Nat.{◌+◌}
 use native.Mathlib.Omega.{arith}
-use lib.ListN.{length, drop, drop_of_length-le}
+use lib.ListN.{drop, drop_of_length-le}
 use Rattle.syntax.specs.Utf8.{utf8}
-use Rattle.syntax.specs.Utf8Scan.{ILL, pending}
+use Rattle.syntax.specs.Utf8Scan.{pending}
 use Rattle.syntax.proofs.TextLaws.{from}
 use Rattle.syntax.proofs.Utf8Laws.{well_end}
 use Rattle.syntax.proofs.utf8.is_well_formed.Goals as goal

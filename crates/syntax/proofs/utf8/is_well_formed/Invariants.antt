@@ -3,7 +3,6 @@ use Prim.Native.Nat.{◌-◌, ◌≤◌, ◌<◌}
 use lib.ListN.{length, drop}
 use Rattle.syntax.specs.Utf8.{utf8, well_from}
 use Rattle.syntax.specs.Utf8Scan.{ILL, pending}
-use Rattle.syntax.proofs.TextLaws.{from}
 use Rattle.syntax.proofs.utf8.is_well_formed.Given as goal
 
 abbrev pub invariant-loop-i : goal.invariant-loop-i

@@ -1,5 +1,4 @@
 -- `line_end` looks for the next line feed. Assumes nothing.
-use Prim.Native.Nat.{◌-◌}
 use Rattle.texts.proofs.PlaceLaws.{ends_start, ends_on, ends_found, ends_none}
 use Rattle.texts.proofs.place.line_end.Goals as goal
 

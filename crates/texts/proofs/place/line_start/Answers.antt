@@ -1,6 +1,5 @@
 -- `line_start` goes back to a line feed. Assumes nothing.
 use borrow.Author.Tests.{eq-eqb, ne_eqb}
-use lib.Dec.{eqb}
 use Rattle.texts.specs.Place.{LINE_FEED, line_start}
 use Rattle.texts.proofs.PlaceLaws.{backs_start, backs_on, backs_found, backs_none}
 use Rattle.texts.proofs.place.line_start.Goals as goal

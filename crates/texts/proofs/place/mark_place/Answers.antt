@@ -1,6 +1,5 @@
 -- `mark_place` gives the token's place, or goes back over blanks from the end. Assumes nothing.
 use borrow.Author.Tests.{lt-ltb, le-ltb}
-use lib.Dec.{ltb}
 use Rattle.texts.proofs.PlaceLaws.{backs_start, backs_on, backs_found, backs_none, mark_found, mark_behind}
 use Rattle.texts.proofs.place.mark_place.Goals as goal
 

@@ -1,7 +1,6 @@
 -- `write_columns` appends what stands under each byte. Assumes nothing.
-use Prim.Native.Nat.{◌-◌}
 use native.Mathlib.Omega.{arith}
-use Rattle.texts.specs.Place.{column, columns}
+use Rattle.texts.specs.Place.{columns}
 use Rattle.texts.proofs.AppendLaws.{walks_part, walks_on, walks_end}
 use Rattle.texts.proofs.place.write_columns.Goals as goal
 
