@@ -1,5 +1,5 @@
 -- `is_kept_from` stays within the table. Assumes nothing.
-use Prim.Native.Nat.{◌-◌}
+use Rattle.std.proofs.Common.{◌-◌}
 use Rattle.replay.proofs.is_kept_from.Goals as goal
 
 pub loop-i-init : goal.loop-i-init

@@ -1,6 +1,5 @@
 -- `is_kept_from` stays within the table. Assumes nothing.
-use Prim.Native.Nat.{◌-◌}
-use lib.ListN.{length}
+use Rattle.std.proofs.Common.{◌-◌, length}
 use Rattle.replay.proofs.is_kept_from.Given as goal
 
 abbrev pub invariant-loop-i : goal.invariant-loop-i

@@ -1,7 +1,5 @@
 -- `fill` stays within the table. Assumes nothing.
-use Prim.Native.Nat.{◌-◌}
-use lib.ListN.{length, length-set}
-use native.Mathlib.Omega.{arith}
+use Rattle.std.proofs.Common.{◌-◌, length, length-set, arith}
 use Rattle.runs.proofs.fill.Goals as goal
 
 pub loop-i-smaller : goal.loop-i-smaller

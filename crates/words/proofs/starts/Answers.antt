@@ -1,5 +1,5 @@
 -- `starts` looks at a part that is within the text. Assumes nothing.
-use mathlib.Core.Path.{sym}
+use Rattle.std.proofs.Common.{sym}
 use lib.Seq.{length-take-le}
 use Rattle.words.proofs.starts.Goals as goal
 
