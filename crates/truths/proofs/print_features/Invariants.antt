@@ -2,8 +2,5 @@
 use Rattle.std.proofs.Common.{◌-◌}
 use Rattle.truths.proofs.print_features.Given as goal
 
-abbrev pub invariant-loop-n : goal.invariant-loop-n
-invariant-loop-n g l = Unit {0}
-
 abbrev pub decreases-loop-n : goal.decreases-loop-n
 decreases-loop-n g l = l.count - l.n
