@@ -3,10 +3,11 @@
 // rule's bytes and a line feed: the lengths of the three tables in numbers, and of the rule in bytes.
 #![tactic(auto)]
 
-ghost use Rattle.std.specs.Prelude.{◌≡◌, ◌≤◌, length};
+ghost use Rattle.std.specs.Prelude.{◌≡◌, ◌≤◌, length, IfOk};
 
-use libc::STDOUT_FILENO;
 use message::Message;
+use std::io;
+use std::io::{BufWriter, Write};
 use syntax::{refusal, text};
 use trees::Reading;
 
@@ -15,31 +16,33 @@ const TOKENS: usize = 1520;
 
 const ROWS: usize = 16672;
 
-fn main() {
+fn main(rt: HostRuntime) -> io::Result<()> {
     let mut input = [0u8; 262144];
-    let n = io::read_full(0, &mut input);
-    replay(&input[..n]);
+    let n = streams::read_full(&mut rt.stdin(), &mut input)?;
+    let mut out = BufWriter::new(rt.alloc(), rt.stdout())?;
+    replay(&mut out, &input[..n])?;
+    out.flush()
 }
 
 // Runs the cases from the first on, and stops at one that is not in the format.
-fn replay(input: &[u8]) {
+fn replay<W: Write>(out: &mut W, input: &[u8]) -> io::Result<()> {
     let mut at = 0;
     let mut cases = 0;
     while at < input.len() {
         cases += 1;
-        let next = replay_case(input, at, cases);
+        let next = replay_case(out, input, at, cases)?;
         if next <= at {
-            io::write_all(STDOUT_FILENO, b"not a case\n");
-            return;
+            return out.write_all(b"not a case\n");
         }
         at = next;
     }
+    Ok(())
 }
 
 // Runs the case that begins at `at`, and gives where the next one begins; 0 where none begins here.
-fn replay_case(input: &[u8], at: usize, case: usize) -> usize
+fn replay_case<W: Write>(out: &mut W, input: &[u8], at: usize, case: usize) -> io::Result<usize>
     requires { at ≤ length input.now }
-    ensures { result ≤ length input.now }
+    ensures { IfOk result (λ next. next ≤ length input.now) }
 {
     let tokens = read_number(input, at);
     let tree = read_number(input, tokens.end);
@@ -48,24 +51,24 @@ fn replay_case(input: &[u8], at: usize, case: usize) -> usize
     let first = length.end;
     let bytes = length.value;
     if input.len() - first <= bytes {
-        return 0;
+        return Ok(0);
     }
     let n = tokens.value;
     let rows = tree.value;
     let found = errors.value;
     if TOKENS < n {
-        return 0;
+        return Ok(0);
     }
     if ROWS < rows {
-        return 0;
+        return Ok(0);
     }
     if ROWS < found {
-        return 0;
+        return Ok(0);
     }
-    print_number(b"case ", case as u64);
+    print_number(out, b"case ", case as u64)?;
     let end = first + bytes;
-    run_case(&input[first..end], n, rows, found);
-    end + 1
+    run_case(out, &input[first..end], n, rows, found)?;
+    Ok(end + 1)
 }
 
 // A number of the input, and the place past the byte that ends it.
@@ -100,18 +103,25 @@ fn read_number(input: &[u8], at: usize) -> Number
 }
 
 // Reads a rule into tables of so many numbers.
-fn run_case(rule: &[u8], tokens: usize, tree: usize, errors: usize)
+fn run_case<W: Write>(
+    out: &mut W,
+    rule: &[u8],
+    tokens: usize,
+    tree: usize,
+    errors: usize,
+) -> io::Result<()>
     requires { (tokens ≤ 1520) × (tree ≤ 16672) × (errors ≤ 16672) }
 {
     let mut first = token_table();
     let mut second = row_table();
     let mut third = row_table();
     run_in(
+        out,
         rule,
         &mut first[..tokens],
         &mut second[..tree],
         &mut third[..errors],
-    );
+    )
 }
 
 // Each `ensures` gives the length, which lending a part needs.
@@ -127,47 +137,66 @@ fn row_table() -> [u32; ROWS]
     [0; ROWS]
 }
 
-fn run_in(rule: &[u8], tokens: &mut [u32], tree: &mut [u32], errors: &mut [u32]) {
+fn run_in<W: Write>(
+    out: &mut W,
+    rule: &[u8],
+    tokens: &mut [u32],
+    tree: &mut [u32],
+    errors: &mut [u32],
+) -> io::Result<()> {
     fill(tokens);
     fill(tree);
     fill(errors);
-    print_reading(rule, tokens, tree, errors);
+    print_reading(out, rule, tokens, tree, errors)
 }
 
 // Prints every row and message, and whether all other numbers are as they were.
-fn print_reading(rule: &[u8], tokens: &mut [u32], tree: &mut [u32], errors: &mut [u32]) {
+fn print_reading<W: Write>(
+    out: &mut W,
+    rule: &[u8],
+    tokens: &mut [u32],
+    tree: &mut [u32],
+    errors: &mut [u32],
+) -> io::Result<()> {
     match parser::parse_expr(rule, tokens, tree, errors) {
         Reading::Rows {
             tokens: a,
             tree: b,
             errors: c,
         } => {
-            print_tokens(tokens, a);
-            print_number(b"tokens ", a as u64);
-            print_tree(tree, b);
-            print_number(b"tree ", b as u64);
-            print_errors(rule, errors, c);
-            print_number(b"errors ", c as u64);
-            print_kept(tokens, a, tree, b, errors, c);
+            print_tokens(out, tokens, a)?;
+            print_number(out, b"tokens ", a as u64)?;
+            print_tree(out, tree, b)?;
+            print_number(out, b"tree ", b as u64)?;
+            print_errors(out, rule, errors, c)?;
+            print_number(out, b"errors ", c as u64)?;
+            print_kept(out, tokens, a, tree, b, errors, c)
         }
         Reading::Refused(r) => {
-            print_number(b"refused ", refusal::number(r) as u64);
-            print_kept(tokens, 0, tree, 0, errors, 0);
+            print_number(out, b"refused ", refusal::number(r) as u64)?;
+            print_kept(out, tokens, 0, tree, 0, errors, 0)
         }
     }
 }
 
 // Prints `kept` where every number past the rows is as it was.
-fn print_kept(tokens: &[u32], a: usize, tree: &[u32], b: usize, errors: &[u32], c: usize) {
+fn print_kept<W: Write>(
+    out: &mut W,
+    tokens: &[u32],
+    a: usize,
+    tree: &[u32],
+    b: usize,
+    errors: &[u32],
+    c: usize,
+) -> io::Result<()> {
     if is_kept_past_tokens(tokens, a) {
         if is_kept_past_rows(tree, b) {
             if is_kept_past_rows(errors, c) {
-                io::write_all(STDOUT_FILENO, b"kept\n");
-                return;
+                return out.write_all(b"kept\n");
             }
         }
     }
-    io::write_all(STDOUT_FILENO, b"altered\n");
+    out.write_all(b"altered\n")
 }
 
 // What the table holds at a place before the case is run: no number that a row has.
@@ -184,83 +213,93 @@ fn fill(table: &mut [u32]) {
 }
 
 // Prints the first n rows of a token table, or as many as it has.
-fn print_tokens(table: &[u32], n: usize) {
+fn print_tokens<W: Write>(out: &mut W, table: &[u32], n: usize) -> io::Result<()> {
     let whole = table.len() / 3;
     let mut i = 0;
     while i < whole {
         if i == n {
-            return;
+            return Ok(());
         }
         let at = i * 3;
-        print_three(table[at], table[at + 1], table[at + 2]);
-        io::write_all(STDOUT_FILENO, b"\n");
+        print_three(out, table[at], table[at + 1], table[at + 2])?;
+        out.write_all(b"\n")?;
         i += 1;
     }
+    Ok(())
 }
 
 // The same of a tree table.
-fn print_tree(table: &[u32], n: usize) {
+fn print_tree<W: Write>(out: &mut W, table: &[u32], n: usize) -> io::Result<()> {
     let whole = table.len() / 4;
     let mut i = 0;
     while i < whole {
         if i == n {
-            return;
+            return Ok(());
         }
         let at = i * 4;
-        print_four(table[at], table[at + 1], table[at + 2], table[at + 3]);
+        print_four(out, table[at], table[at + 1], table[at + 2], table[at + 3])?;
         i += 1;
     }
+    Ok(())
 }
 
 // The same of an error table, with the message of each row.
-fn print_errors(rule: &[u8], table: &[u32], n: usize) {
+fn print_errors<W: Write>(out: &mut W, rule: &[u8], table: &[u32], n: usize) -> io::Result<()> {
     let whole = table.len() / 4;
     let mut i = 0;
     while i < whole {
         if i == n {
-            return;
+            return Ok(());
         }
         let at = i * 4;
-        print_error(rule, table[at], table[at + 1], table[at + 2], table[at + 3]);
+        print_error(
+            out,
+            rule,
+            table[at],
+            table[at + 1],
+            table[at + 2],
+            table[at + 3],
+        )?;
         i += 1;
     }
+    Ok(())
 }
 
-fn print_error(rule: &[u8], form: u32, expected: u32, first: u32, end: u32) {
-    print_four(form, expected, first, end);
-    let mut out = io::buffer();
-    let written = message::write_message(rule, form, expected, first, end, &mut out);
+fn print_error<W: Write>(
+    out: &mut W,
+    rule: &[u8],
+    form: u32,
+    expected: u32,
+    first: u32,
+    end: u32,
+) -> io::Result<()> {
+    print_four(out, form, expected, first, end)?;
+    let mut line = [0u8; 4096];
+    let written = message::write_message(rule, form, expected, first, end, &mut line);
     match written {
-        Message::Written(n) => print_front(&out, n),
-        Message::NoRoom => print_front(b"no room", 7),
+        Message::Written(n) => print_front(out, &line, n)?,
+        Message::NoRoom => print_front(out, b"no room", 7)?,
     }
-    io::write_all(STDOUT_FILENO, b"\n");
+    out.write_all(b"\n")
 }
 
 // Prints the first n bytes, or as many as there are.
-fn print_front(bytes: &[u8], n: usize) {
-    io::write_all(STDOUT_FILENO, text::part(bytes, 0, n));
+fn print_front<W: Write>(out: &mut W, bytes: &[u8], n: usize) -> io::Result<()> {
+    out.write_all(text::part(bytes, 0, n))
 }
 
-fn print_four(a: u32, b: u32, c: u32, d: u32) {
-    print_three(a, b, c);
-    io::write_all(STDOUT_FILENO, b" ");
-    io::print_decimal(STDOUT_FILENO, d as u64);
-    io::write_all(STDOUT_FILENO, b"\n");
+fn print_four<W: Write>(out: &mut W, a: u32, b: u32, c: u32, d: u32) -> io::Result<()> {
+    print_three(out, a, b, c)?;
+    writeln!(out, " {d}")
 }
 
-fn print_three(a: u32, b: u32, c: u32) {
-    io::print_decimal(STDOUT_FILENO, a as u64);
-    io::write_all(STDOUT_FILENO, b" ");
-    io::print_decimal(STDOUT_FILENO, b as u64);
-    io::write_all(STDOUT_FILENO, b" ");
-    io::print_decimal(STDOUT_FILENO, c as u64);
+fn print_three<W: Write>(out: &mut W, a: u32, b: u32, c: u32) -> io::Result<()> {
+    write!(out, "{a} {b} {c}")
 }
 
-fn print_number(label: &[u8], n: u64) {
-    io::write_all(STDOUT_FILENO, label);
-    io::print_decimal(STDOUT_FILENO, n);
-    io::write_all(STDOUT_FILENO, b"\n");
+fn print_number<W: Write>(out: &mut W, label: &[u8], n: u64) -> io::Result<()> {
+    out.write_all(label)?;
+    writeln!(out, "{n}")
 }
 
 // Whether every number past the first n rows is as it was: of a token table, and of a tree or error table.

@@ -2,12 +2,14 @@
 // in words: the members of a collection, the parse errors with their places, or the members for which a quantifier failed.
 #![tactic(auto)]
 
-ghost use Rattle.std.specs.Prelude.{◌≡◌, length};
+ghost use Rattle.std.specs.Prelude.{◌≡◌, ◌≤◌, length, IfOk};
 
 use calls::value::{Outcome, Value, Verdict};
 use calls::verdict;
-use libc::{STDERR_FILENO, STDOUT_FILENO};
 use report::{answer, error};
+use std::io::{BufWriter, ErrorKind, Write};
+use std::rt::Env;
+use std::{fs, io, str};
 use syntax::text;
 use trees::Reading;
 
@@ -30,60 +32,71 @@ const OUT: usize = 131072;
 // The room for the rule that names the members for which a quantifier failed.
 const WITNESS: usize = 1100;
 
-fn main() {
-    let mut path = io::buffer();
-    let length = os::arg(1, &mut path);
-    if os::errno() != 0 {
-        io::write_all(STDERR_FILENO, b"rule: name a board file\n");
-        print_usage(STDERR_FILENO);
-        return;
+fn main(rt: HostRuntime) -> io::Result<()> {
+    let mut path = [0u8; 4096];
+    match rt.arg(1, &mut path) {
+        Ok(length) => run_on(&rt, &path[..length]),
+        Err(_) => {
+            let mut err = rt.stderr();
+            err.write_all(b"rule: name a board file\n")?;
+            print_usage(&mut err)
+        }
     }
-    if text::same(&path[..length], b"--help") {
-        print_usage(STDOUT_FILENO);
-        return;
-    }
-    open_board(&path[..length]);
 }
 
-fn print_usage(fd: i32) {
-    io::write_all(
-        fd,
+// Runs on a board file, or says how to use the program.
+fn run_on(rt: &HostRuntime, path: &[u8]) -> io::Result<()> {
+    if text::same(path, b"--help") {
+        return print_usage(&mut rt.stdout());
+    }
+    open_board(rt, path)
+}
+
+fn print_usage<W: Write>(out: &mut W) -> io::Result<()> {
+    out.write_all(
         b"usage: rule BOARD-FILE < RULE-FILE\n\
           The board file is a board image. The rule is read from standard input.\n\
           The first line says pass, fail, refused or open; the lines below say why.\n",
-    );
+    )
 }
 
-fn open_board(path: &[u8]) {
-    let fd = os::open_read(path);
-    if fd < 0 {
-        fail_on(path);
-        return;
-    }
+fn open_board(rt: &HostRuntime, path: &[u8]) -> io::Result<()> {
     let mut image = image_buffer();
-    let n = io::read_full(fd, &mut image);
-    if n == 0 {
-        if !is_readable(fd) {
-            fail_on(path);
-            libc::close(fd);
-            return;
-        }
+    match read_board(rt, path, &mut image) {
+        Ok(n) => run_board(rt, &image[..n]),
+        Err(error) => fail_on(rt, path, error),
     }
-    libc::close(fd);
-    run_board(&image[..n]);
+}
+
+// Reads a board file, or as much of it as the buffer has room for.
+fn read_board(rt: &HostRuntime, path: &[u8], image: &mut [u8]) -> io::Result<usize>
+    ensures { IfOk result (λ n. n ≤ length image.new) }
+{
+    match str::from_utf8(path) {
+        Ok(name) => {
+            let mut file = fs::open(rt, name)?;
+            streams::read_full(&mut file, image)
+        }
+        Err(_) => Err(io::Error::from(ErrorKind::InvalidFilename)),
+    }
 }
 
 // Says why the board file cannot be read, and how to use the program.
-fn fail_on(path: &[u8]) {
-    io::write_all(STDERR_FILENO, b"rule: the board file cannot be read: ");
-    os::fail(path);
-    print_usage(STDERR_FILENO);
+fn fail_on(rt: &HostRuntime, path: &[u8], error: io::Error) -> io::Result<()> {
+    let mut err = rt.stderr();
+    err.write_all(b"rule: the board file cannot be read: ")?;
+    err.write_all(path)?;
+    let why = format!(in rt.alloc(); "{error}")?;
+    writeln!(err, ": {}", before_code(&why))?;
+    print_usage(&mut err)
 }
 
-// Whether a file of which nothing came is empty, and not one that cannot be read.
-fn is_readable(fd: i32) -> bool {
-    let mut more = [0u8; 1];
-    0 <= libc::read(fd, &mut more)
+// The words of an error, without the system's number for it.
+fn before_code(why: &str) -> &str {
+    match why.split_once(" (os error ") {
+        Some((words, _)) => words,
+        None => why,
+    }
 }
 
 // Each `ensures` gives the length, which lending the array needs.
@@ -129,14 +142,16 @@ fn witness_buffer() -> [u8; WITNESS]
     [0; WITNESS]
 }
 
-fn run_board(image: &[u8]) {
+fn run_board(rt: &HostRuntime, image: &[u8]) -> io::Result<()> {
     let mut buffer = rule_buffer();
-    let n = io::read_full(0, &mut buffer);
-    run_rule(image, &buffer[..n]);
+    let n = streams::read_full(&mut rt.stdin(), &mut buffer)?;
+    let mut out = BufWriter::new(rt.alloc(), rt.stdout())?;
+    run_rule(&mut out, image, &buffer[..n])?;
+    out.flush()
 }
 
 // Runs the rule and prints what it comes to.
-fn run_rule(image: &[u8], rule: &[u8]) {
+fn run_rule<W: Write>(out: &mut W, image: &[u8], rule: &[u8]) -> io::Result<()> {
     let mut tokens = token_table();
     let mut tree = row_table();
     let mut errors = row_table();
@@ -151,64 +166,78 @@ fn run_rule(image: &[u8], rule: &[u8]) {
     );
     let outcome = ran.outcome;
     let reading = ran.reading;
-    print_head(outcome);
+    print_head(out, outcome)?;
     match reading {
-        Reading::Refused(_) => {}
+        Reading::Refused(_) => Ok(()),
         Reading::Rows {
             tokens: _,
             tree: tree_rows,
             errors: error_rows,
         } => {
-            print_errors(rule, &errors, error_rows);
-            print_members(image, outcome, &collection);
-            print_failing(image, rule, &tree, tree_rows, outcome);
+            print_errors(out, rule, &errors, error_rows)?;
+            print_members(out, image, outcome, &collection)?;
+            print_failing(out, image, rule, &tree, tree_rows, outcome)
         }
     }
 }
 
 // Prints the first n bytes, or as many as there are.
-fn print_front(bytes: &[u8], n: usize) {
-    io::write_all(STDOUT_FILENO, text::part(bytes, 0, n));
+fn print_front<W: Write>(out: &mut W, bytes: &[u8], n: usize) -> io::Result<()> {
+    out.write_all(text::part(bytes, 0, n))
 }
 
 // The verdict's line and the outcome's.
-fn print_head(outcome: Outcome) {
-    let mut out = io::buffer();
-    let n = answer::write_head(outcome, &mut out, 0);
-    print_front(&out, n);
+fn print_head<W: Write>(out: &mut W, outcome: Outcome) -> io::Result<()> {
+    let mut lines = [0u8; 4096];
+    let n = answer::write_head(outcome, &mut lines, 0);
+    print_front(out, &lines, n)
 }
 
 // The parse errors, each with the rule's line and a mark under the place.
-fn print_errors(rule: &[u8], errors: &[u32], n: usize) {
+fn print_errors<W: Write>(out: &mut W, rule: &[u8], errors: &[u32], n: usize) -> io::Result<()> {
     let whole = errors.len() / 4;
     let mut i = 0;
     while i < whole {
         if i == n {
-            return;
+            return Ok(());
         }
         let at = i * 4;
         print_error(
+            out,
             rule,
             errors[at],
             errors[at + 1],
             errors[at + 2],
             errors[at + 3],
-        );
+        )?;
         i += 1;
     }
+    Ok(())
 }
 
-fn print_error(rule: &[u8], form: u32, expected: u32, first: u32, end: u32) {
-    let mut out = io::buffer();
-    let n = error::write_error(rule, form, expected, first, end, &mut out, 0);
-    print_front(&out, n);
+fn print_error<W: Write>(
+    out: &mut W,
+    rule: &[u8],
+    form: u32,
+    expected: u32,
+    first: u32,
+    end: u32,
+) -> io::Result<()> {
+    let mut lines = [0u8; 4096];
+    let n = error::write_error(rule, form, expected, first, end, &mut lines, 0);
+    print_front(out, &lines, n)
 }
 
 // The members of a collection.
-fn print_members(image: &[u8], outcome: Outcome, collection: &[u32]) {
+fn print_members<W: Write>(
+    out: &mut W,
+    image: &[u8],
+    outcome: Outcome,
+    collection: &[u32],
+) -> io::Result<()> {
     match outcome {
-        Outcome::Refused(_) => {}
-        Outcome::Given(value) => print_rows(image, value, collection, member_count(value)),
+        Outcome::Refused(_) => Ok(()),
+        Outcome::Given(value) => print_rows(out, image, value, collection, member_count(value)),
     }
 }
 
@@ -224,30 +253,51 @@ fn member_count(value: Value) -> usize {
     }
 }
 
-fn print_rows(image: &[u8], value: Value, collection: &[u32], n: usize) {
+fn print_rows<W: Write>(
+    out: &mut W,
+    image: &[u8],
+    value: Value,
+    collection: &[u32],
+    n: usize,
+) -> io::Result<()> {
     let whole = collection.len() / 2;
     let mut i = 0;
     while i < whole {
         if i == n {
-            return;
+            return Ok(());
         }
         let at = i * 2;
-        print_member(image, value, collection[at], collection[at + 1]);
+        print_member(out, image, value, collection[at], collection[at + 1])?;
         i += 1;
     }
+    Ok(())
 }
 
-fn print_member(image: &[u8], value: Value, first: u32, second: u32) {
-    let mut out = out_buffer();
-    let n = members::write_member(image, value, first, second, &mut out, 0);
-    print_front(&out, n);
+fn print_member<W: Write>(
+    out: &mut W,
+    image: &[u8],
+    value: Value,
+    first: u32,
+    second: u32,
+) -> io::Result<()> {
+    let mut lines = out_buffer();
+    let n = members::write_member(image, value, first, second, &mut lines, 0);
+    print_front(out, &lines, n)
 }
 
 // Where a quantifier is false, the members for which it fails.
-fn print_failing(image: &[u8], rule: &[u8], tree: &[u32], rows: usize, outcome: Outcome) {
+fn print_failing<W: Write>(
+    out: &mut W,
+    image: &[u8],
+    rule: &[u8],
+    tree: &[u32],
+    rows: usize,
+    outcome: Outcome,
+) -> io::Result<()> {
     if fails(outcome) {
-        print_witness(image, rule, tree, rows);
+        return print_witness(out, image, rule, tree, rows);
     }
+    Ok(())
 }
 
 // Whether an outcome is false.
@@ -261,16 +311,22 @@ fn fails(outcome: Outcome) -> bool {
 }
 
 // Runs the rule that names them.
-fn print_witness(image: &[u8], rule: &[u8], tree: &[u32], rows: usize) {
+fn print_witness<W: Write>(
+    out: &mut W,
+    image: &[u8],
+    rule: &[u8],
+    tree: &[u32],
+    rows: usize,
+) -> io::Result<()> {
     let mut buffer = witness_buffer();
     let n = write_witness(rule, tree, rows, &mut buffer);
     if n == 0 {
-        return;
+        return Ok(());
     }
-    io::write_all(STDOUT_FILENO, b"it fails for these, by ");
-    print_front(&buffer, n);
-    io::write_all(STDOUT_FILENO, b"\n");
-    run_witness(image, &buffer, n);
+    out.write_all(b"it fails for these, by ")?;
+    print_front(out, &buffer, n)?;
+    out.write_all(b"\n")?;
+    run_witness(out, image, &buffer, n)
 }
 
 // The rule that names them, from the first rows of the tree table, or from all.
@@ -282,14 +338,15 @@ fn write_witness(rule: &[u8], tree: &[u32], rows: usize, out: &mut [u8]) -> usiz
     witness::write_witness(rule, tree, out, 0)
 }
 
-fn run_witness(image: &[u8], buffer: &[u8], n: usize) {
+fn run_witness<W: Write>(out: &mut W, image: &[u8], buffer: &[u8], n: usize) -> io::Result<()> {
     if n <= buffer.len() {
-        list_members(image, &buffer[..n]);
+        return list_members(out, image, &buffer[..n]);
     }
+    Ok(())
 }
 
 // Runs a rule and prints the members that it gives, without a verdict.
-fn list_members(image: &[u8], rule: &[u8]) {
+fn list_members<W: Write>(out: &mut W, image: &[u8], rule: &[u8]) -> io::Result<()> {
     let mut tokens = token_table();
     let mut tree = row_table();
     let mut errors = row_table();
@@ -303,13 +360,13 @@ fn list_members(image: &[u8], rule: &[u8]) {
         &mut collection,
     );
     let outcome = ran.outcome;
-    print_outcome(outcome);
-    print_members(image, outcome, &collection);
+    print_outcome(out, outcome)?;
+    print_members(out, image, outcome, &collection)
 }
 
-fn print_outcome(outcome: Outcome) {
-    let mut out = io::buffer();
-    let n = answer::write_outcome(outcome, &mut out, 0);
-    print_front(&out, n);
-    io::write_all(STDOUT_FILENO, b"\n");
+fn print_outcome<W: Write>(out: &mut W, outcome: Outcome) -> io::Result<()> {
+    let mut line = [0u8; 4096];
+    let n = answer::write_outcome(outcome, &mut line, 0);
+    print_front(out, &line, n)?;
+    out.write_all(b"\n")
 }

@@ -4,10 +4,11 @@
 // bytes and a line feed: the board by its index, the lengths of the four tables in numbers, and of the rule in bytes.
 #![tactic(auto)]
 
-ghost use Rattle.std.specs.Prelude.{◌≡◌, ◌≤◌, length};
+ghost use Rattle.std.specs.Prelude.{◌≡◌, ◌≤◌, length, IfOk};
 
 use calls::value::{Outcome, Value, Verdict};
-use libc::STDOUT_FILENO;
+use std::io;
+use std::io::{BufWriter, Write};
 use syntax::refusal;
 use trees::Reading;
 
@@ -18,27 +19,29 @@ const ROWS: usize = 16672;
 
 const COLLECTION: usize = 12000;
 
-fn main() {
+fn main(rt: HostRuntime) -> io::Result<()> {
     let mut input = [0u8; 400000];
-    let n = io::read_full(0, &mut input);
-    replay(&input[..n]);
+    let n = streams::read_full(&mut rt.stdin(), &mut input)?;
+    let mut out = BufWriter::new(rt.alloc(), rt.stdout())?;
+    replay(&mut out, &input[..n])?;
+    out.flush()
 }
 
 // Runs the cases past the boards, and stops at one that is not in the format.
-fn replay(input: &[u8]) {
+fn replay<W: Write>(out: &mut W, input: &[u8]) -> io::Result<()> {
     let boards = read_number(input, 0);
     let first = boards.end;
     let mut at = past_boards(input, first, boards.value);
     let mut cases = 0;
     while at < input.len() {
         cases += 1;
-        let next = replay_case(input, first, at, cases);
+        let next = replay_case(out, input, first, at, cases)?;
         if next <= at {
-            io::write_all(STDOUT_FILENO, b"not a case\n");
-            return;
+            return out.write_all(b"not a case\n");
         }
         at = next;
     }
+    Ok(())
 }
 
 // A number of the input, and the place past the byte that ends it.
@@ -119,9 +122,15 @@ fn past_boards(input: &[u8], first: usize, boards: usize) -> usize
 }
 
 // Runs the case that begins at `at`, and gives where the next one begins; 0 where none begins here. The first board is at `first`.
-fn replay_case(input: &[u8], first: usize, at: usize, case: usize) -> usize
+fn replay_case<W: Write>(
+    out: &mut W,
+    input: &[u8],
+    first: usize,
+    at: usize,
+    case: usize,
+) -> io::Result<usize>
     requires { (first ≤ length input.now) × (at ≤ length input.now) }
-    ensures { result ≤ length input.now }
+    ensures { IfOk result (λ next. next ≤ length input.now) }
 {
     let board = read_number(input, at);
     let tokens = read_number(input, board.end);
@@ -134,24 +143,25 @@ fn replay_case(input: &[u8], first: usize, at: usize, case: usize) -> usize
     let c = errors.value;
     let d = collection.value;
     if TOKENS < a {
-        return 0;
+        return Ok(0);
     }
     if ROWS < b {
-        return 0;
+        return Ok(0);
     }
     if ROWS < c {
-        return 0;
+        return Ok(0);
     }
     if COLLECTION < d {
-        return 0;
+        return Ok(0);
     }
     let image = read_bytes(input, past_boards(input, first, board.value));
     let image_first = image.first;
     let image_end = image.end;
     let rule_first = rule.first;
     let rule_end = rule.end;
-    print_number(b"case ", case as u64);
+    print_number(out, b"case ", case as u64)?;
     run_case(
+        out,
         &input[rule_first..rule_end],
         &input[image_first..image_end],
         a,
@@ -159,12 +169,13 @@ fn replay_case(input: &[u8], first: usize, at: usize, case: usize) -> usize
         c,
         d,
         case,
-    );
-    rule.next
+    )?;
+    Ok(rule.next)
 }
 
 // Runs a rule on an image with tables of so many numbers.
-fn run_case(
+fn run_case<W: Write>(
+    out: &mut W,
     rule: &[u8],
     image: &[u8],
     tokens: usize,
@@ -172,7 +183,7 @@ fn run_case(
     errors: usize,
     collection: usize,
     case: usize,
-)
+) -> io::Result<()>
     requires { (tokens ≤ 1520) × (tree ≤ 16672) × (errors ≤ 16672) × (collection ≤ 12000) }
 {
     let mut first = token_table();
@@ -180,6 +191,7 @@ fn run_case(
     let mut third = row_table();
     let mut fourth = collection_table();
     run_in(
+        out,
         rule,
         image,
         &mut first[..tokens],
@@ -187,7 +199,7 @@ fn run_case(
         &mut third[..errors],
         &mut fourth[..collection],
         case,
-    );
+    )
 }
 
 // Each `ensures` gives the length, which lending a part needs.
@@ -209,7 +221,8 @@ fn collection_table() -> [u32; COLLECTION]
     [0; COLLECTION]
 }
 
-fn run_in(
+fn run_in<W: Write>(
+    out: &mut W,
     rule: &[u8],
     image: &[u8],
     tokens: &mut [u32],
@@ -217,13 +230,13 @@ fn run_in(
     errors: &mut [u32],
     collection: &mut [u32],
     case: usize,
-) {
+) -> io::Result<()> {
     let seed = case % 65536;
     fill(tokens, seed);
     fill(tree, seed + 8);
     fill(errors, seed + 16);
     fill(collection, seed + 24);
-    print_run(rule, image, tokens, tree, errors, collection);
+    print_run(out, rule, image, tokens, tree, errors, collection)
 }
 
 // What a table holds at a place before the run: numbers that no row has, or, with an odd seed, such as rows have.
@@ -244,44 +257,45 @@ fn fill(table: &mut [u32], seed: usize) {
 }
 
 // Prints the answer's numbers, a digest of each table, and the members of a collection.
-fn print_run(
+fn print_run<W: Write>(
+    out: &mut W,
     rule: &[u8],
     image: &[u8],
     tokens: &mut [u32],
     tree: &mut [u32],
     errors: &mut [u32],
     collection: &mut [u32],
-) {
+) -> io::Result<()> {
     let answer = eval::run(rule, image, tokens, tree, errors, collection);
     let outcome = answer.outcome;
     let verdict = answer.verdict;
     let reading = answer.reading;
-    print_outcome(outcome);
-    print_verdict(verdict);
-    print_reading(reading);
-    print_with(digest(tokens), b" ");
-    print_with(digest(tree), b" ");
-    print_with(digest(errors), b" ");
-    print_with(digest(collection), b"\n");
-    print_members(collection, members(outcome));
+    print_outcome(out, outcome)?;
+    print_verdict(out, verdict)?;
+    print_reading(out, reading)?;
+    print_with(out, digest(tokens), b" ")?;
+    print_with(out, digest(tree), b" ")?;
+    print_with(out, digest(errors), b" ")?;
+    print_with(out, digest(collection), b"\n")?;
+    print_members(out, collection, members(outcome))
 }
 
 // What the rule comes to, its amount, and whether it is warned.
-fn print_outcome(outcome: Outcome) {
+fn print_outcome<W: Write>(out: &mut W, outcome: Outcome) -> io::Result<()> {
     match outcome {
-        Outcome::Given(value) => print_value(value),
-        Outcome::Refused(r) => print_three(0, refusal::number(r) as u64, 0),
+        Outcome::Given(value) => print_value(out, value),
+        Outcome::Refused(r) => print_three(out, 0, refusal::number(r) as u64, 0),
     }
 }
 
-fn print_value(value: Value) {
+fn print_value<W: Write>(out: &mut W, value: Value) -> io::Result<()> {
     match value {
-        Value::Components(n) => print_three(1, n as u64, 0),
-        Value::Features(n) => print_three(2, n as u64, 0),
-        Value::Diagnostics(n) => print_three(3, n as u64, 0),
-        Value::Bool(holds) => print_three(4, bit(holds), 0),
-        Value::BoolWithWarning(holds) => print_three(4, bit(holds), 1),
-        Value::Count(n) => print_three(5, n as u64, 0),
+        Value::Components(n) => print_three(out, 1, n as u64, 0),
+        Value::Features(n) => print_three(out, 2, n as u64, 0),
+        Value::Diagnostics(n) => print_three(out, 3, n as u64, 0),
+        Value::Bool(holds) => print_three(out, 4, bit(holds), 0),
+        Value::BoolWithWarning(holds) => print_three(out, 4, bit(holds), 1),
+        Value::Count(n) => print_three(out, 5, n as u64, 0),
     }
 }
 
@@ -289,29 +303,29 @@ fn bit(holds: bool) -> u64 {
     if holds { 1 } else { 0 }
 }
 
-fn print_verdict(verdict: Verdict) {
+fn print_verdict<W: Write>(out: &mut W, verdict: Verdict) -> io::Result<()> {
     match verdict {
-        Verdict::Pass => print_with(0, b" "),
-        Verdict::Fail => print_with(1, b" "),
-        Verdict::Refused => print_with(2, b" "),
-        Verdict::Open => print_with(3, b" "),
+        Verdict::Pass => print_with(out, 0, b" "),
+        Verdict::Fail => print_with(out, 1, b" "),
+        Verdict::Refused => print_with(out, 2, b" "),
+        Verdict::Open => print_with(out, 3, b" "),
     }
 }
 
 // Whether there are numbers of rows, and those of token, tree and error rows.
-fn print_reading(reading: Reading) {
+fn print_reading<W: Write>(out: &mut W, reading: Reading) -> io::Result<()> {
     match reading {
         Reading::Rows {
             tokens: a,
             tree: b,
             errors: c,
         } => {
-            print_three(1, a as u64, b as u64);
-            print_with(c as u64, b"\n");
+            print_three(out, 1, a as u64, b as u64)?;
+            print_with(out, c as u64, b"\n")
         }
         Reading::Refused(_) => {
-            print_three(0, 0, 0);
-            print_with(0, b"\n");
+            print_three(out, 0, 0, 0)?;
+            print_with(out, 0, b"\n")
         }
     }
 }
@@ -336,22 +350,23 @@ fn members_of(value: Value) -> usize {
 }
 
 // Prints the first n rows of a collection table, or as many as it has.
-fn print_members(table: &[u32], n: usize) {
+fn print_members<W: Write>(out: &mut W, table: &[u32], n: usize) -> io::Result<()> {
     let whole = table.len() / 2;
     let mut i = 0;
     while i < whole {
         if i == n {
-            return;
+            return Ok(());
         }
         let at = i * 2;
-        print_member(table[at], table[at + 1]);
+        print_member(out, table[at], table[at + 1])?;
         i += 1;
     }
+    Ok(())
 }
 
-fn print_member(a: u32, b: u32) {
-    print_with(a as u64, b" ");
-    print_with(b as u64, b"\n");
+fn print_member<W: Write>(out: &mut W, a: u32, b: u32) -> io::Result<()> {
+    print_with(out, a as u64, b" ")?;
+    print_with(out, b as u64, b"\n")
 }
 
 // A digest of all numbers of a table, in their order.
@@ -372,19 +387,19 @@ fn digest_on(sum: u64, number: u32) -> u64
     (sum * 1_000_003 + (number as u64)) % 4_294_967_291
 }
 
-fn print_three(a: u64, b: u64, c: u64) {
-    print_with(a, b" ");
-    print_with(b, b" ");
-    print_with(c, b" ");
+fn print_three<W: Write>(out: &mut W, a: u64, b: u64, c: u64) -> io::Result<()> {
+    print_with(out, a, b" ")?;
+    print_with(out, b, b" ")?;
+    print_with(out, c, b" ")
 }
 
-fn print_number(label: &[u8], n: u64) {
-    io::write_all(STDOUT_FILENO, label);
-    print_with(n, b"\n");
+fn print_number<W: Write>(out: &mut W, label: &[u8], n: u64) -> io::Result<()> {
+    out.write_all(label)?;
+    print_with(out, n, b"\n")
 }
 
 // A number, and the byte after it.
-fn print_with(n: u64, after: &[u8]) {
-    io::print_decimal(STDOUT_FILENO, n);
-    io::write_all(STDOUT_FILENO, after);
+fn print_with<W: Write>(out: &mut W, n: u64, after: &[u8]) -> io::Result<()> {
+    write!(out, "{n}")?;
+    out.write_all(after)
 }

@@ -3,8 +3,9 @@
 
 ghost use Rattle.std.specs.Prelude.{◌≡◌, length};
 
-use libc::STDOUT_FILENO;
 use message::Message;
+use std::io;
+use std::io::{BufWriter, Read, Write};
 use syntax::{refusal, text};
 use trees::Reading;
 
@@ -16,27 +17,29 @@ const TOKENS: usize = 1500;
 
 const ROWS: usize = 16032;
 
-fn main() {
+fn main(rt: HostRuntime) -> io::Result<()> {
+    let mut input = rt.stdin();
     let mut buffer = buffer();
-    let n = io::read_full(0, &mut buffer);
-    drain();
-    print_reading(&buffer[..n]);
+    let n = streams::read_full(&mut input, &mut buffer)?;
+    drain(&mut input)?;
+    let mut out = BufWriter::new(rt.alloc(), rt.stdout())?;
+    print_reading(&mut out, &buffer[..n])?;
+    out.flush()
 }
 
-// Reads what is left of standard input.
-fn drain() {
-    let mut turns = 18446744073709551615u64;
-    while 0 < turns {
-        turns -= 1;
-        if read_some() == 0 {
-            return;
+// Reads what is left of the input.
+fn drain<R: Read>(input: &mut R) -> io::Result<()> {
+    for _ in 0..u64::MAX {
+        if read_some(input)? == 0 {
+            return Ok(());
         }
     }
+    Ok(())
 }
 
-fn read_some() -> usize {
-    let mut rest = io::buffer();
-    io::read_full(0, &mut rest)
+fn read_some<R: Read>(input: &mut R) -> io::Result<usize> {
+    let mut rest = [0u8; 4096];
+    streams::read_full(input, &mut rest)
 }
 
 // Each `ensures` gives the length, which lending the array needs.
@@ -58,7 +61,7 @@ fn row_table() -> [u32; ROWS]
     [0; ROWS]
 }
 
-fn print_reading(rule: &[u8]) {
+fn print_reading<W: Write>(out: &mut W, rule: &[u8]) -> io::Result<()> {
     let mut tokens = token_table();
     let mut tree = row_table();
     let mut errors = row_table();
@@ -68,76 +71,78 @@ fn print_reading(rule: &[u8]) {
             tree: rows,
             errors: found,
         } => {
-            print_rows(&tree, rows);
-            print_number(b"errors ", found as u64);
-            print_messages(rule, &errors, found);
+            print_rows(out, &tree, rows)?;
+            print_number(out, b"errors ", found as u64)?;
+            print_messages(out, rule, &errors, found)
         }
-        Reading::Refused(r) => print_number(b"refused ", refusal::number(r) as u64),
+        Reading::Refused(r) => print_number(out, b"refused ", refusal::number(r) as u64),
     }
 }
 
 // Prints the first n rows of a table, or as many as it has.
-fn print_rows(table: &[u32], n: usize) {
+fn print_rows<W: Write>(out: &mut W, table: &[u32], n: usize) -> io::Result<()> {
     let whole = table.len() / 4;
     let mut i = 0;
     while i < whole {
         if i == n {
-            return;
+            return Ok(());
         }
         let at = i * 4;
-        print_row(table[at], table[at + 1], table[at + 2], table[at + 3]);
+        print_row(out, table[at], table[at + 1], table[at + 2], table[at + 3])?;
         i += 1;
     }
+    Ok(())
 }
 
-fn print_row(kind: u32, level: u32, first: u32, end: u32) {
-    io::print_decimal(STDOUT_FILENO, kind as u64);
-    io::write_all(STDOUT_FILENO, b" ");
-    io::print_decimal(STDOUT_FILENO, level as u64);
-    io::write_all(STDOUT_FILENO, b" ");
-    io::print_decimal(STDOUT_FILENO, first as u64);
-    io::write_all(STDOUT_FILENO, b" ");
-    io::print_decimal(STDOUT_FILENO, end as u64);
-    io::write_all(STDOUT_FILENO, b"\n");
+fn print_row<W: Write>(out: &mut W, kind: u32, level: u32, first: u32, end: u32) -> io::Result<()> {
+    writeln!(out, "{kind} {level} {first} {end}")
 }
 
-fn print_number(label: &[u8], n: u64) {
-    io::write_all(STDOUT_FILENO, label);
-    io::print_decimal(STDOUT_FILENO, n);
-    io::write_all(STDOUT_FILENO, b"\n");
+fn print_number<W: Write>(out: &mut W, label: &[u8], n: u64) -> io::Result<()> {
+    out.write_all(label)?;
+    writeln!(out, "{n}")
 }
 
 // Prints the messages of the first n error rows, or of as many as there are.
-fn print_messages(rule: &[u8], errors: &[u32], n: usize) {
+fn print_messages<W: Write>(out: &mut W, rule: &[u8], errors: &[u32], n: usize) -> io::Result<()> {
     let whole = errors.len() / 4;
     let mut i = 0;
     while i < whole {
         if i == n {
-            return;
+            return Ok(());
         }
         let at = i * 4;
         print_message(
+            out,
             rule,
             errors[at],
             errors[at + 1],
             errors[at + 2],
             errors[at + 3],
-        );
+        )?;
         i += 1;
     }
+    Ok(())
 }
 
-fn print_message(rule: &[u8], form: u32, expected: u32, first: u32, end: u32) {
-    let mut out = io::buffer();
-    let written = message::write_message(rule, form, expected, first, end, &mut out);
+fn print_message<W: Write>(
+    out: &mut W,
+    rule: &[u8],
+    form: u32,
+    expected: u32,
+    first: u32,
+    end: u32,
+) -> io::Result<()> {
+    let mut line = [0u8; 4096];
+    let written = message::write_message(rule, form, expected, first, end, &mut line);
     match written {
-        Message::Written(n) => print_front(&out, n),
-        Message::NoRoom => print_front(b"a message too long to print", 27),
+        Message::Written(n) => print_front(out, &line, n)?,
+        Message::NoRoom => print_front(out, b"a message too long to print", 27)?,
     }
-    io::write_all(STDOUT_FILENO, b"\n");
+    out.write_all(b"\n")
 }
 
 // Prints the first n bytes, or as many as there are.
-fn print_front(bytes: &[u8], n: usize) {
-    io::write_all(STDOUT_FILENO, text::part(bytes, 0, n));
+fn print_front<W: Write>(out: &mut W, bytes: &[u8], n: usize) -> io::Result<()> {
+    out.write_all(text::part(bytes, 0, n))
 }

@@ -4,12 +4,13 @@
 // predicate is that of the rule's last call.
 #![tactic(auto)]
 
-ghost use Rattle.std.specs.Prelude.{◌≡◌, ◌≤◌, length};
+ghost use Rattle.std.specs.Prelude.{◌≡◌, ◌≤◌, length, IfOk};
 
 use board::image;
 use board::image::Section;
-use libc::STDOUT_FILENO;
 use predicate::atom::Member;
+use std::io;
+use std::io::{BufWriter, Write};
 use syntax::refusal::Check;
 use syntax::{kind, refusal};
 use trees::Reading;
@@ -22,31 +23,33 @@ const ROWS: usize = 16032;
 // The numbers of a collection table that every board has room in.
 const COLLECTION: usize = 65536;
 
-fn main() {
+fn main(rt: HostRuntime) -> io::Result<()> {
     let mut input = [0u8; 262144];
-    let n = io::read_full(0, &mut input);
-    replay(&input[..n]);
+    let n = streams::read_full(&mut rt.stdin(), &mut input)?;
+    let mut out = BufWriter::new(rt.alloc(), rt.stdout())?;
+    replay(&mut out, &input[..n])?;
+    out.flush()
 }
 
 // Runs the cases from the first on, and stops at one that is not in the format.
-fn replay(input: &[u8]) {
+fn replay<W: Write>(out: &mut W, input: &[u8]) -> io::Result<()> {
     let mut at = 0;
     let mut cases = 0;
     while at < input.len() {
         cases += 1;
-        let next = replay_case(input, at, cases);
+        let next = replay_case(out, input, at, cases)?;
         if next <= at {
-            io::write_all(STDOUT_FILENO, b"not a case\n");
-            return;
+            return out.write_all(b"not a case\n");
         }
         at = next;
     }
+    Ok(())
 }
 
 // Runs the case that begins at `at`, and gives where the next one begins; 0 where none begins here.
-fn replay_case(input: &[u8], at: usize, case: usize) -> usize
+fn replay_case<W: Write>(out: &mut W, input: &[u8], at: usize, case: usize) -> io::Result<usize>
     requires { at ≤ length input.now }
-    ensures { result ≤ length input.now }
+    ensures { IfOk result (λ next. next ≤ length input.now) }
 {
     let image = read_number(input, at);
     let rule = read_number(input, image.end);
@@ -55,16 +58,16 @@ fn replay_case(input: &[u8], at: usize, case: usize) -> usize
     let bytes = image.value;
     let more = rule.value;
     if input.len() - first <= bytes {
-        return 0;
+        return Ok(0);
     }
     let middle = first + bytes;
     if input.len() - middle <= more {
-        return 0;
+        return Ok(0);
     }
     let end = middle + more;
-    print_number(b"case ", case as u64);
-    run_case(&input[first..middle], &input[middle..end], sort.value);
-    end + 1
+    print_number(out, b"case ", case as u64)?;
+    run_case(out, &input[first..middle], &input[middle..end], sort.value)?;
+    Ok(end + 1)
 }
 
 // A number of the input, and the place past the byte that ends it.
@@ -112,7 +115,7 @@ fn row_table() -> [u32; ROWS]
 }
 
 // Reads the rule, checks the image, and prints a line: a digit for each member, or why there are none.
-fn run_case(image: &[u8], rule: &[u8], sort: usize) {
+fn run_case<W: Write>(out: &mut W, image: &[u8], rule: &[u8], sort: usize) -> io::Result<()> {
     let mut tokens = token_table();
     let mut tree = row_table();
     let mut errors = row_table();
@@ -121,43 +124,62 @@ fn run_case(image: &[u8], rule: &[u8], sort: usize) {
             tokens: _,
             tree: rows,
             errors: found,
-        } => check_case(image, rule, &tree, rows, found, sort),
-        Reading::Refused(r) => print_number(b"refused ", refusal::number(r) as u64),
+        } => check_case(out, image, rule, &tree, rows, found, sort),
+        Reading::Refused(r) => print_number(out, b"refused ", refusal::number(r) as u64),
     }
 }
 
-fn check_case(image: &[u8], rule: &[u8], table: &[u32], rows: usize, errors: usize, sort: usize) {
+fn check_case<W: Write>(
+    out: &mut W,
+    image: &[u8],
+    rule: &[u8],
+    table: &[u32],
+    rows: usize,
+    errors: usize,
+    sort: usize,
+) -> io::Result<()> {
     match board::check_image(image, COLLECTION) {
         Check::Passed => {
             if errors != 0 {
-                print_number(b"errors ", errors as u64);
-                return;
+                return print_number(out, b"errors ", errors as u64);
             }
-            run_rows(image, rule, table, rows, sort);
+            run_rows(out, image, rule, table, rows, sort)
         }
-        Check::Refused(r) => print_number(b"refused ", refusal::number(r) as u64),
+        Check::Refused(r) => print_number(out, b"refused ", refusal::number(r) as u64),
     }
 }
 
 // Goes on with the first rows of the table, or with all.
-fn run_rows(image: &[u8], rule: &[u8], table: &[u32], rows: usize, sort: usize) {
+fn run_rows<W: Write>(
+    out: &mut W,
+    image: &[u8],
+    rule: &[u8],
+    table: &[u32],
+    rows: usize,
+    sort: usize,
+) -> io::Result<()> {
     if rows <= table.len() / 4 {
         let end = rows * 4;
-        print_truths(image, rule, &table[..end], sort);
-        return;
+        return print_truths(out, image, rule, &table[..end], sort);
     }
-    print_truths(image, rule, table, sort);
+    print_truths(out, image, rule, table, sort)
 }
 
 // Prints the truths of the predicate that a tree's last call has.
-fn print_truths(image: &[u8], rule: &[u8], tree: &[u32], sort: usize) {
+fn print_truths<W: Write>(
+    out: &mut W,
+    image: &[u8],
+    rule: &[u8],
+    tree: &[u32],
+    sort: usize,
+) -> io::Result<()> {
     let at = first_node(tree, last_arguments(tree));
     match sort {
-        0 => print_members(image, rule, tree, Section::Components, at),
-        1 => print_features(image, rule, tree, at),
-        _ => print_members(image, rule, tree, Section::Diagnostics, at),
+        0 => print_members(out, image, rule, tree, Section::Components, at)?,
+        1 => print_features(out, image, rule, tree, at)?,
+        _ => print_members(out, image, rule, tree, Section::Diagnostics, at)?,
     }
-    io::write_all(STDOUT_FILENO, b"\n");
+    out.write_all(b"\n")
 }
 
 // The index of the row past the last CALL_ARGS; 0 where there is none.
@@ -188,13 +210,22 @@ fn first_node(tree: &[u32], from: usize) -> usize {
 }
 
 // The records of a section, which has components or diagnostics.
-fn print_members(image: &[u8], rule: &[u8], tree: &[u32], section: Section, at: usize) {
+fn print_members<W: Write>(
+    out: &mut W,
+    image: &[u8],
+    rule: &[u8],
+    tree: &[u32],
+    section: Section,
+    at: usize,
+) -> io::Result<()> {
     let count = image::record_count(image, section);
     let mut n = 0;
     while n < count {
-        print_truth(predicate::eval_predicate(rule, image, tree, member(section, n), at));
+        let truth = predicate::eval_predicate(rule, image, tree, member(section, n), at);
+        print_truth(out, truth)?;
         n += 1;
     }
+    Ok(())
 }
 
 fn member(section: Section, n: u32) -> Member {
@@ -205,40 +236,49 @@ fn member(section: Section, n: u32) -> Member {
 }
 
 // The features of each component.
-fn print_features(image: &[u8], rule: &[u8], tree: &[u32], at: usize) {
+fn print_features<W: Write>(
+    out: &mut W,
+    image: &[u8],
+    rule: &[u8],
+    tree: &[u32],
+    at: usize,
+) -> io::Result<()> {
     let count = image::record_count(image, Section::Components);
     let mut n = 0;
     while n < count {
-        print_features_of(image, rule, tree, n, at);
+        print_features_of(out, image, rule, tree, n, at)?;
         n += 1;
     }
+    Ok(())
 }
 
-fn print_features_of(image: &[u8], rule: &[u8], tree: &[u32], component: u32, at: usize) {
+fn print_features_of<W: Write>(
+    out: &mut W,
+    image: &[u8],
+    rule: &[u8],
+    tree: &[u32],
+    component: u32,
+    at: usize,
+) -> io::Result<()> {
     let end = instance::features_end(image, component);
     let mut n = image::field(image, Section::Components, component, image::FIRST_FEATURE);
     while n < end {
-        print_truth(predicate::eval_predicate(
-            rule,
-            image,
-            tree,
-            Member::Feature(component, n),
-            at,
-        ));
+        let feature = Member::Feature(component, n);
+        let truth = predicate::eval_predicate(rule, image, tree, feature, at);
+        print_truth(out, truth)?;
         n += 1;
     }
+    Ok(())
 }
 
-fn print_truth(truth: bool) {
+fn print_truth<W: Write>(out: &mut W, truth: bool) -> io::Result<()> {
     if truth {
-        io::write_all(STDOUT_FILENO, b"1");
-        return;
+        return out.write_all(b"1");
     }
-    io::write_all(STDOUT_FILENO, b"0");
+    out.write_all(b"0")
 }
 
-fn print_number(label: &[u8], n: u64) {
-    io::write_all(STDOUT_FILENO, label);
-    io::print_decimal(STDOUT_FILENO, n);
-    io::write_all(STDOUT_FILENO, b"\n");
+fn print_number<W: Write>(out: &mut W, label: &[u8], n: u64) -> io::Result<()> {
+    out.write_all(label)?;
+    writeln!(out, "{n}")
 }

@@ -7,8 +7,9 @@ ghost use Rattle.std.specs.Prelude.{◌≡◌, ◌≤◌, length};
 
 use board::image::Section;
 use calls::value::{Outcome, Value, Verdict};
-use libc::STDOUT_FILENO;
 use report::{answer, error};
+use std::io;
+use std::io::{BufWriter, Read, Write};
 use syntax::refusal::{Check, Refusal};
 use syntax::text;
 use trees::Reading;
@@ -25,82 +26,84 @@ const KINDS: u32 = 10;
 
 const COMPONENTS: usize = 139;
 
-fn main() {
-    print_verdict(Verdict::Pass);
-    print_verdict(Verdict::Fail);
-    print_verdict(Verdict::Refused);
-    print_verdict(Verdict::Open);
-    print_board_refusals();
-    print_rule_refusals();
-    print_booleans();
-    print_counts();
-    print_board();
-    print_rules();
+fn main(rt: HostRuntime) -> io::Result<()> {
+    let mut out = BufWriter::new(rt.alloc(), rt.stdout())?;
+    print_verdict(&mut out, Verdict::Pass)?;
+    print_verdict(&mut out, Verdict::Fail)?;
+    print_verdict(&mut out, Verdict::Refused)?;
+    print_verdict(&mut out, Verdict::Open)?;
+    print_board_refusals(&mut out)?;
+    print_rule_refusals(&mut out)?;
+    print_booleans(&mut out)?;
+    print_counts(&mut out)?;
+    print_board(&mut out)?;
+    print_rules(&mut out, &mut rt.stdin())?;
+    out.flush()
 }
 
-fn print_verdict(verdict: Verdict) {
-    let mut out = io::buffer();
-    let n = answer::write_verdict(verdict, &mut out, 0);
-    print_front(&out, n);
-    io::write_all(STDOUT_FILENO, b"\n");
+fn print_verdict<W: Write>(out: &mut W, verdict: Verdict) -> io::Result<()> {
+    let mut line = [0u8; 4096];
+    let n = answer::write_verdict(verdict, &mut line, 0);
+    print_front(out, &line, n)?;
+    out.write_all(b"\n")
 }
 
-fn print_refusal(refusal: Refusal) {
-    print_head(Outcome::Refused(refusal));
+fn print_refusal<W: Write>(out: &mut W, refusal: Refusal) -> io::Result<()> {
+    print_head(out, Outcome::Refused(refusal))
 }
 
-fn print_value(value: Value) {
-    print_head(Outcome::Given(value));
+fn print_value<W: Write>(out: &mut W, value: Value) -> io::Result<()> {
+    print_head(out, Outcome::Given(value))
 }
 
-fn print_head(outcome: Outcome) {
-    let mut out = io::buffer();
-    let n = answer::write_head(outcome, &mut out, 0);
-    print_front(&out, n);
+fn print_head<W: Write>(out: &mut W, outcome: Outcome) -> io::Result<()> {
+    let mut lines = [0u8; 4096];
+    let n = answer::write_head(outcome, &mut lines, 0);
+    print_front(out, &lines, n)
 }
 
-fn print_board_refusals() {
-    print_refusal(Refusal::RuleTooLong);
-    print_refusal(Refusal::RuleNotUtf8);
-    print_refusal(Refusal::TableTooShort);
-    print_refusal(Refusal::TooManyOpeners);
-    print_refusal(Refusal::ImageBadSections);
-    print_refusal(Refusal::ImageBadStrings);
-    print_refusal(Refusal::ImageBadRecords);
-    print_refusal(Refusal::CollectionTooShort);
+fn print_board_refusals<W: Write>(out: &mut W) -> io::Result<()> {
+    print_refusal(out, Refusal::RuleTooLong)?;
+    print_refusal(out, Refusal::RuleNotUtf8)?;
+    print_refusal(out, Refusal::TableTooShort)?;
+    print_refusal(out, Refusal::TooManyOpeners)?;
+    print_refusal(out, Refusal::ImageBadSections)?;
+    print_refusal(out, Refusal::ImageBadStrings)?;
+    print_refusal(out, Refusal::ImageBadRecords)?;
+    print_refusal(out, Refusal::CollectionTooShort)
 }
 
-fn print_rule_refusals() {
-    print_refusal(Refusal::ParseErrors);
-    print_refusal(Refusal::WhereOnNoCollection);
-    print_refusal(Refusal::QuantifierOnNoCollection);
-    print_refusal(Refusal::CountOnNoCollection);
-    print_refusal(Refusal::FeaturesOnNoComponents);
-    print_refusal(Refusal::DiagnosticsOnNoDiagnostics);
-    print_refusal(Refusal::ComparisonNotCountable);
-    print_refusal(Refusal::IntegerTooLarge);
+fn print_rule_refusals<W: Write>(out: &mut W) -> io::Result<()> {
+    print_refusal(out, Refusal::ParseErrors)?;
+    print_refusal(out, Refusal::WhereOnNoCollection)?;
+    print_refusal(out, Refusal::QuantifierOnNoCollection)?;
+    print_refusal(out, Refusal::CountOnNoCollection)?;
+    print_refusal(out, Refusal::FeaturesOnNoComponents)?;
+    print_refusal(out, Refusal::DiagnosticsOnNoDiagnostics)?;
+    print_refusal(out, Refusal::ComparisonNotCountable)?;
+    print_refusal(out, Refusal::IntegerTooLarge)
 }
 
-fn print_booleans() {
-    print_value(Value::Bool(true));
-    print_value(Value::Bool(false));
-    print_value(Value::BoolWithWarning(true));
-    print_value(Value::BoolWithWarning(false));
+fn print_booleans<W: Write>(out: &mut W) -> io::Result<()> {
+    print_value(out, Value::Bool(true))?;
+    print_value(out, Value::Bool(false))?;
+    print_value(out, Value::BoolWithWarning(true))?;
+    print_value(out, Value::BoolWithWarning(false))
 }
 
-fn print_counts() {
-    print_value(Value::Count(0));
-    print_value(Value::Count(1));
-    print_value(Value::Count(18446744073709551615));
-    print_value(Value::Components(0));
-    print_value(Value::Components(1));
-    print_value(Value::Components(2));
-    print_value(Value::Features(0));
-    print_value(Value::Features(1));
-    print_value(Value::Features(2));
-    print_value(Value::Diagnostics(0));
-    print_value(Value::Diagnostics(1));
-    print_value(Value::Diagnostics(10));
+fn print_counts<W: Write>(out: &mut W) -> io::Result<()> {
+    print_value(out, Value::Count(0))?;
+    print_value(out, Value::Count(1))?;
+    print_value(out, Value::Count(18446744073709551615))?;
+    print_value(out, Value::Components(0))?;
+    print_value(out, Value::Components(1))?;
+    print_value(out, Value::Components(2))?;
+    print_value(out, Value::Features(0))?;
+    print_value(out, Value::Features(1))?;
+    print_value(out, Value::Features(2))?;
+    print_value(out, Value::Diagnostics(0))?;
+    print_value(out, Value::Diagnostics(1))?;
+    print_value(out, Value::Diagnostics(10))
 }
 
 // Each `ensures` gives the length, which lending the array needs.
@@ -123,46 +126,58 @@ fn row_table() -> [u32; ROWS]
 }
 
 // Prints the members of a board that has each word, and then a component whose category is none.
-fn print_board() {
+fn print_board<W: Write>(out: &mut W) -> io::Result<()> {
     let mut image = image_space();
     let n = write_image(&mut image);
-    print_checked(&image, n);
+    print_checked(out, &image, n)?;
     image[COMPONENTS] = 14;
-    print_member(&image, Value::Components(1), 0, 0);
+    print_member(out, &image, Value::Components(1), 0, 0)
 }
 
 // Prints the members of an image that passes the check.
-fn print_checked(space: &[u8], n: usize) {
+fn print_checked<W: Write>(out: &mut W, space: &[u8], n: usize) -> io::Result<()> {
     if space.len() < n {
-        return;
+        return Ok(());
     }
     let image = &space[..n];
     match board::check_image(image, ROWS) {
         Check::Passed => {
-            print_members(image, Section::Components, Value::Components(14));
-            print_members(image, Section::Features, Value::Features(10));
-            print_members(image, Section::Diagnostics, Value::Diagnostics(3));
-            print_member(image, Value::Count(1), 0, 0);
+            print_members(out, image, Section::Components, Value::Components(14))?;
+            print_members(out, image, Section::Features, Value::Features(10))?;
+            print_members(out, image, Section::Diagnostics, Value::Diagnostics(3))?;
+            print_member(out, image, Value::Count(1), 0, 0)
         }
-        Check::Refused(r) => print_refusal(r),
+        Check::Refused(r) => print_refusal(out, r),
     }
 }
 
 // The members of a value: all records of a section, of features each with the component that has its index.
-fn print_members(image: &[u8], section: Section, value: Value) {
-    print_value(value);
+fn print_members<W: Write>(
+    out: &mut W,
+    image: &[u8],
+    section: Section,
+    value: Value,
+) -> io::Result<()> {
+    print_value(out, value)?;
     let count = board::image::record_count(image, section);
     let mut i = 0;
     while i < count {
-        print_member(image, value, i, i);
+        print_member(out, image, value, i, i)?;
         i += 1;
     }
+    Ok(())
 }
 
-fn print_member(image: &[u8], value: Value, first: u32, second: u32) {
-    let mut out = io::buffer();
-    let n = members::write_member(image, value, first, second, &mut out, 0);
-    print_front(&out, n);
+fn print_member<W: Write>(
+    out: &mut W,
+    image: &[u8],
+    value: Value,
+    first: u32,
+    second: u32,
+) -> io::Result<()> {
+    let mut line = [0u8; 4096];
+    let n = members::write_member(image, value, first, second, &mut line, 0);
+    print_front(out, &line, n)
 }
 
 // A board with a component of each category, a feature of each kind in each direction, and a diagnostic of each severity.
@@ -236,25 +251,26 @@ fn write_word(n: u32, out: &mut [u8], at: usize) -> usize {
     )
 }
 
-// Prints what is said of the rules on standard input, and the parse errors of numbers that are no row of one.
-fn print_rules() {
-    let mut space = io::buffer();
-    let n = io::read_full(0, &mut space);
-    print_each(&space[..n]);
-    print_error(b"components", 7, 0, 3, 1000);
-    print_error(b"components", 6, 0, 1000, 3);
+// Prints what is said of the rules on the input, and the parse errors of numbers that are no row of one.
+fn print_rules<W: Write, R: Read>(out: &mut W, input: &mut R) -> io::Result<()> {
+    let mut space = [0u8; 4096];
+    let n = streams::read_full(input, &mut space)?;
+    print_each(out, &space[..n])?;
+    print_error(out, b"components", 7, 0, 3, 1000)?;
+    print_error(out, b"components", 6, 0, 1000, 3)
 }
 
-fn print_each(input: &[u8]) {
+fn print_each<W: Write>(out: &mut W, input: &[u8]) -> io::Result<()> {
     let mut at = 0;
     while at < input.len() {
         let end = rule_end(input, at);
-        print_rule(&input[at..end]);
+        print_rule(out, &input[at..end])?;
         if input.len() - end < 5 {
-            return;
+            return Ok(());
         }
         at = end + 5;
     }
+    Ok(())
 }
 
 // Where the rule ends that begins at a place: at a line of `---`, or with the input.
@@ -281,7 +297,7 @@ fn starts(text: &[u8]) -> bool {
 }
 
 // Prints the errors of a rule, the rule that names members for one that has none, or why it is refused.
-fn print_rule(rule: &[u8]) {
+fn print_rule<W: Write>(out: &mut W, rule: &[u8]) -> io::Result<()> {
     let mut tokens = token_table();
     let mut tree = row_table();
     let mut errors = row_table();
@@ -291,50 +307,60 @@ fn print_rule(rule: &[u8]) {
             tree: _,
             errors: found,
         } => {
-            print_rows(rule, &errors, found);
+            print_rows(out, rule, &errors, found)?;
             if found == 0 {
-                print_witness(rule, &tree);
+                return print_witness(out, rule, &tree);
             }
+            Ok(())
         }
-        Reading::Refused(r) => print_refusal(r),
+        Reading::Refused(r) => print_refusal(out, r),
     }
 }
 
 // Prints the errors of the first n rows of a table, or of as many as it has.
-fn print_rows(rule: &[u8], errors: &[u32], n: usize) {
+fn print_rows<W: Write>(out: &mut W, rule: &[u8], errors: &[u32], n: usize) -> io::Result<()> {
     let whole = errors.len() / 4;
     let mut i = 0;
     while i < whole {
         if i == n {
-            return;
+            return Ok(());
         }
         let at = i * 4;
         print_error(
+            out,
             rule,
             errors[at],
             errors[at + 1],
             errors[at + 2],
             errors[at + 3],
-        );
+        )?;
         i += 1;
     }
+    Ok(())
 }
 
 // Prints the rule that names members, on a line that is empty where there is none. The rows past the tree's are zeros, and no call's.
-fn print_witness(rule: &[u8], tree: &[u32]) {
-    let mut out = io::buffer();
-    let n = witness::write_witness(rule, tree, &mut out, 0);
-    print_front(&out, n);
-    io::write_all(STDOUT_FILENO, b"\n");
+fn print_witness<W: Write>(out: &mut W, rule: &[u8], tree: &[u32]) -> io::Result<()> {
+    let mut line = [0u8; 4096];
+    let n = witness::write_witness(rule, tree, &mut line, 0);
+    print_front(out, &line, n)?;
+    out.write_all(b"\n")
 }
 
-fn print_error(rule: &[u8], form: u32, expected: u32, first: u32, end: u32) {
-    let mut out = io::buffer();
-    let n = error::write_error(rule, form, expected, first, end, &mut out, 0);
-    print_front(&out, n);
+fn print_error<W: Write>(
+    out: &mut W,
+    rule: &[u8],
+    form: u32,
+    expected: u32,
+    first: u32,
+    end: u32,
+) -> io::Result<()> {
+    let mut lines = [0u8; 4096];
+    let n = error::write_error(rule, form, expected, first, end, &mut lines, 0);
+    print_front(out, &lines, n)
 }
 
 // Prints the first n bytes, or as many as there are.
-fn print_front(bytes: &[u8], n: usize) {
-    io::write_all(STDOUT_FILENO, text::part(bytes, 0, n));
+fn print_front<W: Write>(out: &mut W, bytes: &[u8], n: usize) -> io::Result<()> {
+    out.write_all(text::part(bytes, 0, n))
 }

@@ -1,7 +1,5 @@
 -- `fill` stays within the table. Assumes nothing.
-use mathlib.Core.Path.{◌≡◌}
-use Prim.Native.Nat.{◌-◌, ◌≤◌}
-use lib.ListN.{length}
+use Rattle.std.proofs.Common.{◌≡◌, ◌-◌, ◌≤◌, length}
 use Rattle.replay.proofs.fill.Given as goal
 
 abbrev pub invariant-loop-i : goal.invariant-loop-i

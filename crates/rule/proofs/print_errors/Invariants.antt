@@ -1,10 +1,9 @@
 -- `print_errors` stays within the table's whole rows. Assumes nothing.
-use Prim.Native.Nat.{◌-◌, ◌≤◌, ◌*◌}
-use lib.ListN.{length}
+use Rattle.std.proofs.Common.{◌-◌, ◌≤◌, ◌*◌, length}
 use Rattle.rule.proofs.print_errors.Given as goal
 
 abbrev pub invariant-loop-i : goal.invariant-loop-i
-invariant-loop-i l = (l.i ≤ l.whole) × (l.whole * 4 ≤ length l.errors)
+invariant-loop-i g l = (l.i ≤ l.whole) × (l.whole * 4 ≤ length l.errors)
 
 abbrev pub decreases-loop-i : goal.decreases-loop-i
-decreases-loop-i l = l.whole - l.i
+decreases-loop-i g l = l.whole - l.i

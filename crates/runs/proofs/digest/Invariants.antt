@@ -1,6 +1,5 @@
 -- `digest` stays within the table, and its sum below the modulus. Assumes nothing.
-use Prim.Native.Nat.{◌-◌, ◌≤◌}
-use lib.ListN.{length}
+use Rattle.std.proofs.Common.{◌-◌, ◌≤◌, length}
 use Rattle.runs.proofs.digest.Given as goal
 
 abbrev pub invariant-loop-i : goal.invariant-loop-i

@@ -1,6 +1,5 @@
 -- `past_boards` stays within the input. Assumes nothing.
-use Prim.Native.Nat.{◌-◌, ◌≤◌}
-use lib.ListN.{length}
+use Rattle.std.proofs.Common.{◌-◌, ◌≤◌, length}
 use Rattle.runs.proofs.past_boards.Given as goal
 
 abbrev pub invariant-loop-i : goal.invariant-loop-i

@@ -1,6 +1,5 @@
 -- `first_node` stays within the table's whole rows. Assumes nothing.
-use Prim.Native.Nat.{◌-◌, ◌≤◌, ◌*◌}
-use lib.ListN.{length}
+use Rattle.std.proofs.Common.{◌-◌, ◌≤◌, ◌*◌, length}
 use Rattle.truths.proofs.first_node.Given as goal
 
 abbrev pub invariant-loop-i : goal.invariant-loop-i

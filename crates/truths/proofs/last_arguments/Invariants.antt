@@ -1,6 +1,5 @@
 -- `last_arguments` stays within the table's whole rows. Assumes nothing.
-use Prim.Native.Nat.{◌-◌, ◌≤◌, ◌*◌}
-use lib.ListN.{length}
+use Rattle.std.proofs.Common.{◌-◌, ◌≤◌, ◌*◌, length}
 use Rattle.truths.proofs.last_arguments.Given as goal
 
 abbrev pub invariant-loop-i : goal.invariant-loop-i

@@ -1,6 +1,5 @@
 -- `read_number` stays within the input, and its number stays small. Assumes nothing.
-use Prim.Native.Nat.{◌-◌, ◌≤◌}
-use lib.ListN.{length}
+use Rattle.std.proofs.Common.{◌-◌, ◌≤◌, length}
 use Rattle.truths.proofs.read_number.Given as goal
 
 abbrev pub invariant-loop-end : goal.invariant-loop-end

@@ -1,6 +1,5 @@
 -- `rule_end` stays within the input. Assumes nothing.
-use Prim.Native.Nat.{◌-◌, ◌≤◌}
-use lib.ListN.{length}
+use Rattle.std.proofs.Common.{◌-◌, ◌≤◌, length}
 use Rattle.words.proofs.rule_end.Given as goal
 
 abbrev pub invariant-loop-end : goal.invariant-loop-end

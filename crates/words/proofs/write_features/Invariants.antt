@@ -1,7 +1,5 @@
 -- `write_features` ends, and leaves the place as long as it was. Assumes nothing.
-use Prim.Native.Nat.{◌-◌, ◌≤◌}
-use mathlib.Core.Path.{◌≡◌}
-use lib.ListN.{length}
+use Rattle.std.proofs.Common.{◌-◌, ◌≤◌, ◌≡◌, length}
 use Rattle.words.proofs.write_features.Given as goal
 
 abbrev pub invariant-loop-kind : goal.invariant-loop-kind

@@ -1,8 +1,0 @@
--- `drain` ends: the turns left fall. Assumes nothing.
-use Rattle.tree.proofs.drain.Given as goal
-
-abbrev pub invariant-loop-turns : goal.invariant-loop-turns
-invariant-loop-turns l = Unit {0}
-
-abbrev pub decreases-loop-turns : goal.decreases-loop-turns
-decreases-loop-turns l = l.turns
