@@ -3,7 +3,8 @@
 ghost use Rattle.std.specs.Prelude.{◌≡◌, [], ◌∷◌, ◌+◌, ◌≤◌, length};
 ghost use Rattle.board.specs.Check.{MAX_IMAGE};
 ghost use Rattle.calls.specs.Numbers.{value_amount, outcome_amount, bit, verdict_number};
-ghost use Rattle.abi.specs.Numbers.{ANSWER, PART, value_numbers, outcome_numbers, reading_numbers, row_numbers, Puts, RowsFew};
+ghost use Rattle.abi.specs.Numbers.{value_numbers, outcome_numbers, reading_numbers, row_numbers, Puts, RowsFew};
+ghost use Rattle.abi.specs.Numbers as meant;
 
 use calls::value::{Outcome, Value, Verdict};
 use syntax::refusal;
@@ -20,7 +21,7 @@ const READ: u32 = 6;
 
 // Writes the first part of a run's answer: the outcome and the verdict.
 pub(crate) fn put_outcome(answer: &mut [u32], outcome: Outcome, verdict: Verdict)
-    requires { (ANSWER ≤ length answer.old) × (outcome_amount outcome ≤ MAX_IMAGE) }
+    requires { (meant.ANSWER ≤ length answer.old) × (outcome_amount outcome ≤ MAX_IMAGE) }
     ensures { Puts answer.old 0 (outcome_numbers outcome verdict) answer.new }
 {
     let last = verdict_number(verdict);
@@ -32,7 +33,7 @@ pub(crate) fn put_outcome(answer: &mut [u32], outcome: Outcome, verdict: Verdict
 
 // Writes a value, and the number of the verdict.
 fn put_value(answer: &mut [u32], value: Value, last: u32)
-    requires { (ANSWER ≤ length answer.old) × (value_amount value ≤ MAX_IMAGE) }
+    requires { (meant.ANSWER ≤ length answer.old) × (value_amount value ≤ MAX_IMAGE) }
     ensures { Puts answer.old 0 (value_numbers value last) answer.new }
 {
     match value {
@@ -47,7 +48,7 @@ fn put_value(answer: &mut [u32], value: Value, last: u32)
 
 // Writes the first part of a reading's answer: that the rule was read, or the refusal.
 pub(crate) fn put_reading(answer: &mut [u32], reading: Reading)
-    requires { ANSWER ≤ length answer.old }
+    requires { meant.ANSWER ≤ length answer.old }
     ensures { Puts answer.old 0 (reading_numbers reading) answer.new }
 {
     match reading {
@@ -65,8 +66,8 @@ pub(crate) fn put_reading(answer: &mut [u32], reading: Reading)
 
 // Writes the second part of either: the numbers of rows; 0 where nothing was read.
 pub(crate) fn put_rows(answer: &mut [u32], reading: Reading)
-    requires { (ANSWER ≤ length answer.old) × RowsFew reading }
-    ensures { Puts answer.old PART (row_numbers reading) answer.new }
+    requires { (meant.ANSWER ≤ length answer.old) × RowsFew reading }
+    ensures { Puts answer.old meant.PART (row_numbers reading) answer.new }
 {
     match reading {
         Reading::Rows {
@@ -80,7 +81,7 @@ pub(crate) fn put_rows(answer: &mut [u32], reading: Reading)
 
 // Writes four numbers from a place on.
 fn put_part(answer: &mut [u32], at: usize, a: u32, b: u32, c: u32, d: u32)
-    requires { at + PART ≤ length answer.old }
+    requires { at + meant.PART ≤ length answer.old }
     ensures { Puts answer.old at (a ∷ b ∷ c ∷ d ∷ []) answer.new }
 {
     answer[at] = a;

@@ -1,7 +1,8 @@
 // The board image, read: the places of its sections, the numbers of their records, and the strings. Any bytes are read, and what is
 // not there is 0 or empty.
 ghost use Rattle.std.specs.Prelude.{◌≡◌, ◌+◌, ◌*◌, ◌<◌, ◌≤◌, length};
-ghost use Rattle.board.specs.Image.{NUMBER_SIZE, word, section_number, record_size, LARGEST_RECORD, SECTIONS, section_offset, section_length, record_count, field, text};
+ghost use Rattle.board.specs.Image.{word, section_number, record_size, LARGEST_RECORD, SECTIONS, section_offset, section_length, record_count, field, text};
+ghost use Rattle.board.specs.Image as meant;
 
 // The sections, in the order in which the image has them.
 #[derive(Clone, Copy)]
@@ -125,15 +126,15 @@ pub fn word(image: &[u8], at: usize) -> u32
 
 // A number of the record that begins at a place, of a record that the image holds.
 pub(crate) fn number_at(image: &[u8], at: usize, number: u32) -> u32
-    requires { at + NUMBER_SIZE * number + NUMBER_SIZE ≤ length image.now }
-    ensures { result ≡ word image.now (at + NUMBER_SIZE * number) }
+    requires { at + meant.NUMBER_SIZE * number + meant.NUMBER_SIZE ≤ length image.now }
+    ensures { result ≡ word image.now (at + meant.NUMBER_SIZE * number) }
 {
     word_at(image, at + NUMBER_SIZE * (number as usize))
 }
 
 // The little-endian u32 at a place where the image holds all of it.
 fn word_at(image: &[u8], at: usize) -> u32
-    requires { at + NUMBER_SIZE ≤ length image.now }
+    requires { at + meant.NUMBER_SIZE ≤ length image.now }
     ensures { result ≡ word image.now at }
 {
     wide(image[at])

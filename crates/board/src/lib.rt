@@ -7,7 +7,8 @@ pub mod image;
 ghost use Rattle.std.specs.Prelude.{◌≡◌, true, ◌+◌, ◌≤◌, length};
 ghost use Rattle.board.specs.Image.{record_size};
 ghost use Rattle.board.specs.Check.{whole_records, all_whole_records, sections_laid, sections_fit, strings_laid, strings_utf8, strings_fit, components_fit, features_fit, connections_fit, properties_fit, diagnostics_fit, records_fit, collection_short, check_image};
-ghost use Rattle.board.specs.CheckScan.{COMPONENT_SIZE, TRIPLE_SIZE, component_at, below_at, all_below};
+ghost use Rattle.board.specs.CheckScan.{component_at, below_at, all_below};
+ghost use Rattle.board.specs.CheckScan as meant;
 
 use image::Section;
 use syntax::refusal::{Check, Refusal};
@@ -228,7 +229,7 @@ fn components_fit(image: &[u8]) -> bool
 
 // Category, parent and wired of the component whose record begins at a place.
 fn component_fits(image: &[u8], at: usize, components: u32) -> bool
-    requires { at + COMPONENT_SIZE ≤ length image.now }
+    requires { at + meant.COMPONENT_SIZE ≤ length image.now }
     ensures { result ≡ component_at image.now at components }
 {
     if CATEGORIES <= image::number_at(image, at, image::CATEGORY) {
@@ -299,7 +300,7 @@ pub fn collection_short(image: &[u8], collection: usize) -> bool
 
 // Whether the three numbers of each record are below their limits.
 fn all_below(image: &[u8], section: Section, first: u32, second: u32, third: u32) -> bool
-    requires { (sections_fit image.now ≡ true) × (record_size section ≡ TRIPLE_SIZE) }
+    requires { (sections_fit image.now ≡ true) × (record_size section ≡ meant.TRIPLE_SIZE) }
     ensures { result ≡ all_below image.now section first second third }
 {
     let mut at = image::section_offset(image, section) as usize;
@@ -316,7 +317,7 @@ fn all_below(image: &[u8], section: Section, first: u32, second: u32, third: u32
 
 // The same of the record that begins at a place.
 fn is_below(image: &[u8], at: usize, first: u32, second: u32, third: u32) -> bool
-    requires { at + TRIPLE_SIZE ≤ length image.now }
+    requires { at + meant.TRIPLE_SIZE ≤ length image.now }
     ensures { result ≡ below_at image.now at first second third }
 {
     if first <= image::number_at(image, at, 0) {

@@ -1,4 +1,4 @@
-// The seven calls, in the order of the table's lines, counted from 0. `methodNumber` has the same numbers for the definitions; a proof
+// The seven calls, in the order of the table's lines, counted from 0. `method_number` has the same numbers for the definitions; a proof
 // fails where the two differ.
 ghost use Rattle.std.specs.Prelude.{◌≡◌};
 ghost use Rattle.meaning.specs.Calls.{method_number};

@@ -74,7 +74,7 @@ OF_FEATURE = 1
 unfoldable pub bit_at : List ℕ → ℕ → ℕ → ℕ → ℕ
 bit_at memo most c j = cond (ltb (PLACES + j) (length memo) && (not (eqb (mark_in memo j c) 0) && leb (mark_in memo j c) most)) 1 0
 
--- those of all rows as one number; NO-BITS for a component that has no marks
+-- those of all rows as one number; NO_BITS for a component that has no marks
 unfoldable pub bits_at : List ℕ → List ℕ → ℕ → ℕ → ℕ
 unfolding bit_at
 bits_at image memo most c =

@@ -4,7 +4,8 @@ ghost use Rattle.std.specs.Prelude.{◌≡◌, ◌+◌, ◌*◌, ◌≤◌, ◌<
 ghost use Rattle.board.specs.Image.{component_count};
 ghost use Rattle.predicate.specs.Rows.{ROW};
 ghost use Rattle.marks.specs.Marks.{marks_of, feature_marks};
-ghost use Rattle.eval.specs.Marked.{HASES, BLOCK, ROWS, MEMO, bit_at, bits_at, bits_of, RowTold, TellsBelow, FoundRow, Made, MakesRow};
+ghost use Rattle.eval.specs.Marked.{bit_at, bits_at, bits_of, RowTold, TellsBelow, FoundRow, Made, MakesRow};
+ghost use Rattle.eval.specs.Marked as meant;
 
 use crate::memo;
 use board::image;
@@ -73,7 +74,7 @@ fn bits_at(image: &[u8], memo: &[u8], most: u8, component: u32) -> usize
 
 // Whether the j-th marked `has` is true by the mark at a place of its block, as 1 or 0.
 fn bit(memo: &[u8], most: u8, place: usize, j: usize) -> usize
-    requires { (place < BLOCK) × (j < HASES) }
+    requires { (place < meant.BLOCK) × (j < meant.HASES) }
     ensures { (result ≡ bit_at memo.now most place j) × (result ≤ 1) }
 {
     if memo.len() <= PLACES + j {
@@ -152,7 +153,7 @@ fn row_of(number: u8) -> usize
 // Makes marks for the first CALL_EXPR rows of a tree in a memo in which nothing is noted, and gives the number of these rows: the memo's
 // front with so many places is then what `ask` may use.
 pub(crate) fn make_marks(rule: &[u8], image: &[u8], tree: &[u32], memo: &mut [u8]) -> usize
-    requires { memo.old ≡ replicate MEMO 0 }
+    requires { memo.old ≡ replicate meant.MEMO 0 }
     ensures { Made rule.now image.now tree.now memo.new result }
 {
     let mut row = next_row(tree, kind::CALL_EXPR, 0);
@@ -170,7 +171,7 @@ pub(crate) fn make_marks(rule: &[u8], image: &[u8], tree: &[u32], memo: &mut [u8
 
 // Makes the n-th block, for the row of a number.
 fn make_block(rule: &[u8], image: &[u8], tree: &[u32], row: usize, n: usize, memo: &mut [u8])
-    requires { (row < ROWS) × (n < HASES) × (length memo.old ≡ MEMO) }
+    requires { (row < meant.ROWS) × (n < meant.HASES) × (length memo.old ≡ meant.MEMO) }
     ensures { MakesRow rule.now image.now tree.now row n memo.old memo.new }
 {
     memo[PLACES + n] = row as u8;

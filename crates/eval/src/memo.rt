@@ -4,7 +4,8 @@ ghost use Rattle.std.specs.Prelude.{◌≡◌, ℕ, ◌+◌, ◌*◌, ◌≤◌,
 ghost use Rattle.profile.specs.Profile.{PROFILES, profile_of};
 ghost use Rattle.eval.specs.Ready.{CALL_ROW};
 ghost use Rattle.eval.specs.Marked.{held_in};
-ghost use Rattle.eval.specs.Memo.{NO_PLACE, plain_place, byte_of, note_in, Notes, Placed, Asked, Noted};
+ghost use Rattle.eval.specs.Memo.{plain_place, byte_of, note_in, Notes, Placed, Asked, Noted};
+ghost use Rattle.eval.specs.Memo as meant;
 
 use crate::{marked, ready};
 use predicate;
@@ -62,7 +63,7 @@ pub(crate) fn marked_place(image: &[u8], member: Member, profile: Profile, memo:
 
 // What is noted of the predicate of call i at a place.
 pub(crate) fn noted(memo: &[u8], i: usize, place: usize) -> u8
-    requires { place ≤ NO_PLACE }
+    requires { place ≤ meant.NO_PLACE }
     ensures { result ≡ note_in memo.now i place }
 {
     if NOTED_CALLS <= i {
@@ -119,7 +120,7 @@ fn note(
     value: bool,
     memo: &mut [u8],
 )
-    requires { place ≤ NO_PLACE }
+    requires { place ≤ meant.NO_PLACE }
     ensures { Noted rule.now tree.now args member i place value memo.old memo.new }
 {
     if NOTED_CALLS <= i {

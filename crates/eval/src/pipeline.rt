@@ -7,7 +7,8 @@ ghost use Rattle.meaning.specs.Pipeline.{eval_pipeline};
 ghost use Rattle.meaning.specs.Outcome.{eval_count_compare, eval_node};
 ghost use Rattle.calls.specs.Answer.{boolean_of};
 ghost use Rattle.eval.specs.Ready.{CALL_ROW, LAST_KIND};
-ghost use Rattle.eval.specs.Pipeline.{MAX_ROWS, CALLS, FewCalls, Lent, Evaluates, Counts, OperatorAt, Gives, Judges};
+ghost use Rattle.eval.specs.Pipeline.{MAX_ROWS, FewCalls, Lent, Evaluates, Counts, OperatorAt, Gives, Judges};
+ghost use Rattle.eval.specs.Pipeline as meant;
 
 use crate::ready::Planned;
 use crate::walk::Tally;
@@ -48,7 +49,7 @@ fn eval_pipeline(
     calls: &mut [u32],
     collection: &mut [u32],
 ) -> Outcome
-    requires { (at + ROW ≤ length tree.now) × (length tree.now ≤ MAX_ROWS) × (CALLS ≤ length calls.old) × Lent image.now collection.old × FewCalls rule.now tree.now at }
+    requires { (at + ROW ≤ length tree.now) × (length tree.now ≤ MAX_ROWS) × (meant.CALLS ≤ length calls.old) × Lent image.now collection.old × FewCalls rule.now tree.now at }
     ensures { Evaluates (eval_pipeline image.now (children_at rule.now tree.now at)) collection.old collection.new result }
 {
     match ready::plan(rule, tree, at, calls) {
@@ -76,7 +77,7 @@ fn eval_count_compare(
     calls: &mut [u32],
     collection: &mut [u32],
 ) -> Outcome
-    requires { (at + ROW ≤ length tree.now) × (length tree.now ≤ MAX_ROWS) × (CALLS ≤ length calls.old) × Lent image.now collection.old × FewCalls rule.now tree.now at }
+    requires { (at + ROW ≤ length tree.now) × (length tree.now ≤ MAX_ROWS) × (meant.CALLS ≤ length calls.old) × Lent image.now collection.old × FewCalls rule.now tree.now at }
     ensures { Evaluates (eval_count_compare image.now (children_at rule.now tree.now at)) collection.old collection.new result }
 {
     let found = node::first_child(tree, at);

@@ -8,7 +8,8 @@ ghost use Rattle.meaning.specs.Calls.{kind_number};
 ghost use Rattle.meaning.specs.Pipeline.{calls_of};
 ghost use Rattle.meaning.specs.Walk.{is_last};
 ghost use Rattle.calls.specs.Table.{method_at};
-ghost use Rattle.eval.specs.Ready.{CALL_ROW, LAST_KIND, KindAfter, LastMethod, source_sort, args_place, Puts, CallsFit, PutsRow, Holds, Plans};
+ghost use Rattle.eval.specs.Ready.{LAST_KIND, KindAfter, LastMethod, source_sort, args_place, Puts, CallsFit, PutsRow, Holds, Plans};
+ghost use Rattle.eval.specs.Ready as meant;
 
 use calls::table::Next;
 use calls::{method, table};
@@ -31,7 +32,7 @@ pub(crate) enum Planned {
 
 // Makes the calls of the pipeline whose row is at a place ready, in `calls`.
 pub(crate) fn plan(rule: &[u8], tree: &[u32], at: usize, calls: &mut [u32]) -> Planned
-    requires { (at + ROW ≤ length tree.now) × (length tree.now < 2 ^ 32) × (CALL_ROW * length (calls_of (children_at rule.now tree.now at)) ≤ length calls.old) }
+    requires { (at + ROW ≤ length tree.now) × (length tree.now < 2 ^ 32) × (meant.CALL_ROW * length (calls_of (children_at rule.now tree.now at)) ≤ length calls.old) }
     ensures { Plans rule.now tree.now at calls.new result }
 {
     let found = node::first_child(tree, at);
@@ -63,7 +64,7 @@ fn source_kind(tree: &[u32], source: usize) -> usize
 
 // Writes a row for each DOT_CALL of the pipeline whose row is at a place, and gives their number.
 fn put_calls(rule: &[u8], tree: &[u32], at: usize, calls: &mut [u32]) -> usize
-    requires { (at + ROW ≤ length tree.now) × (length tree.now < 2 ^ 32) × (CALL_ROW * length (calls_of (children_at rule.now tree.now at)) ≤ length calls.old) }
+    requires { (at + ROW ≤ length tree.now) × (length tree.now < 2 ^ 32) × (meant.CALL_ROW * length (calls_of (children_at rule.now tree.now at)) ≤ length calls.old) }
     ensures { Holds rule.now tree.now at calls.new result }
 {
     let level = tree[at + 1] as usize;
@@ -108,7 +109,7 @@ fn is_call(tree: &[u32], level: usize, row: usize) -> bool
 
 // Writes the row of the DOT_CALL whose row in the tree is at a place.
 fn put_call(rule: &[u8], tree: &[u32], row: usize, calls: &mut [u32], count: usize)
-    requires { (CALL_ROW * (count + 1) ≤ length calls.old) × (length tree.now < 2 ^ 32) }
+    requires { (meant.CALL_ROW * (count + 1) ≤ length calls.old) × (length tree.now < 2 ^ 32) }
     ensures { Puts rule.now tree.now row count calls.old calls.new }
 {
     let at = CALL_ROW * count;

@@ -7,7 +7,8 @@ ghost use Rattle.meaning.specs.Pipeline.{is_of_analysis};
 ghost use Rattle.calls.specs.Table.{method_at};
 ghost use Rattle.eval.specs.Ready.{calls_from};
 ghost use Rattle.eval.specs.Memo.{Notes};
-ghost use Rattle.eval.specs.Feed.{state_of, begin, fed, Fits, Stands, KNOWN, Known, IsFeatures};
+ghost use Rattle.eval.specs.Feed.{state_of, begin, fed, Fits, Stands, Known, IsFeatures};
+ghost use Rattle.eval.specs.Feed as meant;
 
 use crate::walk::Tally;
 use crate::{held, listed, marked, memo, ready, step, walk};
@@ -288,7 +289,7 @@ pub(crate) fn feed_diagnostics(
 
 // Whether the analysis of a diagnostic has this name. The text is compared only where it is not among those that are known.
 fn is_of_analysis(image: &[u8], name: &[u8], diagnostic: u32, known: &mut [u64]) -> bool
-    requires { (length known.old ≡ KNOWN) × Known image.now name.now known.old }
+    requires { (length known.old ≡ meant.KNOWN) × Known image.now name.now known.old }
     ensures { (result ≡ is_of_analysis image.now name.now (Member.Diagnostic diagnostic)) × Known image.now name.now known.new }
 {
     let string = image::field(image, Section::Diagnostics, diagnostic, image::ANALYSIS);

@@ -2,7 +2,7 @@
 // features, each further `where`. No collection but the last is kept, and no member is sent after one that decides a quantifier.
 ghost use Rattle.std.specs.Prelude.{◌≡◌, true, [], ◌∷◌, ◌++◌, ◌+◌, ◌*◌, ◌^◌, ◌≤◌, ◌<◌, length, drop, replicate};
 ghost use Rattle.std.proofs.lemmas.List.Edits.{sets};
-ghost use Rattle.board.specs.Check.{COLLECTION_ROW};
+ghost use Rattle.board.specs.Check as meant;
 ghost use Rattle.board.specs.WellFormed.{WellFormed, Room};
 ghost use Rattle.predicate.specs.Rows.{ROW, kind_at, children_at};
 ghost use Rattle.profile.specs.Profile.{profile_of};
@@ -235,8 +235,8 @@ fn arrive(
 
 // Writes a member's row.
 pub(crate) fn put_member(collection: &mut [u32], row: usize, member: Member)
-    requires { COLLECTION_ROW * (row + 1) ≤ length collection.old }
-    ensures { collection.new ≡ sets collection.old (COLLECTION_ROW * row) (row_of member) }
+    requires { meant.COLLECTION_ROW * (row + 1) ≤ length collection.old }
+    ensures { collection.new ≡ sets collection.old (meant.COLLECTION_ROW * row) (row_of member) }
 {
     let at = COLLECTION_ROW * row;
     match member {

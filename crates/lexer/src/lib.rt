@@ -9,7 +9,8 @@ ghost use Rattle.syntax.specs.Table.{with_rows};
 ghost use Rattle.lexer.specs.Bytes.{is_blank, is_ascii_whitespace, is_ascii_digit, is_ident_start, is_ident_continue, is_trailing, shape_of, goes_on};
 ghost use Rattle.lexer.specs.Lex.{run, quoted, equals, more, word_kind, kind_of, lex, token_rows, is_opener, openers_in};
 ghost use Rattle.lexer.specs.LexScan.{TokenAt, openers_at};
-ghost use Rattle.lexer.specs.Read.{MAX_RULE, MAX_OPENERS, TOKEN_ROW, tables_short, check_rule, check_room, Reads};
+ghost use Rattle.lexer.specs.Read.{tables_short, check_rule, check_room, Reads};
+ghost use Rattle.lexer.specs.Read as meant;
 
 use limits::{ERROR_ROW, MAX_OPENERS, MAX_RULE, TOKEN_ROW, TREE_ROW};
 use syntax::refusal::{Check, Refusal};
@@ -83,8 +84,8 @@ pub fn tables_short(n: usize, tokens: usize, tree: usize, errors: usize) -> bool
 
 // Whether more tokens are `(` or `not` than a rule may have. The tokens are read for it only where the bytes leave it open.
 fn too_many_openers(rule: &[u8]) -> bool
-    requires { length rule.now ≤ MAX_RULE }
-    ensures { result ≡ ltb MAX_OPENERS (openers_in (lex rule.now)) }
+    requires { length rule.now ≤ meant.MAX_RULE }
+    ensures { result ≡ ltb meant.MAX_OPENERS (openers_in (lex rule.now)) }
 {
     if rule.len() <= MAX_OPENERS {
         return false;
@@ -97,7 +98,7 @@ fn too_many_openers(rule: &[u8]) -> bool
 
 // At least as many as there are tokens `(` and `not`: the bytes that one may begin with, the last byte always among them.
 fn openers_bound(rule: &[u8]) -> u16
-    requires { length rule.now ≤ MAX_RULE }
+    requires { length rule.now ≤ meant.MAX_RULE }
     ensures { openers_in (lex rule.now) ≤ result }
 {
     let mut n = 1;
@@ -156,7 +157,7 @@ fn is_opener(kind: u32) -> bool
 
 // Writes a row for each token, and gives their number.
 fn write_tokens(rule: &[u8], tokens: &mut [u32]) -> usize
-    requires { (length rule.now ≤ MAX_RULE) × (length rule.now * TOKEN_ROW ≤ length tokens.old) }
+    requires { (length rule.now ≤ meant.MAX_RULE) × (length rule.now * meant.TOKEN_ROW ≤ length tokens.old) }
     ensures { (result ≡ length (lex rule.now)) × (tokens.new ≡ with_rows (token_rows 0 (lex rule.now)) tokens.old) }
 {
     let mut at = 0;
@@ -173,7 +174,7 @@ fn write_tokens(rule: &[u8], tokens: &mut [u32]) -> usize
 
 // Writes a row of three numbers from `at` on.
 fn put_row(table: &mut [u32], at: usize, kind: u32, first: u32, end: u32)
-    requires { at + TOKEN_ROW ≤ length table.old }
+    requires { at + meant.TOKEN_ROW ≤ length table.old }
     ensures { table.new ≡ sets table.old at (kind ∷ first ∷ end ∷ []) }
 {
     table[at] = kind;

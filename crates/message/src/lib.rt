@@ -5,7 +5,8 @@ ghost use Rattle.std.specs.Prelude.{◌++◌, ◌+◌, ◌^◌, ◌≤◌, ◌<�
 ghost use Rattle.syntax.specs.Form.{EXPECT};
 ghost use Rattle.message.specs.Message.{kind_name, message_of};
 ghost use Rattle.message.specs.Write.{Writes};
-ghost use Rattle.message.specs.Parts.{HEAD, LONGEST_NAME, LONGEST_END, Puts, Begins, Ends, word, head_of, end_of};
+ghost use Rattle.message.specs.Parts.{LONGEST_NAME, LONGEST_END, Puts, Begins, Ends, word, head_of, end_of};
+ghost use Rattle.message.specs.Parts as meant;
 
 use syntax::{form, kind, text};
 
@@ -92,7 +93,7 @@ fn put_expected(head: &mut [u8; HEAD], expected: u32) -> usize
 
 // Writes what stands for the token at the end of text.
 fn put_end(head: &mut [u8; HEAD], at: usize, form: u32) -> usize
-    requires { at + LONGEST_END ≤ HEAD }
+    requires { at + LONGEST_END ≤ meant.HEAD }
     ensures { Puts (end_of form) head.old at head.new result }
 {
     match form {
@@ -108,7 +109,7 @@ fn put_end(head: &mut [u8; HEAD], at: usize, form: u32) -> usize
 
 // syntax.rs: the name of a kind; a number that is no kind has none. The names stand in the order of the kinds.
 fn put_kind_name(head: &mut [u8; HEAD], at: usize, kind: u32) -> usize
-    requires { at + LONGEST_NAME ≤ HEAD }
+    requires { at + LONGEST_NAME ≤ meant.HEAD }
     ensures { Puts (kind_name kind) head.old at head.new result }
 {
     if kind::COUNT_COMPARE_EXPR < kind {

@@ -1,7 +1,8 @@
 // Rows of a tree table: kind, level, first byte, end byte. The children of a node are the rows one level below it that follow its own,
 // as far as the next row that is not below it.
 ghost use Rattle.std.specs.Prelude.{◌≡◌, ◌+◌, ◌≤◌, ◌<◌, ◌^◌, length};
-ghost use Rattle.predicate.specs.Rows.{ROW, level_at, is_row, is_below, row_passes, of_kind, of_node};
+ghost use Rattle.predicate.specs.Rows.{level_at, is_row, is_below, row_passes, of_kind, of_node};
+ghost use Rattle.predicate.specs.Rows as meant;
 ghost use Rattle.predicate.specs.Eval.{Finds, Skips};
 
 use matching::search::Found;
@@ -29,7 +30,7 @@ pub(crate) fn find_row(tree: &[u32], level: usize, kind: u32, from: usize) -> Fo
 }
 
 fn row_is(tree: &[u32], level: usize, kind: u32, at: usize) -> bool
-    requires { at + ROW ≤ length tree.now }
+    requires { at + meant.ROW ≤ length tree.now }
     ensures { result ≡ row_passes (of_kind kind) tree.now level at }
 {
     if level_at(tree, at) != level {
@@ -57,7 +58,7 @@ pub(crate) fn find_child(tree: &[u32], level: usize, from: usize) -> Found
 }
 
 fn row_is_child(tree: &[u32], level: usize, at: usize) -> bool
-    requires { at + ROW ≤ length tree.now }
+    requires { at + meant.ROW ≤ length tree.now }
     ensures { result ≡ row_passes of_node tree.now level at }
 {
     if level_at(tree, at) != level {
@@ -100,7 +101,7 @@ pub(crate) fn is_row(tree: &[u32], at: usize) -> bool
 
 // The level of the row at a place.
 pub(crate) fn level_at(tree: &[u32], at: usize) -> usize
-    requires { at + ROW ≤ length tree.now }
+    requires { at + meant.ROW ≤ length tree.now }
     ensures { (result ≡ level_at tree.now at) × (result < 2 ^ 32) }
 {
     tree[at + 1] as usize

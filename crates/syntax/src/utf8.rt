@@ -2,7 +2,8 @@
 // nothing kept but what the next byte must be.
 ghost use Rattle.std.specs.Prelude.{◌≡◌, ◌<◌, max};
 ghost use Rattle.syntax.specs.Utf8.{utf8, is_ascii};
-ghost use Rattle.syntax.specs.Utf8Scan.{ILL, Steps, lead_count, lead_low, lead_high};
+ghost use Rattle.syntax.specs.Utf8Scan.{Steps, lead_count, lead_low, lead_high};
+ghost use Rattle.syntax.specs.Utf8Scan as meant;
 
 // A count that says: no byte can mend what was read.
 const ILL: u8 = 4;
@@ -69,7 +70,7 @@ fn is_well_formed(s: &[u8]) -> bool
 
 // What is asked after one byte more.
 fn pending_after(n: Pending, b: u8) -> Pending
-    requires { n.count < ILL }
+    requires { n.count < meant.ILL }
     ensures { Steps n.count n.low n.high b result.count result.low result.high }
 {
     if n.count == 0 {
