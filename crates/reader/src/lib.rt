@@ -1,5 +1,5 @@
 // A reader holds the lent token rows and its place in them. What it is asked is done by functions on rows and place,
-// which are covered; those that take or make a reader are thin, and each is proved by hand.
+// which are covered; those that take or make a reader are thin.
 #![tactic(auto)]
 
 ghost use Rattle.std.specs.Prelude.{◌≡◌};
