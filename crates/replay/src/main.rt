@@ -7,7 +7,7 @@ ghost use Rattle.std.specs.Prelude.{◌≡◌, ◌≤◌, length, IfOk};
 
 use message::Message;
 use std::io;
-use std::io::{BufWriter, Write};
+use std::io::Write;
 use syntax::{refusal, text};
 use trees::Reading;
 
@@ -19,9 +19,7 @@ const ROWS: usize = 16672;
 fn main(rt: HostRuntime) -> io::Result<()> {
     let mut input = [0u8; 262144];
     let n = streams::read_full(&mut rt.stdin(), &mut input)?;
-    let mut out = BufWriter::new(rt.alloc(), rt.stdout())?;
-    replay(&mut out, &input[..n])?;
-    out.flush()
+    replay(&mut rt.stdout(), &input[..n])
 }
 
 // Runs the cases from the first on, and stops at one that is not in the format.

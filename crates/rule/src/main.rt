@@ -6,8 +6,10 @@ ghost use Rattle.std.specs.Prelude.{◌≡◌, ◌≤◌, length, IfOk};
 
 use calls::value::{Outcome, Value, Verdict};
 use calls::verdict;
+use matching::search;
+use matching::search::Found;
 use report::{answer, error};
-use std::io::{BufWriter, ErrorKind, Write};
+use std::io::{ErrorKind, Write};
 use std::rt::Env;
 use std::{fs, io, str};
 use syntax::text;
@@ -28,6 +30,9 @@ const COLLECTION: usize = 65536;
 
 // The room for a text: more than the longest line, which a diagnostic's message makes.
 const OUT: usize = 131072;
+
+// The room for the words of an error of the system.
+const WORDS: usize = 1024;
 
 // The room for the rule that names the members for which a quantifier failed.
 const WITNESS: usize = 1100;
@@ -83,19 +88,30 @@ fn read_board(rt: &HostRuntime, path: &[u8], image: &mut [u8]) -> io::Result<usi
 
 // Says why the board file cannot be read, and how to use the program.
 fn fail_on(rt: &HostRuntime, path: &[u8], error: io::Error) -> io::Result<()> {
+    let mut words = [0u8; WORDS];
+    let n = write_words(error, &mut words)?;
     let mut err = rt.stderr();
     err.write_all(b"rule: the board file cannot be read: ")?;
     err.write_all(path)?;
-    let why = format!(in rt.alloc(); "{error}")?;
-    writeln!(err, ": {}", before_code(&why))?;
+    err.write_all(b": ")?;
+    err.write_all(before_code(text::part(&words, 0, n)))?;
+    err.write_all(b"\n")?;
     print_usage(&mut err)
 }
 
+// Writes the words of an error at the front of a place, and gives how many bytes they have.
+fn write_words(error: io::Error, place: &mut [u8]) -> io::Result<usize> {
+    let room = place.len();
+    let mut rest = place;
+    write!(rest, "{error}")?;
+    Ok(room.saturating_sub(rest.len()))
+}
+
 // The words of an error, without the system's number for it.
-fn before_code(why: &str) -> &str {
-    match why.split_once(" (os error ") {
-        Some((words, _)) => words,
-        None => why,
+fn before_code(words: &[u8]) -> &[u8] {
+    match search::find(words, b" (os error ") {
+        Found::At(at) => text::part(words, 0, at),
+        Found::Absent => words,
     }
 }
 
@@ -145,9 +161,7 @@ fn witness_buffer() -> [u8; WITNESS]
 fn run_board(rt: &HostRuntime, image: &[u8]) -> io::Result<()> {
     let mut buffer = rule_buffer();
     let n = streams::read_full(&mut rt.stdin(), &mut buffer)?;
-    let mut out = BufWriter::new(rt.alloc(), rt.stdout())?;
-    run_rule(&mut out, image, &buffer[..n])?;
-    out.flush()
+    run_rule(&mut rt.stdout(), image, &buffer[..n])
 }
 
 // Runs the rule and prints what it comes to.

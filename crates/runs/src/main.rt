@@ -8,7 +8,7 @@ ghost use Rattle.std.specs.Prelude.{◌≡◌, ◌≤◌, length, IfOk};
 
 use calls::value::{Outcome, Value, Verdict};
 use std::io;
-use std::io::{BufWriter, Write};
+use std::io::Write;
 use syntax::refusal;
 use trees::Reading;
 
@@ -22,9 +22,7 @@ const COLLECTION: usize = 12000;
 fn main(rt: HostRuntime) -> io::Result<()> {
     let mut input = [0u8; 400000];
     let n = streams::read_full(&mut rt.stdin(), &mut input)?;
-    let mut out = BufWriter::new(rt.alloc(), rt.stdout())?;
-    replay(&mut out, &input[..n])?;
-    out.flush()
+    replay(&mut rt.stdout(), &input[..n])
 }
 
 // Runs the cases past the boards, and stops at one that is not in the format.

@@ -5,7 +5,7 @@ ghost use Rattle.std.specs.Prelude.{◌≡◌, length};
 
 use message::Message;
 use std::io;
-use std::io::{BufWriter, Read, Write};
+use std::io::{Read, Write};
 use syntax::{refusal, text};
 use trees::Reading;
 
@@ -22,9 +22,7 @@ fn main(rt: HostRuntime) -> io::Result<()> {
     let mut buffer = buffer();
     let n = streams::read_full(&mut input, &mut buffer)?;
     drain(&mut input)?;
-    let mut out = BufWriter::new(rt.alloc(), rt.stdout())?;
-    print_reading(&mut out, &buffer[..n])?;
-    out.flush()
+    print_reading(&mut rt.stdout(), &buffer[..n])
 }
 
 // Reads what is left of the input.

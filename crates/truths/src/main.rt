@@ -10,7 +10,7 @@ use board::image;
 use board::image::Section;
 use predicate::atom::Member;
 use std::io;
-use std::io::{BufWriter, Write};
+use std::io::Write;
 use syntax::refusal::Check;
 use syntax::{kind, refusal};
 use trees::Reading;
@@ -26,9 +26,7 @@ const COLLECTION: usize = 65536;
 fn main(rt: HostRuntime) -> io::Result<()> {
     let mut input = [0u8; 262144];
     let n = streams::read_full(&mut rt.stdin(), &mut input)?;
-    let mut out = BufWriter::new(rt.alloc(), rt.stdout())?;
-    replay(&mut out, &input[..n])?;
-    out.flush()
+    replay(&mut rt.stdout(), &input[..n])
 }
 
 // Runs the cases from the first on, and stops at one that is not in the format.

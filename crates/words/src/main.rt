@@ -9,7 +9,7 @@ use board::image::Section;
 use calls::value::{Outcome, Value, Verdict};
 use report::{answer, error};
 use std::io;
-use std::io::{BufWriter, Read, Write};
+use std::io::{Read, Write};
 use syntax::refusal::{Check, Refusal};
 use syntax::text;
 use trees::Reading;
@@ -27,7 +27,7 @@ const KINDS: u32 = 10;
 const COMPONENTS: usize = 139;
 
 fn main(rt: HostRuntime) -> io::Result<()> {
-    let mut out = BufWriter::new(rt.alloc(), rt.stdout())?;
+    let mut out = rt.stdout();
     print_verdict(&mut out, Verdict::Pass)?;
     print_verdict(&mut out, Verdict::Fail)?;
     print_verdict(&mut out, Verdict::Refused)?;
@@ -37,8 +37,7 @@ fn main(rt: HostRuntime) -> io::Result<()> {
     print_booleans(&mut out)?;
     print_counts(&mut out)?;
     print_board(&mut out)?;
-    print_rules(&mut out, &mut rt.stdin())?;
-    out.flush()
+    print_rules(&mut out, &mut rt.stdin())
 }
 
 fn print_verdict<W: Write>(out: &mut W, verdict: Verdict) -> io::Result<()> {
