@@ -46,7 +46,7 @@ def snake(name):
 
 
 def is_declaring(path):
-    return os.sep + "specs" + os.sep in path or not path.endswith(os.sep + "Proof.antt")
+    return os.sep + "specs" + os.sep in path or os.path.basename(path) not in ("Proof.antt", "Answers.antt", "Invariants.antt")
 
 
 def declared(text):

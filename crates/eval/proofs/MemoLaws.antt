@@ -43,7 +43,7 @@ module _ (memo : List ℕ) (i place : ℕ) where
 
 -- ---- the place of a member
 
--- the profile and the bits that a place below NO-PLACE tells
+-- the profile and the bits that a place below NO_PLACE tells
 record PlaceIs (p : Profile) (bits place : ℕ) : Type 0 where
   number : ℕ
   profile_is : p ≡ Number number
