@@ -1,18 +1,19 @@
 -- Laws of UTF-8: well-formedness byte by byte, what `utf8.rt` keeps of the bytes read, and texts one after the other.
 -- Assumes nothing.
 use mathlib.Core.Path.{◌≡◌, refl, sym, ap, ap₂, ◌∙◌, subst}
-use mathlib.Core.Bool.{Bool, true, false, cond, ◌&&◌, and-false}
+use mathlib.Core.Bool.{Bool, true, false, ◌&&◌, ◌||◌, not, and-false}
 use mathlib.Core.List.{List, [], ◌∷◌, ◌++◌}
-use Prim.Native.Nat.{ℕ, zero, suc, ◌+◌, ◌-◌, ◌≤◌, ◌<◌, max}
+use Prim.Native.Nat.{ℕ, zero, suc, ◌-◌, ◌≤◌, ◌<◌, max}
 use native.Mathlib.Omega.{arith}
-use borrow.Author.Tests.{eq-eqb, ne_eqb, lt-leb, le-leb, lt-ltb, le-ltb, ltb-true, ltb-false}
-use lib.Dec.{T, eqb, leb, ltb, leb→le, eqb→eq}
-use lib.ListN.{length, take, drop, get_or, drop_of_length-le}
+use borrow.Author.Tests.{lt-leb, le-leb, lt-ltb, le-ltb, ltb-true, ltb-false, leb-true, ne_eqb}
+use lib.Dec.{T, eqb, leb, ltb, eqb→eq}
+use lib.ListN.{take, drop}
 use Rattle.syntax.specs.Utf8.{Range, to, within, After, ill, needs, after, well_from, utf8, is_ascii}
-use Rattle.syntax.specs.Utf8Scan.{ILL, trails, pending, lead_count, lead_low, lead_high, Steps}
+use Rattle.std.specs.Prelude.{Some, None}
+use Rattle.std.specs.List.{fold}
+use Rattle.syntax.specs.Utf8Scan.{trails, pending, Steps}
 use Rattle.syntax.proofs.BoolLaws.{whether, and_left, and_right, both}
-use Rattle.syntax.proofs.TextLaws.{from}
-use Rattle.syntax.proofs.EveryByte.{at_each}
+use Rattle.syntax.proofs.EveryByte.{below, at_each}
 
 -- well-formedness, byte by byte
 module _ (b : ℕ) (s : List ℕ) where
@@ -72,77 +73,97 @@ same_after→ ill (needs qs) t = absurd t
 same_after→ (needs rs) ill t = absurd t
 same_after→ (needs rs) (needs qs) t = ap needs (same_ranges→ rs qs t)
 
--- what the code takes a first byte for is what the table says, at each of the 256
-lead_after : ℕ → After
-unfolding lead_count lead_low lead_high pending
-lead_after b = cond (eqb (lead_count b) ILL) ill (needs (pending (lead_count b) (lead_low b) (lead_high b)))
+-- a row of the table: the bytes from `least` to `most` ask for so many more, the first of them in its range
+pub row_is : ℕ → ℕ → ℕ → ℕ → ℕ → ℕ → Bool
+unfolding same_after pending
+row_is least most k low high b = not (within (to least most) b) || same_after (after b) (needs (pending k low high))
 
-lead : (b : ℕ) → b < 256 → after b ≡ lead_after b
-unfolding after lead_after same_after
-lead b h = same_after→ (after b) (lead_after b) (at_each (λ b. same_after (after b) (lead_after b)) 256 tt b h)
+-- that it is one, which antt computes at each of the 256
+pub record IsRow (least most k low high : ℕ) : Type 0 where
+  pub at_all : T (below (row_is least most k low high) 256)
 
-lead_small : (b : ℕ) → b < 256 → lead_count b ≤ ILL
-unfolding lead_count
-lead_small b h = leb→le (lead_count b) ILL (at_each (λ b. leb (lead_count b) ILL) 256 tt b h)
+module _ {b least most k low high : ℕ} (row : IsRow least most k low high) (h : b < 256) (l : least ≤ b) (m : b ≤ most) where
+  pub lead_row : Steps 0 0 0 b (Some (record { count = k; low = low; high = high }))
+  unfolding row_is pending
+  lead_row s =
+      let here : T (row_is least most k low high b) = at_each (row_is least most k low high) 256 row.at_all b h in
+      well_needs b s (pending k low high) (same_after→ (after b) (needs (pending k low high)) (rw (le-leb least b l, le-leb b most m) at here))
 
--- a first byte
-pub lead_steps : {b : ℕ} → b < 256 → Steps 0 0 0 b (lead_count b) (lead_low b) (lead_high b)
-unfolding pending lead_after
-lead_steps {b} h =
-    record {
-      small = lead_small b h;
-      bad = λ q s. well_ill b s (lead b h ∙ rw (eq-eqb (lead_count b) ILL q));
-      good = λ q s. well_needs b s (pending (lead_count b) (lead_low b) (lead_high b)) (lead b h ∙ rw (ne_eqb (lead_count b) ILL q));
-    }
+pub row_00 : IsRow 0x00 0x7F 0 0 0
+unfolding row_is after pending
+row_00 = record { at_all = tt }
 
--- an ASCII byte asks for nothing
-after_ascii : (b : ℕ) → b < 0x80 → after b ≡ needs []
-unfolding lead_after lead_count pending
-after_ascii b h = lead b (omega arith) ∙ rw (lt-ltb b 0x80 h)
+pub row_C2 : IsRow 0xC2 0xDF 1 0x80 0xBF
+unfolding row_is after pending
+row_C2 = record { at_all = tt }
 
-pub ascii_steps : {b : ℕ} → b < 0x80 → Steps 0 0 0 b 0 0 0
-unfolding pending
-ascii_steps {b} h =
-    record { small = omega arith; bad = λ q s. absurd (omega arith); good = λ q s. well_needs b s [] (after_ascii b h) }
+pub row_E0 : IsRow 0xE0 0xE0 2 0xA0 0xBF
+unfolding row_is after pending
+row_E0 = record { at_all = tt }
 
--- the four ways of one byte more: a first byte, one below its range, one above, one within
-pub first_steps : {n low high b n' low' high' : ℕ} → n ≡ 0 → Steps 0 0 0 b n' low' high' → Steps n low high b n' low' high'
-unfolding pending
-first_steps e h = rw e record { small = h.small; bad = h.bad; good = h.good }
+pub row_E1 : IsRow 0xE1 0xEC 2 0x80 0xBF
+unfolding row_is after pending
+row_E1 = record { at_all = tt }
 
-out_steps : (n low high b : ℕ) → (n ≡ 0 → ⊥) → within (to low high) b ≡ false → Steps n low high b ILL 0 0
-unfolding pending
-out_steps zero low high b e w = absurd (e refl)
-out_steps (suc n) low high b e w =
-    record { small = omega arith; bad = λ q s. well_out b s (to low high) (trails n) w; good = λ q s. absurd (q refl) }
+pub row_ED : IsRow 0xED 0xED 2 0x80 0x9F
+unfolding row_is after pending
+row_ED = record { at_all = tt }
 
-pub low_steps : {n low high b : ℕ} → (n ≡ 0 → ⊥) → b < low → Steps n low high b ILL 0 0
-low_steps {n} {low} {high} {b} e h = out_steps n low high b e (rw (lt-leb low b h))
+pub row_EE : IsRow 0xEE 0xEF 2 0x80 0xBF
+unfolding row_is after pending
+row_EE = record { at_all = tt }
 
-pub high_steps : {n low high b : ℕ} → (n ≡ 0 → ⊥) → high < b → Steps n low high b ILL 0 0
-high_steps {n} {low} {high} {b} e h = out_steps n low high b e (rw (lt-leb b high h) (and-false (leb low b)))
+pub row_F0 : IsRow 0xF0 0xF0 3 0x90 0xBF
+unfolding row_is after pending
+row_F0 = record { at_all = tt }
+
+pub row_F1 : IsRow 0xF1 0xF3 3 0x80 0xBF
+unfolding row_is after pending
+row_F1 = record { at_all = tt }
+
+pub row_F4 : IsRow 0xF4 0xF4 3 0x80 0x8F
+unfolding row_is after pending
+row_F4 = record { at_all = tt }
+
+-- a byte of no row
+none_is : ℕ → Bool
+unfolding same_after
+none_is b = leb b 0x7F || (within (to 0xC2 0xF4) b || same_after (after b) ill)
+
+pub lead_none : {b : ℕ} → b < 256 → 0x7F < b → (0xC2 ≤ b → 0xF4 < b) → Steps 0 0 0 b None
+unfolding none_is pending after
+lead_none {b} h m o s =
+    let here : T (none_is b) = at_each none_is 256 tt b h in
+    let out : within (to 0xC2 0xF4) b ≡ false =
+    whether (leb 0xC2 b) (λ t. rw (t, lt-leb b 0xF4 (o (leb-true 0xC2 b t)))) (λ t. rw t) in
+    well_ill b s (same_after→ (after b) ill (rw (lt-leb b 0x7F m, out) at here))
 
 pending_trails : (n : ℕ) → trails n ≡ pending n 0x80 0xBF
 unfolding pending trails
 pending_trails zero = refl
 pending_trails (suc n) = refl
 
-in_steps_suc : (n low high b : ℕ) → suc n < ILL → low ≤ b → b ≤ high → Steps (suc n) low high b (suc n - 1) 0x80 0xBF
+out_steps : (n low high b : ℕ) → (n ≡ 0 → ⊥) → within (to low high) b ≡ false → Steps n low high b None
 unfolding pending
-in_steps_suc n low high b k h l =
-    let m : suc n - 1 ≡ n = omega arith in
-    rw m record {
-      small = omega arith;
-      bad = λ q s. absurd (omega arith);
-      good = λ q s. well_in b s (to low high) (trails n) (rw (le-leb low b h, le-leb b high l)) ∙ ap (well_from s) (pending_trails n);
-    }
+out_steps zero low high b e w s = absurd (e refl)
+out_steps (suc n) low high b e w s = well_out b s (to low high) (trails n) w
 
-pub in_steps : {n low high b : ℕ} → (n ≡ 0 → ⊥) → n < ILL → low ≤ b → b ≤ high → Steps n low high b (n - 1) 0x80 0xBF
-in_steps {n} {low} {high} {b} e k h l = go n e k
-  where
-    go : (n : ℕ) → (n ≡ 0 → ⊥) → n < ILL → Steps n low high b (n - 1) 0x80 0xBF
-    go zero e k = absurd (e refl)
-    go (suc n) e k = in_steps_suc n low high b k h l
+within_steps : (n low high b : ℕ) → (n ≡ 0 → ⊥) → low ≤ b → b ≤ high → Steps n low high b (Some (record { count = n - 1; low = 0x80; high = 0xBF }))
+unfolding pending
+within_steps zero low high b e l h s = absurd (e refl)
+within_steps (suc n) low high b e l h s =
+    let m : suc n - 1 ≡ n = omega arith in
+    rw m (well_in b s (to low high) (trails n) (rw (le-leb low b l, le-leb b high h)) ∙ ap (well_from s) (pending_trails n))
+
+-- of a byte that follows: one outside its range, and one within
+pub low_steps : {n low b : ℕ} (high : ℕ) → (n ≡ 0 → ⊥) → b < low → Steps n low high b None
+low_steps {n} {low} {b} high e h s = out_steps n low high b e (rw (lt-leb low b h)) s
+
+pub high_steps : {n high b : ℕ} (low : ℕ) → (n ≡ 0 → ⊥) → high < b → Steps n low high b None
+high_steps {n} {high} {b} low e h s = out_steps n low high b e (rw (lt-leb b high h) (and-false (leb low b))) s
+
+pub in_steps : {n low high b : ℕ} → (n ≡ 0 → ⊥) → low ≤ b → b ≤ high → Steps n low high b (Some (record { count = n - 1; low = 0x80; high = 0xBF }))
+in_steps {n} {low} {high} {b} e l h s = within_steps n low high b e l h s
 
 -- at the end of the text nothing may be asked any more
 pub well_end : (n low high : ℕ) → well_from [] (pending n low high) ≡ eqb n 0
@@ -168,13 +189,18 @@ pub utf8_append : (a b : List ℕ) → T (utf8 a) → utf8 (a ++ b) ≡ utf8 b
 unfolding utf8
 utf8_append a b h = append_from a b [] h
 
+-- an ASCII byte asks for nothing
+well_ascii : (b : ℕ) (s : List ℕ) → b < 0x80 → well_from (b ∷ s) [] ≡ well_from s []
+unfolding pending
+well_ascii b s h = lead_row row_00 (omega arith) (omega arith) (omega arith) s
+
 -- a text that is ASCII alone is UTF-8, and so is each part of it
 pub ascii_utf8 : (s : List ℕ) → is_ascii s ≡ true → utf8 s ≡ true
 unfolding is_ascii utf8 well_from
 ascii_utf8 [] h = refl
 ascii_utf8 (b ∷ s) h =
     let parts = both (ltb b 0x80) (is_ascii s) h in
-    well_needs b s [] (after_ascii b (ltb-true b 0x80 parts.0)) ∙ ascii_utf8 s parts.1
+    well_ascii b s (ltb-true b 0x80 parts.0) ∙ ascii_utf8 s parts.1
 
 pub ascii_take : (n : ℕ) (s : List ℕ) → is_ascii s ≡ true → is_ascii (take n s) ≡ true
 unfolding is_ascii
@@ -190,14 +216,6 @@ ascii_drop zero s h = h
 ascii_drop (suc n) [] h = refl
 ascii_drop (suc n) (b ∷ s) h = ascii_drop n s (both (ltb b 0x80) (is_ascii s) h).1
 
--- the highest of the bytes before i is known: with the rest it says whether the text is ASCII alone
-pub record Highest (s : List ℕ) (highest i : ℕ) : Type 0 where
-  pub within : i ≤ length s
-  pub rest : (ltb highest 0x80 && is_ascii (drop i s)) ≡ is_ascii s
-
-pub highest_start : {s : List ℕ} → Highest s 0 0
-highest_start = record { within = omega arith; rest = refl }
-
 below_both : (a b c : ℕ) (t : Bool) → (ltb (max a b) c && t) ≡ (ltb a c && (ltb b c && t))
 below_both a b c t =
     whether (ltb a c)
@@ -206,15 +224,15 @@ below_both a b c t =
     (λ q. rw (p, q, le-ltb (max a b) c (omega (arith, ltb-false b c q)))))
     (λ p. rw (p, le-ltb (max a b) c (omega (arith, ltb-false a c p))))
 
-module _ {s : List ℕ} {highest i : ℕ} (before : Highest s highest i) where
-  pub highest_goes : {x : ℕ} → i < length s → x ≡ max highest (get_or s i 0) → Highest s x (i + 1)
-  unfolding is_ascii
-  highest_goes {x} h e = record { within = omega arith; rest = rw e (below_both highest (get_or s i 0) 0x80 (is_ascii (drop (i + 1) s)) ∙ (rw (from s i h) at before.rest)) }
+-- a text is ASCII alone where its highest byte is below 0x80; a is the highest of what stands before it
+highest_of : (a : ℕ) (s : List ℕ) → ltb (fold max a s) 0x80 ≡ (ltb a 0x80 && is_ascii s)
+unfolding is_ascii
+highest_of a [] = and_true (ltb a 0x80)
+  where
+    and_true : (t : Bool) → t ≡ (t && true)
+    and_true true = refl
+    and_true false = refl
+highest_of a (b ∷ s) = highest_of (max a b) s ∙ below_both a b 0x80 (is_ascii s)
 
-  pub highest_ends : length s ≤ i → ltb highest 0x80 ≡ is_ascii s
-  unfolding is_ascii
-  highest_ends h = and_true (ltb highest 0x80) ∙ (rw (drop_of_length-le s h) at before.rest)
-    where
-      and_true : (t : Bool) → t ≡ (t && true)
-      and_true true = refl
-      and_true false = refl
+pub highest_ascii : (s : List ℕ) → ltb (fold max 0 s) 0x80 ≡ is_ascii s
+highest_ascii s = highest_of 0 s

@@ -1,5 +1,7 @@
 pub mod Form
+pub mod Forms
 pub mod Kind
+pub mod Kinds
 pub mod Refusal
 pub mod Text
 pub mod Table

@@ -2,25 +2,25 @@
 ghost use Rattle.std.specs.Prelude.{◌≡◌};
 ghost use Rattle.syntax.specs.Refusal.{refusal_number};
 
-// Why a rule, its tables or a board image is turned away.
-#[derive(Clone, Copy)]
+// Why a rule, its tables or a board image is turned away, with the number by which it is known.
+#[derive(Clone, Copy, PartialEq, Eq, Debug)]
 pub enum Refusal {
-    RuleTooLong,
-    RuleNotUtf8,
-    TableTooShort,
-    TooManyOpeners,
-    ImageBadSections,
-    ImageBadStrings,
-    ImageBadRecords,
-    CollectionTooShort,
-    ParseErrors,
-    WhereOnNoCollection,
-    QuantifierOnNoCollection,
-    CountOnNoCollection,
-    FeaturesOnNoComponents,
-    DiagnosticsOnNoDiagnostics,
-    ComparisonNotCountable,
-    IntegerTooLarge,
+    RuleTooLong = 1,
+    RuleNotUtf8 = 2,
+    TableTooShort = 3,
+    TooManyOpeners = 4,
+    ImageBadSections = 5,
+    ImageBadStrings = 6,
+    ImageBadRecords = 7,
+    CollectionTooShort = 8,
+    ParseErrors = 9,
+    WhereOnNoCollection = 10,
+    QuantifierOnNoCollection = 11,
+    CountOnNoCollection = 12,
+    FeaturesOnNoComponents = 13,
+    DiagnosticsOnNoDiagnostics = 14,
+    ComparisonNotCountable = 15,
+    IntegerTooLarge = 16,
 }
 
 // What a check says.
@@ -30,26 +30,17 @@ pub enum Check {
     Refused(Refusal),
 }
 
+impl From<Refusal> for u32 {
+    ghost from_gives = { λ refusal n. n ≡ refusal_number refusal };
+
+    fn from(refusal: Refusal) -> u32 {
+        refusal as u32
+    }
+}
+
 // The number by which a refusal is known.
 pub fn number(r: Refusal) -> u32
     ensures { result ≡ refusal_number r }
 {
-    match r {
-        Refusal::RuleTooLong => 1,
-        Refusal::RuleNotUtf8 => 2,
-        Refusal::TableTooShort => 3,
-        Refusal::TooManyOpeners => 4,
-        Refusal::ImageBadSections => 5,
-        Refusal::ImageBadStrings => 6,
-        Refusal::ImageBadRecords => 7,
-        Refusal::CollectionTooShort => 8,
-        Refusal::ParseErrors => 9,
-        Refusal::WhereOnNoCollection => 10,
-        Refusal::QuantifierOnNoCollection => 11,
-        Refusal::CountOnNoCollection => 12,
-        Refusal::FeaturesOnNoComponents => 13,
-        Refusal::DiagnosticsOnNoDiagnostics => 14,
-        Refusal::ComparisonNotCountable => 15,
-        Refusal::IntegerTooLarge => 16,
-    }
+    r as u32
 }

@@ -1,12 +1,9 @@
 // UTF-8: whether bytes are a well-formed text. Most texts are ASCII alone, which one quick pass tells; any other is read byte by byte, with
 // nothing kept but what the next byte must be.
-ghost use Rattle.std.specs.Prelude.{◌≡◌, ◌<◌, max};
+ghost use Rattle.std.specs.Prelude.{◌≡◌, max};
+ghost use Rattle.std.specs.List.{fold};
 ghost use Rattle.syntax.specs.Utf8.{utf8, is_ascii};
-ghost use Rattle.syntax.specs.Utf8Scan.{Steps, lead_count, lead_low, lead_high};
-ghost use Rattle.syntax.specs.Utf8Scan as meant;
-
-// A count that says: no byte can mend what was read.
-const ILL: u8 = 4;
+ghost use Rattle.syntax.specs.Utf8Scan.{Steps};
 
 // What the bytes read so far ask of the next ones: how many must come to end a character, and the range of the first of them.
 #[derive(Clone, Copy)]
@@ -16,149 +13,84 @@ struct Pending {
     high: u8,
 }
 
+// Nothing: a character may begin.
+const NOTHING: Pending = Pending {
+    count: 0,
+    low: 0,
+    high: 0,
+};
+
 // Whether the bytes are UTF-8.
 pub fn is_utf8(s: &[u8]) -> bool
     ensures { result ≡ utf8 s.now }
 {
-    if is_ascii(s) {
-        return true;
-    }
-    is_well_formed(s)
+    is_ascii(s) || is_well_formed(s)
 }
 
-// Whether the bytes are ASCII alone. The loop goes to the end in any case, so that the compiler takes many bytes at once.
+// Whether the bytes are ASCII alone. All are looked at in any case, so that the compiler takes many at once.
 pub fn is_ascii(s: &[u8]) -> bool
     ensures { result ≡ is_ascii s.now }
 {
-    let mut highest = 0;
-    let mut i = 0;
-    while i < s.len() {
-        highest = larger(highest, s[i]);
-        i += 1;
-    }
-    highest < 0x80
+    highest(s) < 0x80
 }
 
-fn larger(a: u8, b: u8) -> u8
-    ensures { result ≡ max a b }
+fn highest(s: &[u8]) -> u8
+    ensures { result ≡ fold max 0 s.now }
 {
-    if a < b {
-        return b;
-    }
-    a
+    s.iter().fold(0, |highest: u8, b| highest.max(*b))
 }
 
 // Whether the bytes are UTF-8, byte by byte.
 fn is_well_formed(s: &[u8]) -> bool
     ensures { result ≡ utf8 s.now }
 {
-    let mut n = Pending {
-        count: 0,
-        low: 0,
-        high: 0,
-    };
-    let mut i = 0;
-    while i < s.len() {
-        n = pending_after(n, s[i]);
-        if n.count == ILL {
+    let mut n = NOTHING;
+    for b in s {
+        let Some(after) = pending_after(n, *b) else {
             return false;
-        }
-        i += 1;
+        };
+        n = after;
     }
     n.count == 0
 }
 
-// What is asked after one byte more.
-fn pending_after(n: Pending, b: u8) -> Pending
-    requires { n.count < meant.ILL }
-    ensures { Steps n.count n.low n.high b result.count result.low result.high }
+// What is asked after one byte more; none where no byte can mend what was read.
+fn pending_after(n: Pending, b: u8) -> Option<Pending>
+    ensures { Steps n.count n.low n.high b result }
 {
     if n.count == 0 {
         return lead(b);
     }
-    if b < n.low {
-        return Pending {
-            count: ILL,
-            low: 0,
-            high: 0,
-        };
+    if b < n.low || n.high < b {
+        return None;
     }
-    if n.high < b {
-        return Pending {
-            count: ILL,
-            low: 0,
-            high: 0,
-        };
-    }
-    Pending {
+    Some(Pending {
         count: n.count - 1,
         low: 0x80,
         high: 0xBF,
+    })
+}
+
+// What a first byte asks: the rows of Table 3-7.
+fn lead(b: u8) -> Option<Pending>
+    ensures { Steps 0 0 0 b result }
+{
+    match b {
+        0x00..=0x7F => Some(NOTHING),
+        0xC2..=0xDF => Some(asks(1, 0x80, 0xBF)),
+        0xE0 => Some(asks(2, 0xA0, 0xBF)),
+        0xE1..=0xEC => Some(asks(2, 0x80, 0xBF)),
+        0xED => Some(asks(2, 0x80, 0x9F)),
+        0xEE..=0xEF => Some(asks(2, 0x80, 0xBF)),
+        0xF0 => Some(asks(3, 0x90, 0xBF)),
+        0xF1..=0xF3 => Some(asks(3, 0x80, 0xBF)),
+        0xF4 => Some(asks(3, 0x80, 0x8F)),
+        _ => None,
     }
 }
 
-// What a first byte asks: nothing where it is ASCII, which is told first.
-fn lead(b: u8) -> Pending
-    ensures { Steps 0 0 0 b result.count result.low result.high }
+fn asks(count: u8, low: u8, high: u8) -> Pending
+    ensures { result ≡ record { count = count; low = low; high = high } }
 {
-    if b < 0x80 {
-        return Pending {
-            count: 0,
-            low: 0,
-            high: 0,
-        };
-    }
-    Pending {
-        count: lead_count(b),
-        low: lead_low(b),
-        high: lead_high(b),
-    }
-}
-
-// How many bytes must follow a first byte.
-fn lead_count(b: u8) -> u8
-    ensures { result ≡ lead_count b }
-{
-    if b < 0x80 {
-        return 0;
-    }
-    if b < 0xC2 {
-        return ILL;
-    }
-    if b < 0xE0 {
-        return 1;
-    }
-    if b < 0xF0 {
-        return 2;
-    }
-    if b < 0xF5 {
-        return 3;
-    }
-    ILL
-}
-
-// The lowest byte that may follow a first byte: above 0x80 where an overlong form would begin.
-fn lead_low(b: u8) -> u8
-    ensures { result ≡ lead_low b }
-{
-    if b == 0xE0 {
-        return 0xA0;
-    }
-    if b == 0xF0 {
-        return 0x90;
-    }
-    0x80
-}
-
-// The highest byte that may follow a first byte: below 0xBF where a surrogate or what is above U+10FFFF would begin.
-fn lead_high(b: u8) -> u8
-    ensures { result ≡ lead_high b }
-{
-    if b == 0xED {
-        return 0x9F;
-    }
-    if b == 0xF4 {
-        return 0x8F;
-    }
-    0xBF
+    Pending { count, low, high }
 }

@@ -1,15 +1,18 @@
--- `utf8::pending_after` steps by one byte, in one of the four ways. Assumes nothing.
-use Rattle.syntax.proofs.Utf8Laws.{first_steps, low_steps, high_steps, in_steps}
+-- `utf8::pending_after` steps by one byte: a first byte, one outside its range, or one within. Assumes nothing.
+use Rattle.syntax.specs.Utf8Scan.{pending}
+use Rattle.syntax.proofs.Utf8Laws.{low_steps, high_steps, in_steps}
+use Rattle.syntax.proofs.utf8.pending_after.Goals.{then-b-n-via-then-b-n, then-b-n-via-else-b-n+then-n-b}
 use Rattle.syntax.proofs.utf8.pending_after.Goals as goal
 
 pub returns-then-n-eq0 : goal.returns-then-n-eq0
-returns-then-n-eq0 c = first_steps c.if-n-eq0.true c.lead.ensures
+unfolding pending
+returns-then-n-eq0 c = rw c.if-n-eq0.true c.lead.ensures
 
 pub returns-then-b-n : goal.returns-then-b-n
-returns-then-b-n c = low_steps c.if-n-eq0.false c.if-b-n.true
-
-pub returns-then-n-b : goal.returns-then-n-b
-returns-then-n-b c = high_steps c.if-n-eq0.false c.if-n-b.true
+returns-then-b-n c = elim c.then-b-n.branch [
+  | then-b-n-via-then-b-n w ↦ low_steps c.args.n.high c.if-n-eq0.false w.if-b-n.true
+  | then-b-n-via-else-b-n+then-n-b w ↦ high_steps c.args.n.low c.if-n-eq0.false w.if-n-b.true
+]
 
 pub returns : goal.returns
-returns c = in_steps c.if-n-eq0.false c.requires c.if-b-n.false c.if-n-b.false
+returns c = in_steps c.if-n-eq0.false c.if-b-n.false c.if-n-b.false
