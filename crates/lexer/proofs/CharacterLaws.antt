@@ -7,6 +7,7 @@ use native.Mathlib.Omega.{arith}
 use borrow.Author.Tests.{ltb-true, ltb-false, le-leb, lt-leb, ne_eqb, not-true}
 use lib.Dec.{T, eqb, leb, ltb, leb→le, ltb→lt}
 use lib.ListN.{length, take, drop}
+use Rattle.syntax.specs.Kinds.{number}
 use Rattle.syntax.specs.Kind.{ERROR}
 use Rattle.syntax.specs.Text.{ascii, is, same}
 use Rattle.syntax.specs.Utf8.{Range, Row, within, After, ill, needs, table, after_in, after, well_from, utf8, in_ranges, is_character}
@@ -199,7 +200,7 @@ module _ (b : ℕ) (s : List ℕ) (h : T (utf8 (b ∷ s))) where
   token_character Word e x q = rw (word_kind_lem (b ∷ x))
   token_character Character e x q = let f = first b s h in rw (f.asks, is_character, ← q) (whole s f.rest f.trails f.well).ranges
   token_character Quoted e x q = refl
-  token_character (Operator k m) e [] q = rw (ascii_after alone alone_ascii b s h (rw e), is_character) (or-true (not (eqb k ERROR)))
+  token_character (Operator k m) e [] q = rw (ascii_after alone alone_ascii b s h (rw e), is_character) (or-true (not (eqb (number k) ERROR)))
   token_character (Operator k m) e (c ∷ x) q = rw (ne_eqb (length (b ∷ c ∷ x)) 1 (λ z. omega arith), rw e at pair_kind)
   token_character (Symbol k) e x q = rw (rw e at pair_kind)
 

@@ -5,9 +5,12 @@ use mathlib.Core.List.{List, [], ◌∷◌}
 use Prim.Native.Nat.{ℕ, zero, suc, ◌+◌, ◌≤◌, ◌<◌, zero-le}
 use borrow.Author.Tests.{le-ltb}
 use native.Mathlib.Omega.{arith}
+use Rattle.syntax.specs.Kinds.{number}
 use lib.Dec.{eqb, ltb}
 use lib.ListN.{length, take, drop, get_or, length-drop}
-use Rattle.syntax.specs.Kind.{IDENT, DOT, R_PAREN, EQ_EQ, NEQ, GE, GT, LE, LT, COMMA, AND_KW, OR_KW, NOT_KW, ERROR}
+use Rattle.syntax.specs.Kind.{IDENT, AND_KW, OR_KW, NOT_KW}
+use Rattle.syntax.specs.declared.kind.Kind.{Kind}
+use Rattle.syntax.specs.declared.kind.Kind.TheVariants.{Dot, RParen, EqEq, Neq, Ge, Gt, Le, Lt, Comma, Error}
 use Rattle.syntax.specs.Text.{ascii, is, same}
 use Rattle.syntax.proofs.BoolLaws.{both, whether, one_small}
 use Rattle.syntax.proofs.TextLaws.{from}
@@ -46,10 +49,10 @@ module _ {b c : ℕ} {w : List ℕ} where
   pick true p q = p refl
   pick false p q = q
 
-  operator_opens : (k m : ℕ) → is_opener k ≡ false → is_opener m ≡ false → Opens b c w (Operator k m)
+  operator_opens : (k m : Kind) → is_opener (number k) ≡ false → is_opener (number m) ≡ false → Opens b c w (Operator k m)
   operator_opens k m p q = record { opens = go (eqb (length (b ∷ w)) 1) }
     where
-      go : (t : Bool) → is_opener (cond t k m) ≡ true → openers_at b c ≡ 1
+      go : (t : Bool) → is_opener (cond t (number k) (number m)) ≡ true → openers_at b c ≡ 1
       go true h = absurd (false≢true (cc))
       go false h = absurd (false≢true (cc))
 
@@ -61,14 +64,14 @@ module _ {b c : ℕ} {w : List ℕ} where
   shape_opens word =
       pick (is_blank b) (λ e. never_opens Blanks refl)
       (pick (is "'" b) (λ e. never_opens Quoted refl)
-      (pick (is "." b) (λ e. never_opens (Symbol DOT) refl)
+      (pick (is "." b) (λ e. never_opens (Symbol Dot) refl)
       (pick (is "(" b) (λ e. record { opens = λ h. rw e })
-      (pick (is ")" b) (λ e. never_opens (Symbol R_PAREN) refl)
-      (pick (is "," b) (λ e. never_opens (Symbol COMMA) refl)
-      (pick (is "=" b) (λ e. operator_opens ERROR EQ_EQ refl refl)
-      (pick (is "!" b) (λ e. operator_opens ERROR NEQ refl refl)
-      (pick (is ">" b) (λ e. operator_opens GT GE refl refl)
-      (pick (is "<" b) (λ e. operator_opens LT LE refl refl)
+      (pick (is ")" b) (λ e. never_opens (Symbol RParen) refl)
+      (pick (is "," b) (λ e. never_opens (Symbol Comma) refl)
+      (pick (is "=" b) (λ e. operator_opens Error EqEq refl refl)
+      (pick (is "!" b) (λ e. operator_opens Error Neq refl refl)
+      (pick (is ">" b) (λ e. operator_opens Gt Ge refl refl)
+      (pick (is "<" b) (λ e. operator_opens Lt Le refl refl)
       (pick (is_ascii_digit b) (λ e. never_opens Digits refl)
       (pick (is_ident_start b) (λ e. word) (never_opens Character refl))))))))))))
 

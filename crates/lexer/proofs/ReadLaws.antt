@@ -13,11 +13,11 @@ use Rattle.syntax.specs.Utf8.{utf8}
 use Rattle.syntax.specs.declared.refusal.Refusal.{Refusal}
 use Rattle.syntax.proofs.BoolLaws.{neither}
 use Rattle.syntax.proofs.TableLaws.{sets_append, sets_front}
-use Rattle.syntax.specs.declared.refusal.Check.{Check}
-use Rattle.lexer.specs.declared.Lexed.{Lexed}
+use Rattle.syntax.specs.Refusal.{Check}
+use Rattle.std.specs.Prelude.{Ok, Err}
 use Rattle.lexer.specs.Lex.{Token, past, lex_from, lex, token_rows, is_opener, openers_in}
 use Rattle.lexer.specs.LexScan.{TokenAt}
-use Rattle.lexer.specs.Read.{MAX_RULE, TOKEN_ROW, tokens_short, tables_short, check_rule, check_room, tokens_read, Reads}
+use Rattle.lexer.specs.Read.{Lexed, MAX_RULE, TOKEN_ROW, tokens_short, tables_short, check_rule, check_room, tokens_read, Reads}
 use Rattle.lexer.proofs.LexLaws.{lex_nil}
 
 -- n openers are found among the tokens up to `at`
@@ -99,16 +99,16 @@ written_end {rule} {t₀} {t} {at} {n} w h room =
     let few : length (token_rows 0 (lex rule)) ≤ length t₀ = omega (arith, token_rows_length 0 (lex rule), w.count, w.fewer, w.within) in
     (omega (arith, w.count), sym (rw z) ∙ w.rows ∙ sets_front (token_rows 0 (lex rule)) t₀ few)
 
-never : {r : Refusal} → Check.Refused r ≡ Check.Passed → ⊥
+never : {r : Refusal} → ◌≡◌ {A = Check} (Err r) (Ok tt) → ⊥
 never e = let z : ◌≡◌ {A = ℕ} 0 1 = cc in omega arith
 
 -- a test that refuses was not met where the check passed
-not_met : (t : Bool) (r : Refusal) (x : Check) → cond t (Check.Refused r) x ≡ Check.Passed → (t ≡ false) × (x ≡ Check.Passed)
+not_met : (t : Bool) (r : Refusal) (x : Check) → cond t (Err r) x ≡ Ok tt → (t ≡ false) × (x ≡ Ok tt)
 not_met true r x e = absurd (never e)
 not_met false r x e = (refl, e)
 
 -- what `check_rule` passes has lengths that refusals 1 and 3 pass
-pub passed_lengths : (rule : List ℕ) (tokens tree errors : ℕ) → check_rule rule tokens tree errors ≡ Check.Passed
+pub passed_lengths : (rule : List ℕ) (tokens tree errors : ℕ) → check_rule rule tokens tree errors ≡ Ok tt
     → (ltb MAX_RULE (length rule) ≡ false) × (tables_short (length rule) tokens tree errors ≡ false)
 unfolding check_rule
 passed_lengths rule tokens tree errors e =
@@ -117,18 +117,18 @@ passed_lengths rule tokens tree errors e =
     (long.0, (not_met (tables_short (length rule) tokens tree errors) _ _ utf.1).0)
 
 -- so `lex` has room for it
-pub passed_has_room : (rule : List ℕ) (tokens tree errors : ℕ) → check_rule rule tokens tree errors ≡ Check.Passed → check_room rule tokens ≡ Check.Passed
+pub passed_has_room : (rule : List ℕ) (tokens tree errors : ℕ) → check_rule rule tokens tree errors ≡ Ok tt → check_room rule tokens ≡ Ok tt
 unfolding check_room
 passed_has_room rule tokens tree errors e =
     let l = passed_lengths rule tokens tree errors e in
     rw (l.0, (neither (tokens_short (length rule) tokens) _ l.1).0)
 
 -- a check that passed reads as another that passed does, and one that refused gives its refusal and leaves the table
-pub passed_reads : {k m : Check} {rule before after : List ℕ} {r : Lexed} → k ≡ Check.Passed → m ≡ Check.Passed
+pub passed_reads : {k m : Check} {rule before after : List ℕ} {r : Lexed} → k ≡ Ok tt → m ≡ Ok tt
     → Reads m rule before after r → Reads k rule before after r
 passed_reads p q h = rw p (rw q at h)
 
-pub refused_reads : {k : Check} {rule before : List ℕ} {r : Refusal} → k ≡ Check.Refused r → Reads k rule before before (Lexed.Refused r)
+pub refused_reads : {k : Check} {rule before : List ℕ} {r : Refusal} → k ≡ Err r → Reads k rule before before (Err r)
 refused_reads e = rw e record { answer = refl; table = refl }
 
 -- a rule has no more tokens than bytes
@@ -143,11 +143,11 @@ unfolding lex
 lex_length s = lex_from_length s 0
 
 -- a number of tokens that was given is at most the most bytes of a rule
-pub tokens_few : (rule : List ℕ) (tokens tree errors n : ℕ) → Lexed.Tokens n ≡ tokens_read (check_rule rule tokens tree errors) rule → n ≤ MAX_RULE
+pub tokens_few : (rule : List ℕ) (tokens tree errors n : ℕ) → Ok n ≡ tokens_read (check_rule rule tokens tree errors) rule → n ≤ MAX_RULE
 tokens_few rule tokens tree errors n e = go (check_rule rule tokens tree errors) refl e
   where
-    go : (k : Check) → check_rule rule tokens tree errors ≡ k → Lexed.Tokens n ≡ tokens_read k rule → n ≤ MAX_RULE
-    go Check.Passed p q =
+    go : (k : Check) → check_rule rule tokens tree errors ≡ k → Ok n ≡ tokens_read k rule → n ≤ MAX_RULE
+    go (Ok tt) p q =
         let same : n ≡ length (lex rule) = cc in
         omega (arith, ltb-false MAX_RULE (length rule) (passed_lengths rule tokens tree errors p).0, lex_length rule)
-    go (Check.Refused r) p q = let z : ◌≡◌ {A = ℕ} 0 1 = cc in omega arith
+    go (Err r) p q = let z : ◌≡◌ {A = ℕ} 0 1 = cc in omega arith

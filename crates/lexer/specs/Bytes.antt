@@ -1,6 +1,6 @@
 -- What lexer.rs asks of one byte. Assumes nothing: these are definitions.
 use Rattle.std.specs.Prelude.{ℕ, Bool, false, cond, ◌&&◌, ◌||◌, eqb, leb}
-use Rattle.syntax.specs.Kind.{DOT, L_PAREN, R_PAREN, EQ_EQ, NEQ, GE, GT, LE, LT, COMMA, ERROR}
+use Rattle.syntax.specs.declared.kind.Kind.TheVariants.{Dot, LParen, RParen, EqEq, Neq, Ge, Gt, Le, Lt, Comma, Error}
 use Rattle.syntax.specs.Text.{is, between}
 use Rattle.lexer.specs.declared.Shape.{Shape}
 use Rattle.lexer.specs.declared.Shape.TheVariants.{Blanks, Quoted, Symbol, Operator, Digits, Word, Character}
@@ -41,14 +41,14 @@ unfolding is_blank is_ascii_digit is_ident_start
 shape_of b =
     cond (is_blank b) Blanks
     (cond (is "'" b) Quoted
-    (cond (is "." b) (Symbol DOT)
-    (cond (is "(" b) (Symbol L_PAREN)
-    (cond (is ")" b) (Symbol R_PAREN)
-    (cond (is "," b) (Symbol COMMA)
-    (cond (is "=" b) (Operator ERROR EQ_EQ)
-    (cond (is "!" b) (Operator ERROR NEQ)
-    (cond (is ">" b) (Operator GT GE)
-    (cond (is "<" b) (Operator LT LE)
+    (cond (is "." b) (Symbol Dot)
+    (cond (is "(" b) (Symbol LParen)
+    (cond (is ")" b) (Symbol RParen)
+    (cond (is "," b) (Symbol Comma)
+    (cond (is "=" b) (Operator Error EqEq)
+    (cond (is "!" b) (Operator Error Neq)
+    (cond (is ">" b) (Operator Gt Ge)
+    (cond (is "<" b) (Operator Lt Le)
     (cond (is_ascii_digit b) Digits
     (cond (is_ident_start b) Word Character)))))))))))
 

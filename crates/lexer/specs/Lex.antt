@@ -1,6 +1,7 @@
 -- lexer.rs `lex`: the tokens of a text, without positions; positions stand in the rows alone. Assumes nothing: these are definitions.
 use Rattle.std.specs.Prelude.{ℕ, zero, suc, ◌+◌, Bool, true, false, cond, ◌||◌, List, [], ◌∷◌, eqb, length, take}
 use Rattle.syntax.specs.Kind.{WHITESPACE, IDENT, STRING_LIT, INT_LIT, L_PAREN, AND_KW, OR_KW, NOT_KW, ERROR}
+use Rattle.syntax.specs.Kinds.{number}
 use Rattle.syntax.specs.Text.{ascii, is, same}
 use Rattle.lexer.specs.declared.Shape.{Shape}
 use Rattle.lexer.specs.declared.Shape.TheVariants.{Blanks, Quoted, Symbol, Operator, Digits, Word, Character}
@@ -44,8 +45,8 @@ word_kind w = cond (same w (ascii "and")) AND_KW (cond (same w (ascii "or")) OR_
 abbrev pub kind_of : Shape → List ℕ → ℕ
 kind_of Blanks w = WHITESPACE
 kind_of Quoted w = STRING_LIT
-kind_of (Symbol k) w = k
-kind_of (Operator k m) w = cond (eqb (length w) 1) k m
+kind_of (Symbol k) w = number k
+kind_of (Operator k m) w = cond (eqb (length w) 1) (number k) (number m)
 kind_of Digits w = INT_LIT
 kind_of Word w = word_kind w
 kind_of Character w = ERROR

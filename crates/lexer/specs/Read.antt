@@ -1,11 +1,11 @@
 -- Reading a rule's tokens: refusals 1 to 4 in their order, or the tokens. Assumes nothing: these are definitions.
-use Rattle.std.specs.Prelude.{ℕ, ◌+◌, ◌*◌, ◌/◌, Bool, cond, not, ◌||◌, List, ◌≡◌, ltb, length}
+use Rattle.std.specs.Prelude.{ℕ, ◌+◌, ◌*◌, ◌/◌, Bool, cond, not, ◌||◌, List, ◌≡◌, ltb, length, Result, Ok, Err}
 use Rattle.syntax.specs.Table.{with_rows}
 use Rattle.syntax.specs.Utf8.{utf8}
 use Rattle.syntax.specs.declared.refusal.Refusal.TheVariants.{RuleTooLong, RuleNotUtf8, TableTooShort, TooManyOpeners}
 use Rattle.lexer.specs.Lex.{lex, token_rows, openers_in}
-use Rattle.syntax.specs.declared.refusal.Check.{Check}
-use Rattle.lexer.specs.declared.Lexed.{Lexed}
+use Rattle.syntax.specs.declared.refusal.Refusal.{Refusal}
+use Rattle.syntax.specs.Refusal.{Check}
 
 -- the most bytes that a rule may have, and the most tokens `(` and `not`
 abbrev pub MAX_RULE : ℕ
@@ -40,26 +40,30 @@ tables_short n tokens tree errors = tokens_short n tokens || (ltb (tree / TREE_R
 unfoldable pub check_rule : List ℕ → ℕ → ℕ → ℕ → Check
 unfolding utf8 lex openers_in
 check_rule rule tokens tree errors =
-    cond (ltb MAX_RULE (length rule)) (Check.Refused RuleTooLong)
-    (cond (not (utf8 rule)) (Check.Refused RuleNotUtf8)
-    (cond (tables_short (length rule) tokens tree errors) (Check.Refused TableTooShort)
-    (cond (ltb MAX_OPENERS (openers_in (lex rule))) (Check.Refused TooManyOpeners) Check.Passed)))
+    cond (ltb MAX_RULE (length rule)) (Err RuleTooLong)
+    (cond (not (utf8 rule)) (Err RuleNotUtf8)
+    (cond (tables_short (length rule) tokens tree errors) (Err TableTooShort)
+    (cond (ltb MAX_OPENERS (openers_in (lex rule))) (Err TooManyOpeners) (Ok tt))))
 
 -- of those, what the lexer by itself cannot do without: refusal 1, and refusal 3 of the token table
 unfoldable pub check_room : List ℕ → ℕ → Check
 check_room rule tokens =
-    cond (ltb MAX_RULE (length rule)) (Check.Refused RuleTooLong)
-    (cond (tokens_short (length rule) tokens) (Check.Refused TableTooShort) Check.Passed)
+    cond (ltb MAX_RULE (length rule)) (Err RuleTooLong)
+    (cond (tokens_short (length rule) tokens) (Err TableTooShort) (Ok tt))
 
--- what is given of a rule after a check: the number of its tokens, or the refusal
+-- what reading a rule gives: the number of its tokens, or the refusal
+abbrev pub Lexed : Type 0
+Lexed = Result ℕ Refusal
+
+-- what is given of a rule after a check
 abbrev pub tokens_read : Check → List ℕ → Lexed
-tokens_read Check.Passed rule = Lexed.Tokens (length (lex rule))
-tokens_read (Check.Refused r) rule = Lexed.Refused r
+tokens_read (Ok tt) rule = Ok (length (lex rule))
+tokens_read (Err r) rule = Err r
 
 -- what the token table then holds, that held t: the rows of the rule's tokens and the rest as it was, or t unaltered
 abbrev pub token_table : Check → List ℕ → List ℕ → List ℕ
-token_table Check.Passed rule t = with_rows (token_rows 0 (lex rule)) t
-token_table (Check.Refused r) rule t = t
+token_table (Ok tt) rule t = with_rows (token_rows 0 (lex rule)) t
+token_table (Err r) rule t = t
 
 -- the answer r and the table after, of reading a rule into a table that held before
 pub record Reads (check : Check) (rule before after : List ℕ) (r : Lexed) : Type 0 where

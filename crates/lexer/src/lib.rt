@@ -6,6 +6,7 @@ pub mod limits;
 ghost use Rattle.std.specs.Prelude.{◌≡◌, cond, ◌&&◌, eqb, leb, ltb, [], ◌∷◌, ◌+◌, ◌*◌, ◌≤◌, ◌<◌, length, drop};
 ghost use Rattle.std.proofs.lemmas.List.Edits.{sets};
 ghost use Rattle.syntax.specs.Table.{with_rows};
+ghost use Rattle.syntax.specs.Kinds.{number};
 ghost use Rattle.lexer.specs.Bytes.{is_blank, is_ascii_whitespace, is_ascii_digit, is_ident_start, is_ident_continue, is_trailing, shape_of, goes_on};
 ghost use Rattle.lexer.specs.Lex.{run, quoted, equals, more, word_kind, kind_of, lex, token_rows, is_opener, openers_in};
 ghost use Rattle.lexer.specs.LexScan.{TokenAt, openers_at};
@@ -13,59 +14,56 @@ ghost use Rattle.lexer.specs.Read.{tables_short, check_rule, check_room, Reads};
 ghost use Rattle.lexer.specs.Read as meant;
 
 use limits::{ERROR_ROW, MAX_OPENERS, MAX_RULE, TOKEN_ROW, TREE_ROW};
-use syntax::refusal::{Check, Refusal};
-use syntax::{kind, text, utf8};
+use syntax::kind::Kind;
+use syntax::refusal::Refusal;
+use syntax::{text, utf8};
 
 const FORM_FEED: u8 = 0x0C;
 
-// What reading a rule's tokens gives: their number, or the refusal.
-#[derive(Clone, Copy)]
-pub enum Lexed {
-    Tokens(usize),
-    Refused(Refusal),
-}
-
 // Refusals 1 to 4, in their order, of a rule and the lengths of the three tables that it is to be read into.
-pub fn check_rule(rule: &[u8], tokens: usize, tree: usize, errors: usize) -> Check
+pub fn check_rule(rule: &[u8], tokens: usize, tree: usize, errors: usize) -> Result<(), Refusal>
     ensures { result ≡ check_rule rule.now tokens tree errors }
 {
     if MAX_RULE < rule.len() {
-        return Check::Refused(Refusal::RuleTooLong);
+        return Err(Refusal::RuleTooLong);
     }
-    if utf8::is_utf8(rule) {
-        if tables_short(rule.len(), tokens, tree, errors) {
-            return Check::Refused(Refusal::TableTooShort);
-        }
-        if too_many_openers(rule) {
-            return Check::Refused(Refusal::TooManyOpeners);
-        }
-        return Check::Passed;
+    if !utf8::is_utf8(rule) {
+        return Err(Refusal::RuleNotUtf8);
     }
-    Check::Refused(Refusal::RuleNotUtf8)
+    if tables_short(rule.len(), tokens, tree, errors) {
+        return Err(Refusal::TableTooShort);
+    }
+    if too_many_openers(rule) {
+        return Err(Refusal::TooManyOpeners);
+    }
+    Ok(())
 }
 
-// Reads the tokens of a rule that `check_rule` passes into the token table; a refusal leaves the table as it is.
-pub fn read_tokens(rule: &[u8], tokens: &mut [u32], tree: usize, errors: usize) -> Lexed
+// Reads the tokens of a rule that `check_rule` passes into the token table, and gives their number; a refusal leaves the table as it is.
+pub fn read_tokens(
+    rule: &[u8],
+    tokens: &mut [u32],
+    tree: usize,
+    errors: usize,
+) -> Result<usize, Refusal>
     ensures { Reads (check_rule rule.now (length tokens.old) tree errors) rule.now tokens.old tokens.new result }
 {
-    match check_rule(rule, tokens.len(), tree, errors) {
-        Check::Refused(r) => Lexed::Refused(r),
-        Check::Passed => lex(rule, tokens),
-    }
+    check_rule(rule, tokens.len(), tree, errors)?;
+    lex(rule, tokens)
 }
 
-// Reads the tokens of any bytes into the token table, a row for each. It refuses only what it has no room for, and then
-// leaves the table as it is.
-pub fn lex(rule: &[u8], tokens: &mut [u32]) -> Lexed
+// Reads the tokens of any bytes into the token table, a row for each, and gives their number. It refuses only what it has no room for, and
+// then leaves the table as it is.
+pub fn lex(rule: &[u8], tokens: &mut [u32]) -> Result<usize, Refusal>
     ensures { Reads (check_room rule.now (length tokens.old)) rule.now tokens.old tokens.new result }
 {
     if MAX_RULE < rule.len() {
-        return Lexed::Refused(Refusal::RuleTooLong);
+        return Err(Refusal::RuleTooLong);
     }
     if tokens.len() / TOKEN_ROW < rule.len() {
-        return Lexed::Refused(Refusal::TableTooShort);
+        return Err(Refusal::TableTooShort);
     }
-    Lexed::Tokens(write_tokens(rule, tokens))
+    Ok(write_tokens(rule, tokens))
 }
 
 // Whether one of the three tables, of so many numbers each, has too few rows for a rule of n bytes. A table of trees or errors
@@ -146,13 +144,10 @@ fn count_openers(rule: &[u8]) -> usize
     n
 }
 
-fn is_opener(kind: u32) -> bool
-    ensures { result ≡ is_opener kind }
+fn is_opener(kind: Kind) -> bool
+    ensures { result ≡ is_opener (number kind) }
 {
-    if kind == kind::L_PAREN {
-        return true;
-    }
-    kind == kind::NOT_KW
+    matches!(kind, Kind::LParen | Kind::NotKw)
 }
 
 // Writes a row for each token, and gives their number.
@@ -165,7 +160,13 @@ fn write_tokens(rule: &[u8], tokens: &mut [u32]) -> usize
     while at < rule.len() {
         let t = token_at(rule, at);
         let end = t.end;
-        put_row(tokens, written * TOKEN_ROW, t.kind, at as u32, end as u32);
+        put_row(
+            tokens,
+            written * TOKEN_ROW,
+            u32::from(t.kind),
+            at as u32,
+            end as u32,
+        );
         at = end;
         written += 1;
     }
@@ -185,14 +186,14 @@ fn put_row(table: &mut [u32], at: usize, kind: u32, first: u32, end: u32)
 // A token that begins at a known place: its kind, and the place past its last byte.
 #[derive(Clone, Copy)]
 struct Token {
-    kind: u32,
+    kind: Kind,
     end: usize,
 }
 
 // The token that begins at `at`.
 fn token_at(rule: &[u8], at: usize) -> Token
     requires { at < length rule.now }
-    ensures { TokenAt rule.now at result.kind result.end }
+    ensures { TokenAt rule.now at (number result.kind) result.end }
 {
     let shape = shape_of(rule[at]);
     let end = token_end(rule, at + 1, shape);
@@ -205,8 +206,8 @@ fn token_at(rule: &[u8], at: usize) -> Token
 enum Shape {
     Blanks,
     Quoted,
-    Symbol(u32),
-    Operator(u32, u32),
+    Symbol(Kind),
+    Operator(Kind, Kind),
     Digits,
     Word,
     Character,
@@ -221,14 +222,14 @@ fn shape_of(b: u8) -> Shape
     }
     match b {
         b'\'' => Shape::Quoted,
-        b'.' => Shape::Symbol(kind::DOT),
-        b'(' => Shape::Symbol(kind::L_PAREN),
-        b')' => Shape::Symbol(kind::R_PAREN),
-        b',' => Shape::Symbol(kind::COMMA),
-        b'=' => Shape::Operator(kind::ERROR, kind::EQ_EQ),
-        b'!' => Shape::Operator(kind::ERROR, kind::NEQ),
-        b'>' => Shape::Operator(kind::GT, kind::GE),
-        b'<' => Shape::Operator(kind::LT, kind::LE),
+        b'.' => Shape::Symbol(Kind::Dot),
+        b'(' => Shape::Symbol(Kind::LParen),
+        b')' => Shape::Symbol(Kind::RParen),
+        b',' => Shape::Symbol(Kind::Comma),
+        b'=' => Shape::Operator(Kind::Error, Kind::EqEq),
+        b'!' => Shape::Operator(Kind::Error, Kind::Neq),
+        b'>' => Shape::Operator(Kind::Gt, Kind::Ge),
+        b'<' => Shape::Operator(Kind::Lt, Kind::Le),
         _ => {
             if is_ascii_digit(b) {
                 return Shape::Digits;
@@ -318,34 +319,34 @@ fn goes_on(shape: Shape, b: u8) -> bool
 }
 
 // The kind of a token of this shape with these bytes.
-fn kind_of(word: &[u8], shape: Shape) -> u32
-    ensures { result ≡ kind_of shape word.now }
+fn kind_of(word: &[u8], shape: Shape) -> Kind
+    ensures { number result ≡ kind_of shape word.now }
 {
     match shape {
-        Shape::Blanks => kind::WHITESPACE,
-        Shape::Quoted => kind::STRING_LIT,
+        Shape::Blanks => Kind::Whitespace,
+        Shape::Quoted => Kind::StringLit,
         Shape::Symbol(k) => k,
         Shape::Operator(alone, paired) => { if word.len() == 1 { alone } else { paired } }
-        Shape::Digits => kind::INT_LIT,
+        Shape::Digits => Kind::IntLit,
         Shape::Word => word_kind(word),
-        Shape::Character => kind::ERROR,
+        Shape::Character => Kind::Error,
     }
 }
 
 // A keyword's kind, or IDENT.
-fn word_kind(word: &[u8]) -> u32
-    ensures { result ≡ word_kind word.now }
+fn word_kind(word: &[u8]) -> Kind
+    ensures { number result ≡ word_kind word.now }
 {
     if text::same(word, b"and") {
-        return kind::AND_KW;
+        return Kind::AndKw;
     }
     if text::same(word, b"or") {
-        return kind::OR_KW;
+        return Kind::OrKw;
     }
     if text::same(word, b"not") {
-        return kind::NOT_KW;
+        return Kind::NotKw;
     }
-    kind::IDENT
+    Kind::Ident
 }
 
 // Whether a byte is a blank that begins a token.

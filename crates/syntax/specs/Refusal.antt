@@ -1,5 +1,5 @@
 -- Document 01, "Turned away, in checking order": the number of each refusal. Assumes nothing: these are definitions.
-use Rattle.std.specs.Prelude.{ℕ}
+use Rattle.std.specs.Prelude.{ℕ, Result}
 use Rattle.syntax.specs.declared.refusal.Refusal.{Refusal}
 use Rattle.syntax.specs.declared.refusal.Refusal.TheVariants.{RuleTooLong, RuleNotUtf8, TableTooShort, TooManyOpeners, ImageBadSections, ImageBadStrings, ImageBadRecords, CollectionTooShort, ParseErrors, WhereOnNoCollection, QuantifierOnNoCollection, CountOnNoCollection, FeaturesOnNoComponents, DiagnosticsOnNoDiagnostics, ComparisonNotCountable, IntegerTooLarge}
 
@@ -36,3 +36,7 @@ refusal_number DiagnosticsOnNoDiagnostics = 14
 refusal_number ComparisonNotCountable = 15
 -- the integer is above 18446744073709551615
 refusal_number IntegerTooLarge = 16
+
+-- what a check says: it is passed, or refuses
+abbrev pub Check : Type 0
+Check = Result (Unit {0}) Refusal

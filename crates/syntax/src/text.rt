@@ -2,7 +2,7 @@
 ghost use Rattle.std.specs.Prelude.{◌≡◌};
 ghost use Rattle.syntax.specs.Text.{same, bytes_between};
 
-// Whether two texts have the same bytes.
+// Whether two texts have the same bytes. It takes a literal as it stands, where `==` asks for a slice of it.
 pub fn same(a: &[u8], b: &[u8]) -> bool
     ensures { result ≡ same a.now b.now }
 {

@@ -1,7 +1,7 @@
 -- `lex` meets its contract, test by test. Assumes nothing.
 use mathlib.Core.Path.{refl, ap}
 use borrow.Author.Tests.{lt-ltb, le-ltb}
-use Rattle.lexer.specs.declared.Lexed.{Lexed}
+use Rattle.std.specs.Prelude.{Ok}
 use Rattle.lexer.specs.Read.{check_room}
 use Rattle.lexer.proofs.lex.Goals as goal
 
@@ -15,4 +15,4 @@ returns-then-tokens-rule c = rw (le-ltb _ _ c.if-rule-gt-MAX_RULE.false, lt-ltb 
 
 pub returns : goal.returns
 unfolding check_room
-returns c = rw (le-ltb _ _ c.if-rule-gt-MAX_RULE.false, le-ltb _ _ c.if-tokens-rule.false) record { answer = ap Lexed.Tokens c.write_tokens.ensures.0; table = c.write_tokens.ensures.1 }
+returns c = rw (le-ltb _ _ c.if-rule-gt-MAX_RULE.false, le-ltb _ _ c.if-tokens-rule.false) record { answer = ap Ok c.write_tokens.ensures.0; table = c.write_tokens.ensures.1 }

@@ -1,13 +1,10 @@
 -- `read_tokens` gives what `lex` gives of a rule that passed, and the refusal of another. Assumes nothing.
 use mathlib.Core.Path.{sym, ◌∙◌}
 use lib.ListN.{length}
-use Rattle.lexer.proofs.ReadLaws.{passed_has_room, passed_reads, refused_reads}
+use Rattle.lexer.proofs.ReadLaws.{passed_has_room, passed_reads}
 use Rattle.lexer.proofs.read_tokens.Goals as goal
 
-pub returns-in-Refused : goal.returns-in-Refused
-returns-in-Refused c = refused_reads (sym c.check_rule.ensures ∙ c.in-Refused.is)
-
-pub returns-in-Passed : goal.returns-in-Passed
-returns-in-Passed c =
-    let e = sym c.check_rule.ensures ∙ c.in-Passed.is in
+pub returns : goal.returns
+returns c =
+    let e = sym c.check_rule.ensures ∙ c.in_ok-check_rule.was {u = tt} in
     passed_reads e (passed_has_room c.args.rule.now (length c.args.tokens.now) c.args.tree c.args.errors e) c.lex.ensures

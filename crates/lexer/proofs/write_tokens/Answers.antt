@@ -13,7 +13,7 @@ pub loop-at-smaller : goal.loop-at-smaller
 loop-at-smaller c = omega (arith, c.token_at-t.ensures.longer)
 
 pub loop-at-preserved : goal.loop-at-preserved
-loop-at-preserved c = written_step c.token_at-t.ensures c.loop-at.invariant c.put_row.ensures
+loop-at-preserved c = written_step c.token_at-t.ensures c.loop-at.invariant (rw c.from.ensures at c.put_row.ensures)
 
 pub shape_of-tokens : goal.shape_of-tokens
 shape_of-tokens c = c.loop-at.invariant.long
