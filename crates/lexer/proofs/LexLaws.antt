@@ -1,12 +1,13 @@
 -- Laws of the lexer's definitions: token by token, tiling, joints. Assumes nothing.
 use mathlib.Core.Path.{◌≡◌, refl, sym, ap, ◌∙◌}
 use mathlib.Core.Bool.{Bool, true, false, ◌&&◌, and_assoc}
+use mir.Val.{bool_byte}
 use mathlib.Core.List.{List, [], ◌∷◌, ◌++◌, append_assoc}
 use Prim.Native.Nat.{ℕ, zero, suc, ◌+◌, ◌-◌, ◌≤◌, ◌<◌, zero-le, suc-le-suc}
 use native.Mathlib.Nat.{le_of_suc-le-suc, not-suc-le-zero}
 use native.Mathlib.Omega.{arith}
 use lib.Dec.{T}
-use lib.ListN.{length, take, drop, get_or, take-append-drop, length-drop}
+use lib.ListN.{drop, get_or, length, length-drop, length-take, take, take-append-drop}
 use lib.Seq.{drop-drop, take-append-le}
 use Rattle.syntax.specs.Kind.{DOT, L_PAREN, R_PAREN}
 use Rattle.syntax.specs.Text.{is}
@@ -15,6 +16,9 @@ use Rattle.syntax.proofs.TextLaws.{from}
 use Rattle.lexer.specs.declared.Shape.{Shape}
 use Rattle.lexer.specs.declared.Shape.TheVariants.{Blanks, Quoted, Symbol, Operator, Digits, Word, Character}
 use Rattle.lexer.specs.Bytes.{shape_of, goes_on, is_ascii_whitespace, is_ascii_digit, is_ident_continue, is_trailing}
+use Rattle.std.specs.Prelude.{position, ◌==◌, Option, Some, None, cond, min, eqb, ltb}
+use borrow.Author.Tests.{ltb-true, ltb-false}
+use Rattle.std.specs.List.{take_while, prefix_len, position_or_len}
 use Rattle.lexer.specs.Lex.{Token, run, quoted, equals, more, kind_of, past, token, lex_from, lex}
 use Rattle.lexer.specs.Tokens.{joined, has_quote, is_closed, closed}
 use Rattle.lexer.specs.LexScan.{TokenAt}
@@ -256,3 +260,50 @@ pub closed_append : (x y : List Token) → closed (x ++ y) ≡ closed x && close
 unfolding closed
 closed_append [] y = refl
 closed_append (t ∷ x) y = rw (closed_append x y) (sym (and_assoc (is_closed t) (closed x) (closed y)))
+
+-- what the library's words for a run and a place say of `run` and `quoted`
+prefix_run : (p : ℕ → Bool) (s : List ℕ) → prefix_len p s ≡ run p s
+unfolding run
+prefix_run p [] = refl
+prefix_run p (b ∷ s) =
+    let ih = prefix_run p s in
+    whether (p b) (λ e. let z : 1 + prefix_len p s ≡ run p (b ∷ s) = omega (arith, ih, run_true p b s e) in rw e z) (λ e. let z = run_false p b s e in rw e (rw z))
+
+pub run_length : (p : ℕ → Bool) (s : List ℕ) → length (take_while p s) ≡ run p s
+run_length p s = simp length-take (omega (arith, prefix_run p s, run_le p s))
+
+-- one byte more than stand before the first quote, or all
+quoted_prefix : (s : List ℕ) → quoted s ≡ min (position_or_len (λ b. b == 39) s + 1) (length s)
+unfolding quoted
+quoted_prefix [] = refl
+quoted_prefix (b ∷ s) = let ih = quoted_prefix s in whether (is "'" b) (λ e. let q = quoted_true b s e in rw e (omega (arith, q))) (λ e. let q = quoted_false b s e in rw e (omega (arith, ih, q)))
+
+pub quoted_some : (s : List ℕ) {k : ℕ} → position (λ b. b == 39) s ≡ Some k → k + 1 ≡ quoted s
+quoted_some s {k} e =
+    let n = position_or_len (λ (b : ℕ). b == 39) s in
+    whether (ltb n (length s))
+    (λ t. let f : ◌≡◌ {A = Option ℕ} (Some n) (Some k) = rw t at e in let m : n ≡ k = cc in omega (arith, quoted_prefix s, ltb-true n (length s) t))
+    (λ t. let f : ◌≡◌ {A = Option ℕ} None (Some k) = rw t at e in cc)
+
+pub quoted_none : (s : List ℕ) → position (λ b. b == 39) s ≡ None → length s ≡ quoted s
+quoted_none s e =
+    let n = position_or_len (λ (b : ℕ). b == 39) s in
+    whether (ltb n (length s))
+    (λ t. let f : ◌≡◌ {A = Option ℕ} (Some n) None = rw t at e in cc)
+    (λ t. omega (arith, quoted_prefix s, ltb-false n (length s) t))
+
+-- what `equals` says, by the first byte
+pub equals_empty : (s : List ℕ) → length s ≡ 0 → 0 ≡ equals s
+unfolding equals
+equals_empty [] e = refl
+equals_empty (b ∷ s) e = absurd (omega arith)
+
+pub equals_first : (s : List ℕ) → 0 < length s → cond (eqb (get_or s 0 0) 61) 1 0 ≡ equals s
+unfolding equals
+equals_first [] h = absurd (omega arith)
+equals_first (b ∷ s) h = refl
+
+-- a test as a number
+pub byte_is : (t : Bool) → bool_byte t ≡ cond t 1 0
+byte_is true = refl
+byte_is false = refl

@@ -3,12 +3,13 @@
 
 pub mod limits;
 
-ghost use Rattle.std.specs.Prelude.{◌≡◌, cond, ◌&&◌, eqb, leb, ltb, [], ◌∷◌, ◌+◌, ◌*◌, ◌≤◌, ◌<◌, length, drop};
+ghost use Rattle.std.specs.Prelude.{◌≡◌, cond, ◌&&◌, eqb, leb, ltb, [], ◌∷◌, ◌+◌, ◌*◌, ◌≤◌, ◌<◌, length, drop, position, ◌==◌};
+ghost use Rattle.std.specs.List.{take_while};
 ghost use Rattle.std.proofs.lemmas.List.Edits.{sets};
 ghost use Rattle.syntax.specs.Table.{with_rows};
 ghost use Rattle.syntax.specs.Kinds.{number};
 ghost use Rattle.lexer.specs.Bytes.{is_blank, is_ascii_whitespace, is_ascii_digit, is_ident_start, is_ident_continue, is_trailing, shape_of, goes_on};
-ghost use Rattle.lexer.specs.Lex.{run, quoted, equals, more, word_kind, kind_of, lex, token_rows, is_opener, openers_in};
+ghost use Rattle.lexer.specs.Lex.{quoted, equals, more, word_kind, kind_of, lex, token_rows, is_opener, openers_in};
 ghost use Rattle.lexer.specs.LexScan.{TokenAt, openers_at};
 ghost use Rattle.lexer.specs.Read.{tables_short, check_rule, check_room, Reads};
 ghost use Rattle.lexer.specs.Read as meant;
@@ -17,8 +18,6 @@ use limits::{ERROR_ROW, MAX_OPENERS, MAX_RULE, TOKEN_ROW, TREE_ROW};
 use syntax::kind::Kind;
 use syntax::refusal::Refusal;
 use syntax::{text, utf8};
-
-const FORM_FEED: u8 = 0x0C;
 
 // Refusals 1 to 4, in their order, of a rule and the lengths of the three tables that it is to be read into.
 pub fn check_rule(rule: &[u8], tokens: usize, tree: usize, errors: usize) -> Result<(), Refusal>
@@ -71,13 +70,7 @@ pub fn lex(rule: &[u8], tokens: &mut [u32]) -> Result<usize, Refusal>
 pub fn tables_short(n: usize, tokens: usize, tree: usize, errors: usize) -> bool
     ensures { result ≡ tables_short n tokens tree errors }
 {
-    if tokens / TOKEN_ROW < n {
-        return true;
-    }
-    if tree / TREE_ROW / 8 <= n {
-        return true;
-    }
-    errors / ERROR_ROW / 8 <= n
+    tokens / TOKEN_ROW < n || tree / TREE_ROW / 8 <= n || errors / ERROR_ROW / 8 <= n
 }
 
 // Whether more tokens are `(` or `not` than a rule may have. The tokens are read for it only where the bytes leave it open.
@@ -85,10 +78,7 @@ fn too_many_openers(rule: &[u8]) -> bool
     requires { length rule.now ≤ meant.MAX_RULE }
     ensures { result ≡ ltb meant.MAX_OPENERS (openers_in (lex rule.now)) }
 {
-    if rule.len() <= MAX_OPENERS {
-        return false;
-    }
-    if openers_bound(rule) as usize <= MAX_OPENERS {
+    if rule.len() <= MAX_OPENERS || usize::from(openers_bound(rule)) <= MAX_OPENERS {
         return false;
     }
     MAX_OPENERS < count_openers(rule)
@@ -100,10 +90,8 @@ fn openers_bound(rule: &[u8]) -> u16
     ensures { openers_in (lex rule.now) ≤ result }
 {
     let mut n = 1;
-    let mut i = 0;
-    while i + 1 < rule.len() {
+    for i in 0..rule.len().saturating_sub(1) {
         n += openers_at(rule[i], rule[i + 1]);
-        i += 1;
     }
     n
 }
@@ -112,23 +100,10 @@ fn openers_bound(rule: &[u8]) -> u16
 fn openers_at(b: u8, next: u8) -> u16
     ensures { result ≡ openers_at b next }
 {
-    if b == b'n' {
-        return matches(next, b'o');
-    }
-    matches(b, b'(')
+    u16::from(b == b'(' || b == b'n' && next == b'o')
 }
 
-// 1 where two bytes are the same, else 0: a number and no branch, so that many bytes are counted at once.
-fn matches(b: u8, c: u8) -> u16
-    ensures { result ≡ cond (eqb b c) 1 0 }
-{
-    if b == c {
-        return 1;
-    }
-    0
-}
-
-// How many tokens are `(` or `not`.
+// How many tokens are `(` or `not`. A step is as long as a token, so that no range counts it.
 fn count_openers(rule: &[u8]) -> usize
     ensures { result ≡ openers_in (lex rule.now) }
 {
@@ -196,7 +171,7 @@ fn token_at(rule: &[u8], at: usize) -> Token
     ensures { TokenAt rule.now at (number result.kind) result.end }
 {
     let shape = shape_of(rule[at]);
-    let end = token_end(rule, at + 1, shape);
+    let end = at + 1 + more(&rule[at + 1..], shape);
     let kind = kind_of(&rule[at..end], shape);
     Token { kind, end }
 }
@@ -242,65 +217,53 @@ fn shape_of(b: u8) -> Shape
     }
 }
 
-// Where a token of this shape ends whose first byte stands before `from`. Each run has its own arm, so that the shape is asked once.
-fn token_end(rule: &[u8], from: usize, shape: Shape) -> usize
-    requires { from ≤ length rule.now }
-    ensures { result ≡ from + more shape (drop from rule.now) }
+// How many bytes a token of this shape has past its first one; `rest` is what stands after that one. Each run has its own arm, so that the
+// shape is asked once.
+fn more(rest: &[u8], shape: Shape) -> usize
+    ensures { result ≡ more shape rest.now }
 {
     match shape {
-        Shape::Blanks => run_end(rule, from, Shape::Blanks),
-        Shape::Quoted => quote_end(rule, from),
-        Shape::Symbol(_) => from,
-        Shape::Operator(_, _) => equal_end(rule, from),
-        Shape::Digits => run_end(rule, from, Shape::Digits),
-        Shape::Word => run_end(rule, from, Shape::Word),
-        Shape::Character => run_end(rule, from, Shape::Character),
+        Shape::Blanks => run(rest, Shape::Blanks),
+        Shape::Quoted => quoted(rest),
+        Shape::Symbol(_) => 0,
+        Shape::Operator(_, _) => equals(rest),
+        Shape::Digits => run(rest, Shape::Digits),
+        Shape::Word => run(rest, Shape::Word),
+        Shape::Character => run(rest, Shape::Character),
     }
 }
 
-// Where a string literal ends whose opening quote stands before `from`: past the next quote, or with the rule.
-fn quote_end(rule: &[u8], from: usize) -> usize
-    requires { from ≤ length rule.now }
-    ensures { result ≡ from + quoted (drop from rule.now) }
+// How many bytes, from the first on, go on a token of this shape.
+fn run(rest: &[u8], shape: Shape) -> usize
+    ensures { result ≡ length (take_while (goes_on shape) rest.now) }
 {
-    let mut close = from;
-    while close < rule.len() {
-        if rule[close] == b'\'' {
-            return close + 1;
-        }
-        close += 1;
-    }
-    close
+    rest.iter().take_while(|b| goes_on(shape, **b)).count()
 }
 
-// Where an operator ends that may have a `=` at `from`.
-fn equal_end(rule: &[u8], from: usize) -> usize
-    requires { from ≤ length rule.now }
-    ensures { result ≡ from + equals (drop from rule.now) }
+// How many bytes a string literal has past its opening quote: up to the next quote and with it, or all.
+fn quoted(rest: &[u8]) -> usize
+    ensures { result ≡ quoted rest.now }
 {
-    if from < rule.len() {
-        if rule[from] == b'=' {
-            return from + 1;
-        }
-        return from;
+    match find_quote(rest) {
+        Some(close) => close + 1,
+        None => rest.len(),
     }
-    from
 }
 
-// Where a run ends: the bytes from `from` on that go on a token of this shape are in it.
-fn run_end(rule: &[u8], from: usize, shape: Shape) -> usize
-    requires { from ≤ length rule.now }
-    ensures { result ≡ from + run (goes_on shape) (drop from rule.now) }
+fn find_quote(rest: &[u8]) -> Option<usize>
+    ensures { result ≡ position (λ b. b == 39) rest.now }
 {
-    let mut i = from;
-    while i < rule.len() {
-        if goes_on(shape, rule[i]) {
-            i += 1;
-        } else {
-            return i;
-        }
+    rest.iter().position(|b| *b == b'\'')
+}
+
+// 1 where the next byte is `=`, else 0.
+fn equals(rest: &[u8]) -> usize
+    ensures { result ≡ equals rest.now }
+{
+    if rest.is_empty() {
+        return 0;
     }
-    i
+    usize::from(rest[0] == b'=')
 }
 
 // Whether a byte goes on a token of this shape.
@@ -312,9 +275,7 @@ fn goes_on(shape: Shape, b: u8) -> bool
         Shape::Digits => is_ascii_digit(b),
         Shape::Word => is_ident_continue(b),
         Shape::Character => is_trailing(b),
-        Shape::Quoted => false,
-        Shape::Symbol(_) => false,
-        Shape::Operator(_, _) => false,
+        Shape::Quoted | Shape::Symbol(_) | Shape::Operator(_, _) => false,
     }
 }
 
@@ -326,7 +287,8 @@ fn kind_of(word: &[u8], shape: Shape) -> Kind
         Shape::Blanks => Kind::Whitespace,
         Shape::Quoted => Kind::StringLit,
         Shape::Symbol(k) => k,
-        Shape::Operator(alone, paired) => { if word.len() == 1 { alone } else { paired } }
+        Shape::Operator(alone, _) if word.len() == 1 => alone,
+        Shape::Operator(_, paired) => paired,
         Shape::Digits => Kind::IntLit,
         Shape::Word => word_kind(word),
         Shape::Character => Kind::Error,
@@ -350,71 +312,43 @@ fn word_kind(word: &[u8]) -> Kind
 }
 
 // Whether a byte is a blank that begins a token.
+#[tactic(auto, unfolding(crate::specs::Bytes::is_blank))]
 fn is_blank(b: u8) -> bool
     ensures { result ≡ is_blank b }
 {
-    if b == b' ' {
-        return true;
-    }
-    if b == b'\t' {
-        return true;
-    }
-    if b == b'\n' {
-        return true;
-    }
-    b == b'\r'
+    b == b' ' || b == b'\t' || b == b'\n' || b == b'\r'
 }
 
 // Whether a byte goes on a blank run: a form feed does, though it begins none.
 fn is_ascii_whitespace(b: u8) -> bool
     ensures { result ≡ is_ascii_whitespace b }
 {
-    if is_blank(b) {
-        return true;
-    }
-    b == FORM_FEED
+    b.is_ascii_whitespace()
 }
 
 fn is_ascii_digit(b: u8) -> bool
     ensures { result ≡ is_ascii_digit b }
 {
-    is_between(b'0', b'9', b)
+    b.is_ascii_digit()
 }
 
 fn is_ident_start(b: u8) -> bool
     ensures { result ≡ is_ident_start b }
 {
-    if is_between(b'a', b'z', b) {
-        return true;
-    }
-    if is_between(b'A', b'Z', b) {
-        return true;
-    }
-    b == b'_'
+    b.is_ascii_alphabetic() || b == b'_'
 }
 
+#[tactic(auto, unfolding(crate::specs::Bytes::is_ident_continue))]
 fn is_ident_continue(b: u8) -> bool
     ensures { result ≡ is_ident_continue b }
 {
-    if is_ident_start(b) {
-        return true;
-    }
-    is_ascii_digit(b)
+    is_ident_start(b) || is_ascii_digit(b)
 }
 
 // Whether a byte is a trailing byte of a UTF-8 character.
+#[tactic(auto, unfolding(crate::specs::Bytes::is_trailing))]
 fn is_trailing(b: u8) -> bool
     ensures { result ≡ is_trailing b }
 {
-    is_between(0x80, 0xBF, b)
-}
-
-// Whether a byte lies between two bytes, or is one of them.
-fn is_between(low: u8, high: u8, b: u8) -> bool
-    ensures { result ≡ leb low b && leb b high }
-{
-    if b < low {
-        return false;
-    }
-    b <= high
+    0x80 <= b && b <= 0xBF
 }

@@ -1,11 +1,6 @@
 -- `openers_bound` counts byte by byte. Assumes nothing.
-use Prim.Native.Nat.{◌-◌}
-use lib.ListN.{length}
 use Rattle.lexer.proofs.OpenerLaws.{Bounded}
 use Rattle.lexer.proofs.openers_bound.Given as goal
 
 abbrev pub invariant-loop-i : goal.invariant-loop-i
 invariant-loop-i l = Bounded l.rule l.i l.n
-
-abbrev pub decreases-loop-i : goal.decreases-loop-i
-decreases-loop-i l = length l.rule - l.i
