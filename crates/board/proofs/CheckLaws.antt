@@ -3,7 +3,7 @@
 use mathlib.Core.Path.{◌≡◌, refl, sym, ap, ◌∙◌}
 use mathlib.Core.Bool.{Bool, true, false, ◌&&◌}
 use mathlib.Core.List.{List, []}
-use Prim.Native.Nat.{ℕ, suc, ◌+◌, ◌-◌, ◌≤◌, ◌<◌}
+use Prim.Native.Nat.{ℕ, zero, suc, ◌+◌, ◌-◌, ◌≤◌, ◌<◌}
 use native.Mathlib.Nat.{sub-zero}
 use native.Mathlib.Numerals.{add-one}
 use native.Mathlib.Omega.{arith}
@@ -15,6 +15,10 @@ use Rattle.board.specs.declared.image.Section.TheVariants.{Letters}
 use Rattle.board.specs.Image.{section_offset, string_offset, string_length, text}
 use Rattle.board.specs.Check.{laid, each}
 use Rattle.board.specs.CheckScan.{all_below}
+use Rattle.std.specs.Slice.{IsGetRangeResult}
+use Rattle.std.specs.Option.{unwrap_or}
+use Rattle.std.specs.List.{list_all, range_with_len}
+use Rattle.std.proofs.Common.{Option, None, Some, inl, inr, Bor}
 
 -- of `count`, n are passed: one more is left than after the next, or none
 one_more : (n count : ℕ) → n < count → count - n ≡ suc (count - (n + 1))
@@ -78,6 +82,12 @@ module _ {passes : ℕ → Bool} {count n : ℕ} (passing : Passing passes count
   unfolding each
   passing_done h = sym (ap (each passes n) (none_left n count h)) ∙ passing.rest
 
+-- the same by a list of the records
+pub each_of_range : (passes : ℕ → Bool) (n count : ℕ) → list_all passes (range_with_len n count) ≡ each passes n count
+unfolding each
+each_of_range passes n zero = refl
+each_of_range passes n (suc count) = rw (add-one n) (ap (λ (t : Bool). passes n && t) (each_of_range passes (suc n) count))
+
 -- two answers from one pass
 pub both_first : {p : Bool} (q : Bool) → false ≡ p → false ≡ (p && q)
 both_first q e = ap (λ (t : Bool). t && q) e
@@ -110,3 +120,8 @@ module _ (image : List ℕ) (n : ℕ) {letters x y : ℕ} (l : letters ≡ secti
     where
       less : letters + x + y - (letters + x) ≡ y
       less = omega arith
+
+  -- the part that `get` lends, or nothing where there is none
+  pub text_read : (r : Option (Bor (List ℕ))) → IsGetRangeResult image (letters + x) (letters + x + y) r → (none : Bor (List ℕ)) → none.now ≡ [] → (unwrap_or r none).now ≡ text image n
+  text_read None h none z = z ∙ text_outside (elim h.0 [ inl l ↦ absurd (omega arith) | inr l ↦ l ])
+  text_read (Some part) h none z = h.0.2 ∙ text_inside h.0.1

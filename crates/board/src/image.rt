@@ -2,10 +2,11 @@
 // not there is 0 or empty.
 ghost use Rattle.std.specs.Prelude.{◌≡◌, ◌+◌, ◌*◌, ◌<◌, ◌≤◌, length};
 ghost use Rattle.board.specs.Image.{word, section_number, record_size, LARGEST_RECORD, SECTIONS, section_offset, section_length, record_count, field, text};
+ghost use Rattle.board.specs.Image.{category, parent, first_feature, features_of, wired, feature_name, feature_kind, direction, owner, source, target, property_component, property_set, property_name, analysis, severity, message};
 ghost use Rattle.board.specs.Image as meant;
 
 // The sections, in the order in which the image has them.
-#[derive(Clone, Copy)]
+#[derive(Clone, Copy, PartialEq, Eq, Debug)]
 pub enum Section {
     Letters,
     Strings,
@@ -84,6 +85,117 @@ pub fn field(image: &[u8], section: Section, index: u32, number: u32) -> u32
     )
 }
 
+// A component's category.
+pub fn category(image: &[u8], component: u32) -> u32
+    ensures { result ≡ category image.now component }
+{
+    field(image, Section::Components, component, CATEGORY)
+}
+
+// Its parent's number plus 1, or 0 where it has none.
+pub fn parent(image: &[u8], component: u32) -> u32
+    ensures { result ≡ parent image.now component }
+{
+    field(image, Section::Components, component, PARENT)
+}
+
+// The number of its first feature, and how many it has.
+pub fn first_feature(image: &[u8], component: u32) -> u32
+    ensures { result ≡ first_feature image.now component }
+{
+    field(image, Section::Components, component, FIRST_FEATURE)
+}
+
+pub fn features_of(image: &[u8], component: u32) -> u32
+    ensures { result ≡ features_of image.now component }
+{
+    field(image, Section::Components, component, FEATURE_COUNT)
+}
+
+// Its wired mark.
+pub fn wired(image: &[u8], component: u32) -> u32
+    ensures { result ≡ wired image.now component }
+{
+    field(image, Section::Components, component, WIRED)
+}
+
+// The string of a feature's name, its kind and its direction.
+pub fn feature_name(image: &[u8], feature: u32) -> u32
+    ensures { result ≡ feature_name image.now feature }
+{
+    field(image, Section::Features, feature, FEATURE_NAME)
+}
+
+pub fn feature_kind(image: &[u8], feature: u32) -> u32
+    ensures { result ≡ feature_kind image.now feature }
+{
+    field(image, Section::Features, feature, FEATURE_KIND)
+}
+
+pub fn direction(image: &[u8], feature: u32) -> u32
+    ensures { result ≡ direction image.now feature }
+{
+    field(image, Section::Features, feature, DIRECTION)
+}
+
+// The component that owns a connection.
+pub fn owner(image: &[u8], connection: u32) -> u32
+    ensures { result ≡ owner image.now connection }
+{
+    field(image, Section::Connections, connection, OWNER)
+}
+
+// The strings of the features' names at its ends, each plus 1, or 0 where there is no such end.
+pub fn source(image: &[u8], connection: u32) -> u32
+    ensures { result ≡ source image.now connection }
+{
+    field(image, Section::Connections, connection, SOURCE)
+}
+
+pub fn target(image: &[u8], connection: u32) -> u32
+    ensures { result ≡ target image.now connection }
+{
+    field(image, Section::Connections, connection, TARGET)
+}
+
+// The component that has a property, and the strings of the property's set and name.
+pub fn property_component(image: &[u8], property: u32) -> u32
+    ensures { result ≡ property_component image.now property }
+{
+    field(image, Section::Properties, property, PROPERTY_COMPONENT)
+}
+
+pub fn property_set(image: &[u8], property: u32) -> u32
+    ensures { result ≡ property_set image.now property }
+{
+    field(image, Section::Properties, property, PROPERTY_SET)
+}
+
+pub fn property_name(image: &[u8], property: u32) -> u32
+    ensures { result ≡ property_name image.now property }
+{
+    field(image, Section::Properties, property, PROPERTY_NAME)
+}
+
+// The string of a diagnostic's analysis, its severity, and the string of its message.
+pub fn analysis(image: &[u8], diagnostic: u32) -> u32
+    ensures { result ≡ analysis image.now diagnostic }
+{
+    field(image, Section::Diagnostics, diagnostic, ANALYSIS)
+}
+
+pub fn severity(image: &[u8], diagnostic: u32) -> u32
+    ensures { result ≡ severity image.now diagnostic }
+{
+    field(image, Section::Diagnostics, diagnostic, SEVERITY)
+}
+
+pub fn message(image: &[u8], diagnostic: u32) -> u32
+    ensures { result ≡ message image.now diagnostic }
+{
+    field(image, Section::Diagnostics, diagnostic, MESSAGE)
+}
+
 // The text of a string, a part of the image; empty where it does not lie in the image.
 pub fn string(image: &[u8], number: u32) -> &[u8]
     ensures { result.now ≡ text image.now number }
@@ -91,10 +203,7 @@ pub fn string(image: &[u8], number: u32) -> &[u8]
     let letters = section_offset(image, Section::Letters) as usize;
     let from = letters + field(image, Section::Strings, number, STRING_OFFSET) as usize;
     let end = from + field(image, Section::Strings, number, STRING_LENGTH) as usize;
-    if image.len() < end {
-        return &image[0..0];
-    }
-    &image[from..end]
+    image.get(from..end).unwrap_or(&[])
 }
 
 // Where a section begins.
@@ -115,10 +224,7 @@ pub fn section_length(image: &[u8], section: Section) -> u32
 pub fn word(image: &[u8], at: usize) -> u32
     ensures { result ≡ word image.now at }
 {
-    if image.len() < NUMBER_SIZE {
-        return 0;
-    }
-    if image.len() - NUMBER_SIZE < at {
+    if image.len() < NUMBER_SIZE || image.len() - NUMBER_SIZE < at {
         return 0;
     }
     word_at(image, at)
@@ -137,31 +243,14 @@ fn word_at(image: &[u8], at: usize) -> u32
     requires { at + meant.NUMBER_SIZE ≤ length image.now }
     ensures { result ≡ word image.now at }
 {
-    wide(image[at])
-        + 0x100 * wide(image[at + 1])
-        + 0x10000 * wide(image[at + 2])
-        + 0x1000000 * wide(image[at + 3])
-}
-
-fn wide(b: u8) -> u32
-    ensures { (result ≡ b) × (result < 0x100) }
-{
-    b as u32
+    u32::from_le_bytes([image[at], image[at + 1], image[at + 2], image[at + 3]])
 }
 
 // A section's place among the sections, from 0.
 pub fn section_number(section: Section) -> usize
     ensures { (result ≡ section_number section) × (result < SECTIONS) }
 {
-    match section {
-        Section::Letters => 0,
-        Section::Strings => 1,
-        Section::Components => 2,
-        Section::Features => 3,
-        Section::Connections => 4,
-        Section::Properties => 5,
-        Section::Diagnostics => 6,
-    }
+    section as usize
 }
 
 // The bytes of a section's record.

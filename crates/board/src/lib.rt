@@ -4,9 +4,9 @@
 
 pub mod image;
 
-ghost use Rattle.std.specs.Prelude.{◌≡◌, true, ◌+◌, ◌≤◌, length};
+ghost use Rattle.std.specs.Prelude.{◌≡◌, true, ◌+◌, ◌*◌, ◌≤◌, length};
 ghost use Rattle.board.specs.Image.{record_size};
-ghost use Rattle.board.specs.Check.{whole_records, all_whole_records, sections_laid, sections_fit, strings_laid, strings_utf8, strings_fit, components_fit, features_fit, connections_fit, properties_fit, diagnostics_fit, records_fit, collection_short, check_image};
+ghost use Rattle.board.specs.Check.{each, whole_records, all_whole_records, sections_laid, sections_fit, strings_laid, strings_utf8, strings_fit, components_fit, features_fit, connections_fit, properties_fit, diagnostics_fit, records_fit, collection_short, check_image};
 ghost use Rattle.board.specs.CheckScan.{component_at, below_at, all_below};
 ghost use Rattle.board.specs.CheckScan as meant;
 
@@ -41,16 +41,18 @@ const TRIPLE_SIZE: usize = 12;
 const COLLECTION_ROW: usize = 2;
 
 // Refusals 5 to 8, in their order, of an image and the length of the collection table.
+#[tactic(auto, unfolding(crate::specs::Check::check_image))]
 pub fn check_image(image: &[u8], collection: usize) -> Result<(), Refusal>
     ensures { result ≡ check_image image.now collection }
 {
     if !sections_fit(image) {
         return Err(Refusal::ImageBadSections);
     }
-    if !strings_fit(image) {
+    let sectioned = Sectioned { image };
+    if !sectioned.strings_fit() {
         return Err(Refusal::ImageBadStrings);
     }
-    if !records_fit(image) {
+    if !sectioned.records_fit() {
         return Err(Refusal::ImageBadRecords);
     }
     if collection_short(image, collection) {
@@ -60,28 +62,22 @@ pub fn check_image(image: &[u8], collection: usize) -> Result<(), Refusal>
 }
 
 // Whether the image's length, the pairs of its sections and the sections' lengths are as they should be: refusal 5 does not come.
+#[tactic(auto, unfolding(crate::specs::Check::sections_fit))]
 pub fn sections_fit(image: &[u8]) -> bool
     ensures { result ≡ sections_fit image.now }
 {
-    if image.len() < PAIRS_SIZE {
-        return false;
-    }
-    if MAX_IMAGE < image.len() {
-        return false;
-    }
-    if !sections_laid(image) {
-        return false;
-    }
-    all_whole_records(image)
+    PAIRS_SIZE <= image.len()
+        && image.len() <= MAX_IMAGE
+        && sections_laid(image)
+        && all_whole_records(image)
 }
 
 // Whether the sections lie end to end from the pairs' end to the image's.
 fn sections_laid(image: &[u8]) -> bool
     ensures { result ≡ sections_laid image.now }
 {
-    let mut n = 0;
     let mut end = PAIRS_SIZE;
-    while n < SECTIONS {
+    for n in 0..SECTIONS {
         let pair = image::PAIR_SIZE * n;
         let offset = image::word(image, pair) as usize;
         let length = image::word(image, pair + image::NUMBER_SIZE) as usize;
@@ -89,31 +85,21 @@ fn sections_laid(image: &[u8]) -> bool
             return false;
         }
         end = offset + length;
-        n += 1;
     }
     end == image.len()
 }
 
 // Whether each section that has records is whole records.
+#[tactic(auto, unfolding(crate::specs::Check::all_whole_records))]
 fn all_whole_records(image: &[u8]) -> bool
     ensures { result ≡ all_whole_records image.now }
 {
-    if !whole_records(image, Section::Strings) {
-        return false;
-    }
-    if !whole_records(image, Section::Components) {
-        return false;
-    }
-    if !whole_records(image, Section::Features) {
-        return false;
-    }
-    if !whole_records(image, Section::Connections) {
-        return false;
-    }
-    if !whole_records(image, Section::Properties) {
-        return false;
-    }
-    whole_records(image, Section::Diagnostics)
+    whole_records(image, Section::Strings)
+        && whole_records(image, Section::Components)
+        && whole_records(image, Section::Features)
+        && whole_records(image, Section::Connections)
+        && whole_records(image, Section::Properties)
+        && whole_records(image, Section::Diagnostics)
 }
 
 fn whole_records(image: &[u8], section: Section) -> bool
@@ -122,109 +108,132 @@ fn whole_records(image: &[u8], section: Section) -> bool
     image::section_length(image, section) % image::record_size(section) == 0
 }
 
-// Whether the strings lie end to end over the letters and each is UTF-8: refusal 6 does not come. Where the letters are ASCII alone, no
-// string is looked at.
-fn strings_fit(image: &[u8]) -> bool
-    requires { sections_fit image.now ≡ true }
-    ensures { result ≡ strings_fit image.now }
-{
-    if !strings_laid(image) {
-        return false;
-    }
-    let from = image::section_offset(image, Section::Letters) as usize;
-    let end = from + image::section_length(image, Section::Letters) as usize;
-    if utf8::is_ascii(&image[from..end]) {
-        return true;
-    }
-    strings_utf8(image)
+// An image for which refusal 5 does not come: it holds each record that its sections count.
+#[derive(Clone, Copy)]
+struct Sectioned<'a> {
+    image: &'a [u8],
+    ghost fit: { sections_fit image.now ≡ true },
 }
 
-// Whether the strings lie end to end over the letters.
-fn strings_laid(image: &[u8]) -> bool
-    requires { sections_fit image.now ≡ true }
-    ensures { result ≡ strings_laid image.now }
-{
-    let letters = image::section_length(image, Section::Letters) as usize;
-    let mut at = image::section_offset(image, Section::Strings) as usize;
-    let mut left = image::record_count(image, Section::Strings);
-    let mut next: usize = 0;
-    while 0 < left {
-        let offset = image::number_at(image, at, image::STRING_OFFSET) as usize;
-        let length = image::number_at(image, at, image::STRING_LENGTH) as usize;
-        if offset != next {
+impl<'a> Sectioned<'a> {
+    // Whether the strings lie end to end over the letters and each is UTF-8: refusal 6 does not come. Where the letters are ASCII alone,
+    // no string is looked at.
+    fn strings_fit(self) -> bool
+        ensures { result ≡ strings_fit self.entry.image.now }
+    {
+        if !self.strings_laid() {
             return false;
         }
-        next = offset + length;
-        at += image::PAIR_SIZE;
-        left -= 1;
+        let from = image::section_offset(self.image, Section::Letters) as usize;
+        let end = from + image::section_length(self.image, Section::Letters) as usize;
+        utf8::is_ascii(&self.image[from..end]) || strings_utf8(self.image)
     }
-    next == letters
+
+    // Whether the strings lie end to end over the letters.
+    fn strings_laid(self) -> bool
+        ensures { result ≡ strings_laid self.entry.image.now }
+    {
+        let image = self.image;
+        let letters = image::section_length(image, Section::Letters) as usize;
+        let first = image::section_offset(image, Section::Strings) as usize;
+        let mut next = 0;
+        for n in 0..image::record_count(image, Section::Strings) as usize {
+            let at = first + image::PAIR_SIZE * n;
+            let offset = image::number_at(image, at, image::STRING_OFFSET) as usize;
+            let length = image::number_at(image, at, image::STRING_LENGTH) as usize;
+            if offset != next {
+                return false;
+            }
+            next = offset + length;
+        }
+        next == letters
+    }
+
+    // Whether every number of a record is within its range or table: refusal 7 does not come.
+    #[tactic(auto, unfolding(crate::specs::Check::records_fit))]
+    fn records_fit(self) -> bool
+        ensures { result ≡ records_fit self.entry.image.now }
+    {
+        self.components_fit()
+            && self.features_fit()
+            && self.connections_fit()
+            && self.properties_fit()
+            && self.diagnostics_fit()
+    }
+
+    // Category, parent and wired of each component, and that the components' features lie end to end over the features.
+    fn components_fit(self) -> bool
+        ensures { result ≡ components_fit self.entry.image.now }
+    {
+        let image = self.image;
+        let components = image::record_count(image, Section::Components);
+        let features = image::record_count(image, Section::Features) as usize;
+        let start = image::section_offset(image, Section::Components) as usize;
+        let mut next = 0;
+        for n in 0..components as usize {
+            let at = start + COMPONENT_SIZE * n;
+            let first = image::number_at(image, at, image::FIRST_FEATURE) as usize;
+            let count = image::number_at(image, at, image::FEATURE_COUNT) as usize;
+            if first != next || !component_fits(image, at, components) {
+                return false;
+            }
+            next = first + count;
+        }
+        next == features
+    }
+
+    // Name, kind and direction of each feature.
+    fn features_fit(self) -> bool
+        ensures { result ≡ features_fit self.entry.image.now }
+    {
+        let strings = image::record_count(self.image, Section::Strings);
+        self.all_below(Section::Features, strings, FEATURE_KINDS, DIRECTIONS)
+    }
+
+    // Owner, source and target of each connection.
+    fn connections_fit(self) -> bool
+        ensures { result ≡ connections_fit self.entry.image.now }
+    {
+        let components = image::record_count(self.image, Section::Components);
+        let strings = image::record_count(self.image, Section::Strings);
+        self.all_below(Section::Connections, components, strings + 1, strings + 1)
+    }
+
+    // Component, set and name of each property.
+    fn properties_fit(self) -> bool
+        ensures { result ≡ properties_fit self.entry.image.now }
+    {
+        let components = image::record_count(self.image, Section::Components);
+        let strings = image::record_count(self.image, Section::Strings);
+        self.all_below(Section::Properties, components, strings, strings)
+    }
+
+    // Analysis, severity and message of each diagnostic.
+    fn diagnostics_fit(self) -> bool
+        ensures { result ≡ diagnostics_fit self.entry.image.now }
+    {
+        let strings = image::record_count(self.image, Section::Strings);
+        self.all_below(Section::Diagnostics, strings, SEVERITIES, strings)
+    }
+
+    // Whether the three numbers of each record are below their limits.
+    fn all_below(self, section: Section, first: u32, second: u32, third: u32) -> bool
+        requires { record_size section ≡ meant.TRIPLE_SIZE }
+        ensures { result ≡ all_below self.entry.image.now section first second third }
+    {
+        let start = image::section_offset(self.image, section) as usize;
+        let count = image::record_count(self.image, section) as usize;
+        triples_below(self.image, start, count, first, second, third)
+    }
 }
 
-// Whether each string is UTF-8, of strings that lie in the letters.
+// Whether each string is UTF-8.
 fn strings_utf8(image: &[u8]) -> bool
-    requires { (sections_fit image.now ≡ true) × (strings_laid image.now ≡ true) }
     ensures { result ≡ strings_utf8 image.now }
 {
-    let letters = image::section_offset(image, Section::Letters) as usize;
-    let mut at = image::section_offset(image, Section::Strings) as usize;
-    let mut left = image::record_count(image, Section::Strings);
-    while 0 < left {
-        let first = letters + image::number_at(image, at, image::STRING_OFFSET) as usize;
-        let last = first + image::number_at(image, at, image::STRING_LENGTH) as usize;
-        if !utf8::is_utf8(&image[first..last]) {
-            return false;
-        }
-        at += image::PAIR_SIZE;
-        left -= 1;
-    }
-    true
-}
-
-// Whether every number of a record is within its range or table: refusal 7 does not come.
-fn records_fit(image: &[u8]) -> bool
-    requires { sections_fit image.now ≡ true }
-    ensures { result ≡ records_fit image.now }
-{
-    if !components_fit(image) {
-        return false;
-    }
-    if !features_fit(image) {
-        return false;
-    }
-    if !connections_fit(image) {
-        return false;
-    }
-    if !properties_fit(image) {
-        return false;
-    }
-    diagnostics_fit(image)
-}
-
-// Category, parent and wired of each component, and that the components' features lie end to end over the features.
-fn components_fit(image: &[u8]) -> bool
-    requires { sections_fit image.now ≡ true }
-    ensures { result ≡ components_fit image.now }
-{
-    let components = image::record_count(image, Section::Components);
-    let features = image::record_count(image, Section::Features) as usize;
-    let mut at = image::section_offset(image, Section::Components) as usize;
-    let mut left = components;
-    let mut next: usize = 0;
-    while 0 < left {
-        let first = image::number_at(image, at, image::FIRST_FEATURE) as usize;
-        let count = image::number_at(image, at, image::FEATURE_COUNT) as usize;
-        if first != next {
-            return false;
-        }
-        if !component_fits(image, at, components) {
-            return false;
-        }
-        next = first + count;
-        at += COMPONENT_SIZE;
-        left -= 1;
-    }
-    next == features
+    (0..image::record_count(image, Section::Strings)).all(|n| utf8::is_utf8(image::string(
+        image, n,
+    )))
 }
 
 // Category, parent and wired of the component whose record begins at a place.
@@ -232,87 +241,24 @@ fn component_fits(image: &[u8], at: usize, components: u32) -> bool
     requires { at + meant.COMPONENT_SIZE ≤ length image.now }
     ensures { result ≡ component_at image.now at components }
 {
-    if CATEGORIES <= image::number_at(image, at, image::CATEGORY) {
-        return false;
-    }
-    if components < image::number_at(image, at, image::PARENT) {
-        return false;
-    }
-    image::number_at(image, at, image::WIRED) < WIRED_MARKS
+    image::number_at(image, at, image::CATEGORY) < CATEGORIES
+        && image::number_at(image, at, image::PARENT) <= components
+        && image::number_at(image, at, image::WIRED) < WIRED_MARKS
 }
 
-// Name, kind and direction of each feature.
-fn features_fit(image: &[u8]) -> bool
-    requires { sections_fit image.now ≡ true }
-    ensures { result ≡ features_fit image.now }
+// Whether the three numbers of each of so many records from a place on are below their limits.
+fn triples_below(
+    image: &[u8],
+    start: usize,
+    count: usize,
+    first: u32,
+    second: u32,
+    third: u32,
+) -> bool
+    requires { start + meant.TRIPLE_SIZE * count ≤ length image.now }
+    ensures { result ≡ each (λ n. below_at image.now (start + meant.TRIPLE_SIZE * n) first second third) 0 count }
 {
-    let strings = image::record_count(image, Section::Strings);
-    all_below(image, Section::Features, strings, FEATURE_KINDS, DIRECTIONS)
-}
-
-// Owner, source and target of each connection.
-fn connections_fit(image: &[u8]) -> bool
-    requires { sections_fit image.now ≡ true }
-    ensures { result ≡ connections_fit image.now }
-{
-    let components = image::record_count(image, Section::Components);
-    let strings = image::record_count(image, Section::Strings);
-    all_below(
-        image,
-        Section::Connections,
-        components,
-        strings + 1,
-        strings + 1,
-    )
-}
-
-// Component, set and name of each property.
-fn properties_fit(image: &[u8]) -> bool
-    requires { sections_fit image.now ≡ true }
-    ensures { result ≡ properties_fit image.now }
-{
-    let components = image::record_count(image, Section::Components);
-    let strings = image::record_count(image, Section::Strings);
-    all_below(image, Section::Properties, components, strings, strings)
-}
-
-// Analysis, severity and message of each diagnostic.
-fn diagnostics_fit(image: &[u8]) -> bool
-    requires { sections_fit image.now ≡ true }
-    ensures { result ≡ diagnostics_fit image.now }
-{
-    let strings = image::record_count(image, Section::Strings);
-    all_below(image, Section::Diagnostics, strings, SEVERITIES, strings)
-}
-
-// Whether the collection table has fewer rows than a collection of this board can have members: refusal 8 comes.
-pub fn collection_short(image: &[u8], collection: usize) -> bool
-    ensures { result ≡ collection_short image.now collection }
-{
-    let rows = collection / COLLECTION_ROW;
-    let components = image::record_count(image, Section::Components) as usize;
-    let features = image::record_count(image, Section::Features) as usize;
-    if rows < components + features {
-        return true;
-    }
-    rows < image::record_count(image, Section::Diagnostics) as usize
-}
-
-// Whether the three numbers of each record are below their limits.
-fn all_below(image: &[u8], section: Section, first: u32, second: u32, third: u32) -> bool
-    requires { (sections_fit image.now ≡ true) × (record_size section ≡ meant.TRIPLE_SIZE) }
-    ensures { result ≡ all_below image.now section first second third }
-{
-    let mut at = image::section_offset(image, section) as usize;
-    let mut left = image::record_count(image, section);
-    while 0 < left {
-        if !is_below(image, at, first, second, third) {
-            return false;
-        }
-        at += TRIPLE_SIZE;
-        left -= 1;
-    }
-    true
+    (0..count).all(|n| is_below(image, start + TRIPLE_SIZE * n, first, second, third))
 }
 
 // The same of the record that begins at a place.
@@ -320,11 +266,19 @@ fn is_below(image: &[u8], at: usize, first: u32, second: u32, third: u32) -> boo
     requires { at + meant.TRIPLE_SIZE ≤ length image.now }
     ensures { result ≡ below_at image.now at first second third }
 {
-    if first <= image::number_at(image, at, 0) {
-        return false;
-    }
-    if second <= image::number_at(image, at, 1) {
-        return false;
-    }
-    image::number_at(image, at, 2) < third
+    image::number_at(image, at, 0) < first
+        && image::number_at(image, at, 1) < second
+        && image::number_at(image, at, 2) < third
+}
+
+// Whether the collection table has fewer rows than a collection of this board can have members: refusal 8 comes.
+#[tactic(auto, unfolding(crate::specs::Check::collection_short))]
+pub fn collection_short(image: &[u8], collection: usize) -> bool
+    ensures { result ≡ collection_short image.now collection }
+{
+    let rows = collection / COLLECTION_ROW;
+    let components = image::record_count(image, Section::Components) as usize;
+    let features = image::record_count(image, Section::Features) as usize;
+    let diagnostics = image::record_count(image, Section::Diagnostics) as usize;
+    rows < components + features || rows < diagnostics
 }

@@ -1,11 +1,8 @@
 -- `sections_laid` gives `sections_laid`, pair by pair. Assumes nothing.
 use Rattle.board.specs.Image.{pair_offset, pair_length}
 use Rattle.board.specs.Check.{sections_laid}
-use Rattle.board.proofs.CheckLaws.{laying_start, laying_off, laying_on, laying_done}
+use Rattle.board.proofs.CheckLaws.{laying_off, laying_on, laying_done}
 use Rattle.board.proofs.sections_laid.Goals as goal
-
-pub loop-n-init : goal.loop-n-init
-loop-n-init c = laying_start
 
 pub returns-then-offset-end : goal.returns-then-offset-end
 unfolding sections_laid pair_offset

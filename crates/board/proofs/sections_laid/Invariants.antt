@@ -1,5 +1,4 @@
 -- `sections_laid` gives `sections_laid`, pair by pair. Assumes nothing.
-use Prim.Native.Nat.{◌-◌}
 use lib.ListN.{length}
 use Rattle.board.specs.Image.{SECTIONS, pair_offset, pair_length}
 use Rattle.board.specs.Check.{PAIRS_SIZE}
@@ -8,6 +7,3 @@ use Rattle.board.proofs.sections_laid.Given as goal
 
 abbrev pub invariant-loop-n : goal.invariant-loop-n
 invariant-loop-n l = Laying (pair_offset l.image) (pair_length l.image) SECTIONS PAIRS_SIZE (length l.image) l.n l.end
-
-abbrev pub decreases-loop-n : goal.decreases-loop-n
-decreases-loop-n l = SECTIONS - l.n

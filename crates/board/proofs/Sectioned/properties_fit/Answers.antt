@@ -1,8 +1,8 @@
--- `properties_fit` gives `properties_fit`. Assumes nothing.
+-- `Sectioned::properties_fit` gives `properties_fit`. Assumes nothing.
 use mathlib.Core.Path.{◌∙◌}
 use Rattle.board.specs.Check.{properties_fit}
 use Rattle.board.proofs.CheckLaws.{limits_same}
-use Rattle.board.proofs.properties_fit.Goals as goal
+use Rattle.board.proofs.Sectioned.properties_fit.Goals as goal
 
 pub returns : goal.returns
 unfolding properties_fit

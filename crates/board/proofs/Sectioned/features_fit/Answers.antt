@@ -1,8 +1,8 @@
--- `features_fit` gives `features_fit`. Assumes nothing.
+-- `Sectioned::features_fit` gives `features_fit`. Assumes nothing.
 use mathlib.Core.Path.{refl, ◌∙◌}
 use Rattle.board.specs.Check.{features_fit}
 use Rattle.board.proofs.CheckLaws.{limits_same}
-use Rattle.board.proofs.features_fit.Goals as goal
+use Rattle.board.proofs.Sectioned.features_fit.Goals as goal
 
 pub returns : goal.returns
 unfolding features_fit

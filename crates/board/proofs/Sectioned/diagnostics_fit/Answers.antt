@@ -1,8 +1,8 @@
--- `diagnostics_fit` gives `diagnostics_fit`. Assumes nothing.
+-- `Sectioned::diagnostics_fit` gives `diagnostics_fit`. Assumes nothing.
 use mathlib.Core.Path.{refl, ◌∙◌}
 use Rattle.board.specs.Check.{diagnostics_fit}
 use Rattle.board.proofs.CheckLaws.{limits_same}
-use Rattle.board.proofs.diagnostics_fit.Goals as goal
+use Rattle.board.proofs.Sectioned.diagnostics_fit.Goals as goal
 
 pub returns : goal.returns
 unfolding diagnostics_fit
