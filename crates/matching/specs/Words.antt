@@ -1,8 +1,13 @@
 -- eval.rs, "Matching helpers": the words for each value of a field, and when a word typed in a rule is one of them.
 -- Assumes nothing: these are definitions.
-use Rattle.std.specs.Prelude.{ℕ, ◌+◌, ◌-◌, Bool, false, ◌||◌, cond, List, [], ◌∷◌, get_or}
+use Rattle.std.specs.Prelude.{◌≡◌, ℕ, ◌+◌, ◌-◌, ◌≤◌, Bool, false, ◌||◌, cond, List, [], ◌∷◌, length, get_or, Result, MatchResult}
 use Prim.Native.Char.{code}
 use Rattle.syntax.specs.Text.{ascii, is, between, same}
+use Rattle.matching.specs.declared.value.UnknownNumber.{UnknownNumber}
+use Rattle.matching.specs.declared.value.ComponentCategory.{ComponentCategory}
+use Rattle.matching.specs.declared.value.FeatureKind.{FeatureKind}
+use Rattle.matching.specs.declared.value.Direction.{Direction}
+use Rattle.matching.specs.declared.value.Severity.{Severity}
 
 -- how far a small letter stands behind its capital
 abbrev pub TO_LOWER : ℕ
@@ -81,3 +86,47 @@ direction_matches direction value = one_of (folded value) (get_or direction_word
 unfoldable pub severity_matches : ℕ → List ℕ → Bool
 unfolding severity_words
 severity_matches severity value = one_of value (get_or severity_words severity [])
+
+-- the number of each value, by which the words for it are found
+abbrev pub category_number : ComponentCategory → ℕ
+category_number ComponentCategory.System = 0
+category_number ComponentCategory.Process = 1
+category_number ComponentCategory.Thread = 2
+category_number ComponentCategory.ThreadGroup = 3
+category_number ComponentCategory.Processor = 4
+category_number ComponentCategory.VirtualProcessor = 5
+category_number ComponentCategory.Memory = 6
+category_number ComponentCategory.Bus = 7
+category_number ComponentCategory.VirtualBus = 8
+category_number ComponentCategory.Device = 9
+category_number ComponentCategory.Subprogram = 10
+category_number ComponentCategory.SubprogramGroup = 11
+category_number ComponentCategory.Data = 12
+category_number ComponentCategory.Abstract = 13
+
+abbrev pub feature_kind_number : FeatureKind → ℕ
+feature_kind_number FeatureKind.DataPort = 0
+feature_kind_number FeatureKind.EventPort = 1
+feature_kind_number FeatureKind.EventDataPort = 2
+feature_kind_number FeatureKind.Parameter = 3
+feature_kind_number FeatureKind.DataAccess = 4
+feature_kind_number FeatureKind.BusAccess = 5
+feature_kind_number FeatureKind.SubprogramAccess = 6
+feature_kind_number FeatureKind.SubprogramGroupAccess = 7
+feature_kind_number FeatureKind.FeatureGroup = 8
+feature_kind_number FeatureKind.AbstractFeature = 9
+
+abbrev pub direction_number : Direction → ℕ
+direction_number Direction.None = 0
+direction_number Direction.In = 1
+direction_number Direction.Out = 2
+direction_number Direction.InOut = 3
+
+abbrev pub severity_number : Severity → ℕ
+severity_number Severity.Error = 0
+severity_number Severity.Warning = 1
+severity_number Severity.Info = 2
+
+-- the result is the value that has a number, or there are no words for the number
+abbrev pub Numbered : {V : Type 0} → (V → ℕ) → List (List (List ℕ)) → ℕ → Result V UnknownNumber → Type 0
+Numbered number_of words number r = MatchResult r (λ v. number ≡ number_of v) (λ e. (e.0 ≡ number) × (length words ≤ number))

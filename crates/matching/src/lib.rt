@@ -2,76 +2,133 @@
 #![tactic(auto)]
 
 pub mod search;
+pub mod value;
 
 ghost use Rattle.std.specs.Prelude.{◌≡◌, [], ◌∷◌};
-ghost use Rattle.matching.specs.Words.{fold, folded, one_of, category_matches, feature_kind_matches, direction_matches, severity_matches};
+ghost use Rattle.matching.specs.Words.{fold, folded, one_of, category_matches, feature_kind_matches, direction_matches, severity_matches, category_number, feature_kind_number, direction_number, severity_number};
 
-use syntax::text;
+use value::{ComponentCategory, Direction, FeatureKind, Severity};
 
 // Whether a category, by its number on the board, is the one that a word typed in a rule means.
+#[tactic(auto, using(crate::proofs::WordLaws::no_word), unfolding(crate::specs::Words::category_matches))]
 pub fn category_matches(category: u32, value: &[u8]) -> bool
     ensures { result ≡ category_matches category value.now }
 {
+    match ComponentCategory::try_from(category) {
+        Ok(category) => is_category(category, value),
+        Err(_) => false,
+    }
+}
+
+#[tactic(auto, unfolding(crate::specs::Words::category_matches, crate::specs::Words::category_words))]
+fn is_category(category: ComponentCategory, value: &[u8]) -> bool
+    ensures { result ≡ category_matches (category_number category) value.now }
+{
     match category {
-        0 => is_word(value, b"system"),
-        1 => is_word(value, b"process"),
-        2 => is_word(value, b"thread"),
-        3 => is_either(value, b"thread_group", b"threadgroup"),
-        4 => is_word(value, b"processor"),
-        5 => is_either(value, b"virtual_processor", b"virtualprocessor"),
-        6 => is_word(value, b"memory"),
-        7 => is_word(value, b"bus"),
-        8 => is_either(value, b"virtual_bus", b"virtualbus"),
-        9 => is_word(value, b"device"),
-        10 => is_word(value, b"subprogram"),
-        11 => is_either(value, b"subprogram_group", b"subprogramgroup"),
-        12 => is_word(value, b"data"),
-        13 => is_word(value, b"abstract"),
-        _ => false,
+        ComponentCategory::System => is_word(value, b"system"),
+        ComponentCategory::Process => is_word(value, b"process"),
+        ComponentCategory::Thread => is_word(value, b"thread"),
+        ComponentCategory::ThreadGroup => is_either(value, b"thread_group", b"threadgroup"),
+        ComponentCategory::Processor => is_word(value, b"processor"),
+        ComponentCategory::VirtualProcessor => is_either(
+            value,
+            b"virtual_processor",
+            b"virtualprocessor",
+        ),
+        ComponentCategory::Memory => is_word(value, b"memory"),
+        ComponentCategory::Bus => is_word(value, b"bus"),
+        ComponentCategory::VirtualBus => is_either(value, b"virtual_bus", b"virtualbus"),
+        ComponentCategory::Device => is_word(value, b"device"),
+        ComponentCategory::Subprogram => is_word(value, b"subprogram"),
+        ComponentCategory::SubprogramGroup => is_either(
+            value,
+            b"subprogram_group",
+            b"subprogramgroup",
+        ),
+        ComponentCategory::Data => is_word(value, b"data"),
+        ComponentCategory::Abstract => is_word(value, b"abstract"),
     }
 }
 
 // The same of a feature's kind.
+#[tactic(auto, using(crate::proofs::WordLaws::no_word), unfolding(crate::specs::Words::feature_kind_matches))]
 pub fn feature_kind_matches(kind: u32, value: &[u8]) -> bool
     ensures { result ≡ feature_kind_matches kind value.now }
 {
+    match FeatureKind::try_from(kind) {
+        Ok(kind) => is_feature_kind(kind, value),
+        Err(_) => false,
+    }
+}
+
+#[tactic(auto, unfolding(crate::specs::Words::feature_kind_matches, crate::specs::Words::feature_kind_words))]
+fn is_feature_kind(kind: FeatureKind, value: &[u8]) -> bool
+    ensures { result ≡ feature_kind_matches (feature_kind_number kind) value.now }
+{
     match kind {
-        0 => is_either(value, b"data_port", b"dataport"),
-        1 => is_either(value, b"event_port", b"eventport"),
-        2 => is_either(value, b"event_data_port", b"eventdataport"),
-        3 => is_word(value, b"parameter"),
-        4 => is_either(value, b"data_access", b"dataaccess"),
-        5 => is_either(value, b"bus_access", b"busaccess"),
-        6 => is_either(value, b"subprogram_access", b"subprogramaccess"),
-        7 => is_either(value, b"subprogram_group_access", b"subprogramgroupaccess"),
-        8 => is_either(value, b"feature_group", b"featuregroup"),
-        9 => is_either(value, b"abstract_feature", b"abstractfeature"),
-        _ => false,
+        FeatureKind::DataPort => is_either(value, b"data_port", b"dataport"),
+        FeatureKind::EventPort => is_either(value, b"event_port", b"eventport"),
+        FeatureKind::EventDataPort => is_either(value, b"event_data_port", b"eventdataport"),
+        FeatureKind::Parameter => is_word(value, b"parameter"),
+        FeatureKind::DataAccess => is_either(value, b"data_access", b"dataaccess"),
+        FeatureKind::BusAccess => is_either(value, b"bus_access", b"busaccess"),
+        FeatureKind::SubprogramAccess => is_either(
+            value,
+            b"subprogram_access",
+            b"subprogramaccess",
+        ),
+        FeatureKind::SubprogramGroupAccess => is_either(
+            value,
+            b"subprogram_group_access",
+            b"subprogramgroupaccess",
+        ),
+        FeatureKind::FeatureGroup => is_either(value, b"feature_group", b"featuregroup"),
+        FeatureKind::AbstractFeature => is_either(value, b"abstract_feature", b"abstractfeature"),
     }
 }
 
 // The same of a feature's direction.
+#[tactic(auto, using(crate::proofs::WordLaws::no_word), unfolding(crate::specs::Words::direction_matches))]
 pub fn direction_matches(direction: u32, value: &[u8]) -> bool
     ensures { result ≡ direction_matches direction value.now }
 {
+    match Direction::try_from(direction) {
+        Ok(direction) => is_direction(direction, value),
+        Err(_) => false,
+    }
+}
+
+#[tactic(auto, unfolding(crate::specs::Words::direction_matches, crate::specs::Words::direction_words))]
+fn is_direction(direction: Direction, value: &[u8]) -> bool
+    ensures { result ≡ direction_matches (direction_number direction) value.now }
+{
     match direction {
-        0 => is_word(value, b"none"),
-        1 => is_word(value, b"in"),
-        2 => is_word(value, b"out"),
-        3 => is_either(value, b"in_out", b"inout"),
-        _ => false,
+        Direction::None => is_word(value, b"none"),
+        Direction::In => is_word(value, b"in"),
+        Direction::Out => is_word(value, b"out"),
+        Direction::InOut => is_either(value, b"in_out", b"inout"),
     }
 }
 
 // The same of a diagnostic's severity, which is compared as typed.
+#[tactic(auto, using(crate::proofs::WordLaws::no_word), unfolding(crate::specs::Words::severity_matches))]
 pub fn severity_matches(severity: u32, value: &[u8]) -> bool
     ensures { result ≡ severity_matches severity value.now }
 {
+    match Severity::try_from(severity) {
+        Ok(severity) => is_severity(severity, value),
+        Err(_) => false,
+    }
+}
+
+#[tactic(auto, using(crate::proofs::WordLaws::typed_word), unfolding(crate::specs::Words::severity_matches, crate::specs::Words::severity_words))]
+fn is_severity(severity: Severity, value: &[u8]) -> bool
+    ensures { result ≡ severity_matches (severity_number severity) value.now }
+{
     match severity {
-        0 => text::same(value, b"error"),
-        1 => text::same(value, b"warning"),
-        2 => text::same(value, b"info"),
-        _ => false,
+        Severity::Error => value == b"error".as_slice(),
+        Severity::Warning => value == b"warning".as_slice(),
+        Severity::Info => value == b"info".as_slice(),
     }
 }
 
@@ -79,41 +136,23 @@ pub fn severity_matches(severity: u32, value: &[u8]) -> bool
 fn is_either(value: &[u8], word: &[u8], other: &[u8]) -> bool
     ensures { result ≡ one_of (folded value.now) (word.now ∷ other.now ∷ []) }
 {
-    if is_word(value, word) {
-        return true;
-    }
-    is_word(value, other)
+    is_word(value, word) || is_word(value, other)
 }
 
 // Whether a value, folded, is a word.
 fn is_word(value: &[u8], word: &[u8]) -> bool
     ensures { result ≡ one_of (folded value.now) (word.now ∷ []) }
 {
-    if value.len() != word.len() {
-        return false;
-    }
-    let mut i = 0;
-    while i < word.len() {
-        if fold(value[i]) != word[i] {
-            return false;
-        }
-        i += 1;
-    }
-    true
+    value.len() == word.len() && value.iter().zip(word).all(|(b, w)| fold(*b) == *w)
 }
 
 // A letter lowered, a dash as an underscore.
+#[tactic(auto, unfolding(crate::specs::Words::fold))]
 pub fn fold(b: u8) -> u8
     ensures { result ≡ fold b }
 {
-    if b == b'-' {
-        return b'_';
+    match b {
+        b'-' => b'_',
+        _ => b.to_ascii_lowercase(),
     }
-    if b < b'A' {
-        return b;
-    }
-    if b'Z' < b {
-        return b;
-    }
-    b + 32
 }

@@ -1,21 +1,17 @@
--- `is_word` says whether a value, folded, is a word, by the laws of the two compared byte by byte. Assumes nothing.
-use Rattle.matching.proofs.WordLaws.{folding_lengths, folding_start, folding_within, folding_goes, folding_stops, folding_ends}
+-- `is_word` says whether a value, folded, is a word: by the lengths of the two, and byte by byte. Assumes nothing.
+use Rattle.std.proofs.Common.{ℕ, eqb, rules, tests}
+use Rattle.std.proofs.lemmas.Iterator.{YieldsList-from_slice, YieldsList-from_zip}
+use Rattle.std.proofs.lemmas.Iterator.Search.{all_from_yields_List}
+use Rattle.matching.specs.Words.{fold}
+use Rattle.matching.proofs.WordLaws.{folding_lengths, folding_all}
 use Rattle.matching.proofs.is_word.Goals as goal
 
 pub returns-then-value-word : goal.returns-then-value-word
-returns-then-value-word c = folding_lengths _ _ c.if-value-word.true
+returns-then-value-word c =
+    let value = c.args.value.now in
+    let word = c.args.word.now in
+    folding_all value word c.if-value-word.true
+    (all_from_yields_List {s = c.zip.result} (λ (p : ℕ × ℕ). eqb (fold p.0) p.1) c.all.new.self _ _ c.all.ensures.ran (YieldsList-from_zip (YieldsList-from_slice value cc) (YieldsList-from_slice word cc)) (λ x b q k. search (rules, tests)))
 
-pub loop-i-init : goal.loop-i-init
-loop-i-init c = folding_start c.if-value-word.false
-
-pub bounds-value-i : goal.bounds-value-i
-bounds-value-i c = folding_within c.loop-i.invariant c.loop-i-test.true
-
-pub returns-then-fold-word : goal.returns-then-fold-word
-returns-then-fold-word c = folding_stops c.loop-i.invariant c.loop-i-test.true c.fold.ensures c.if-fold-word.true
-
-pub loop-i-preserved : goal.loop-i-preserved
-loop-i-preserved c = folding_goes c.loop-i.invariant c.loop-i-test.true c.fold.ensures c.if-fold-word.false
-
-pub returns : goal.returns
-returns c = folding_ends c.loop-i.invariant c.loop-i-test.false
+pub returns-else-value-word : goal.returns-else-value-word
+returns-else-value-word c = folding_lengths _ _ c.if-value-word.false
