@@ -1,8 +1,8 @@
 -- Texts at a place, two texts with the same bytes, and a part of a text. Assumes nothing.
-use mathlib.Core.Path.{◌≡◌, refl, sym, ◌∙◌}
-use mathlib.Core.Bool.{true, false≢true}
+use mathlib.Core.Path.{◌≡◌, refl, sym, ◌∙◌, ap}
+use mathlib.Core.Bool.{true, false, false≢true, and-false}
 use mathlib.Core.List.{List, [], ◌∷◌}
-use Prim.Native.Nat.{ℕ, ◌+◌, ◌-◌, ◌≤◌, ◌<◌, min}
+use Prim.Native.Nat.{ℕ, ◌+◌, ◌-◌, ◌≤◌, ◌<◌, min, suc}
 use native.Mathlib.Numerals.{add-one}
 use native.Mathlib.Omega.{arith}
 use borrow.Author.Tests.{eqb-true, leb-true, leb-false, ltb-true, ltb-false}
@@ -24,6 +24,13 @@ same_eq (a ∷ x) [] e = absurd (false≢true e)
 same_eq (a ∷ x) (b ∷ y) e =
     let t = both (eqb a b) (same x y) e in
     rw (eqb-true a b t.0, same_eq x y t.1)
+
+-- texts of two lengths
+pub same_lengths : (x y : List ℕ) → (length x ≡ length y → ⊥) → same x y ≡ false
+same_lengths [] [] h = absurd (h refl)
+same_lengths [] (b ∷ y) h = refl
+same_lengths (a ∷ x) [] h = refl
+same_lengths (a ∷ x) (b ∷ y) h = rw (same_lengths x y (λ e. h (ap suc e))) (and-false (eqb a b))
 
 -- a part of a text, from its start and its end as far as the text goes
 module _ (text : List ℕ) (first end last from : ℕ) (l : last ≡ min end (length text)) (f : from ≡ min first last) where
