@@ -2,7 +2,7 @@
 -- whole does. Assumes nothing.
 use mathlib.Core.Path.{◌≡◌, refl, sym, ap, ◌∙◌}
 use mathlib.Core.Bool.{Bool, true, false, ◌&&◌}
-use mathlib.Core.List.{List, []}
+use mathlib.Core.List.{List, [], ◌∷◌}
 use Prim.Native.Nat.{ℕ, zero, suc, ◌+◌, ◌-◌, ◌≤◌, ◌<◌}
 use native.Mathlib.Nat.{sub-zero}
 use native.Mathlib.Numerals.{add-one}
@@ -17,6 +17,8 @@ use Rattle.board.specs.Check.{laid, each}
 use Rattle.board.specs.CheckScan.{all_below}
 use Rattle.std.specs.Slice.{IsGetRangeResult}
 use Rattle.std.specs.Option.{unwrap_or}
+use Rattle.std.specs.Cmp.Lexicographic.{pointwise}
+use Rattle.syntax.specs.Text.{same}
 use Rattle.std.specs.List.{list_all, range_with_len}
 use Rattle.std.proofs.Common.{Option, None, Some, inl, inr, Bor}
 
@@ -87,6 +89,13 @@ pub each_of_range : (passes : ℕ → Bool) (n count : ℕ) → list_all passes 
 unfolding each
 each_of_range passes n zero = refl
 each_of_range passes n (suc count) = rw (add-one n) (ap (λ (t : Bool). passes n && t) (each_of_range passes (suc n) count))
+
+-- two texts that `==` says to be the same
+pub same_bytes : (a b : List ℕ) → pointwise eqb a b ≡ same a b
+same_bytes [] [] = refl
+same_bytes [] (y ∷ b) = refl
+same_bytes (x ∷ a) [] = refl
+same_bytes (x ∷ a) (y ∷ b) = ap (λ (t : Bool). eqb x y && t) (same_bytes a b)
 
 -- two answers from one pass
 pub both_first : {p : Bool} (q : Bool) → false ≡ p → false ≡ (p && q)

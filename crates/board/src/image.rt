@@ -4,6 +4,7 @@ ghost use Rattle.std.specs.Prelude.{◌≡◌, ◌+◌, ◌*◌, ◌<◌, ◌≤
 ghost use Rattle.board.specs.Image.{word, section_number, record_size, LARGEST_RECORD, SECTIONS, section_offset, section_length, record_count, field, text};
 ghost use Rattle.board.specs.Image.{category, parent, first_feature, features_of, wired, feature_name, feature_kind, direction, owner, source, target, property_component, property_set, property_name, analysis, severity, message};
 ghost use Rattle.board.specs.Image as meant;
+ghost use Rattle.syntax.specs.Text.{same};
 
 // The sections, in the order in which the image has them.
 #[derive(Clone, Copy, PartialEq, Eq, Debug)]
@@ -204,6 +205,13 @@ pub fn string(image: &[u8], number: u32) -> &[u8]
     let from = letters + field(image, Section::Strings, number, STRING_OFFSET) as usize;
     let end = from + field(image, Section::Strings, number, STRING_LENGTH) as usize;
     image.get(from..end).unwrap_or(&[])
+}
+
+// Whether a string has these bytes.
+pub fn string_is(image: &[u8], number: u32, bytes: &[u8]) -> bool
+    ensures { result ≡ same (text image.now number) bytes.now }
+{
+    string(image, number) == bytes
 }
 
 // Where a section begins.

@@ -1,7 +1,7 @@
 -- Records by the places of their bytes: the numbers there are those of the records, and a loop goes over the records from place to
 -- place. Assumes nothing.
-use mathlib.Core.Path.{◌≡◌, sym, subst, ◌∙◌}
-use mathlib.Core.Bool.{Bool, true, false, cond, ◌||◌, or-true, or-false, or_self}
+use mathlib.Core.Path.{◌≡◌, refl, sym, subst, ◌∙◌}
+use mathlib.Core.Bool.{Bool, true, false, cond, not, ◌||◌, or-false, or_self}
 use mathlib.Core.List.{List}
 use Prim.Native.Nat.{ℕ, zero, suc, ◌+◌, ◌*◌, ◌-◌, ◌≤◌, ◌<◌}
 use native.Mathlib.Nat.{add-zero}
@@ -14,7 +14,7 @@ use lib.Seq.{get_or-take}
 use Rattle.syntax.specs.Text.{same}
 use Rattle.board.specs.Image.{NUMBER_SIZE, little_endian, word, field, section_offset, text, parent, wired, owner}
 use Rattle.board.specs.declared.image.Section.TheVariants.{Components, Connections, Features, Properties}
-use Rattle.instance.specs.Instance.{some, end_is, joins, owner_unwired, is_property, feature_is}
+use Rattle.instance.specs.Instance.{some, is_wired, end_is, joins, owner_unwired, is_property, feature_is}
 use Rattle.instance.specs.Places.{RECORD_SIZE, SECOND, THIRD, COMPONENT_SIZE, FIFTH, other_owner, joins_at, is_property_at, feature_is_at, Skipped}
 use Rattle.instance.proofs.InstanceLaws.{Searching, searching_hit, searching_miss, searching_done}
 
@@ -59,69 +59,26 @@ module _ (image : List ℕ) {first : ℕ} where
   unfolding feature_is feature_is_at field
   feature_placed name e n = rw (e, add-zero (section_offset image Features + RECORD_SIZE * n))
 
--- a component with a parent, and one with none
-module _ (image : List ℕ) (component : ℕ) {p : ℕ} (e : p ≡ parent image component) where
-  pub owner_parent : 0 < p → p - 1 ≡ other_owner image component
-  unfolding other_owner
-  owner_parent h = rw (← e, ne_eqb p 0 (λ z. omega arith))
+-- the mark of a connection's owner, read at its place
+pub owner_placed : (image : List ℕ) {connections components : ℕ} → connections ≡ section_offset image Connections → components ≡ section_offset image Components
+    → (n : ℕ) → eqb (word image (components + COMPONENT_SIZE * word image (connections + RECORD_SIZE * n) + FIFTH)) 1 ≡ not (owner_unwired image n)
+unfolding field
+owner_placed image e f n = rw (e, f, add-zero (section_offset image Connections + RECORD_SIZE * n)) (twice _)
+  where
+    twice : (t : Bool) → t ≡ not (not t)
+    twice true = refl
+    twice false = refl
 
-  pub owner_self : p ≤ 0 → component ≡ other_owner image component
-  unfolding other_owner
-  owner_self h = rw (← e, eq-eqb p 0 (omega arith))
-
--- the owner of a connection, whose mark was read at its place
-module _ (image : List ℕ) {connections components : ℕ} (e : connections ≡ section_offset image Connections) (f : components ≡ section_offset image Components) (n : ℕ)
-    {o w : ℕ} (g : o ≡ word image (connections + RECORD_SIZE * n)) (k : w ≡ word image (components + COMPONENT_SIZE * o + FIFTH)) where
-  owner_mark : w ≡ wired image (owner image n)
-  unfolding field
-  owner_mark = k ∙ rw (g, f, e, add-zero (section_offset image Connections + RECORD_SIZE * n))
-
-  pub owner_wired : w ≡ 1 → owner_unwired image n ≡ false
-  owner_wired h = rw (← owner_mark, eq-eqb w 1 h)
-
-  pub owner_unwired_lem : (w ≡ 1 → ⊥) → owner_unwired image n ≡ true
-  owner_unwired_lem h = rw (← owner_mark, ne_eqb w 1 h)
-
--- a connection that is one of two components', and one that is another's
-pub record Owned (image : List ℕ) (component other at : ℕ) : Type 0 where
-  pub so : (eqb (word image at) component || eqb (word image at) other) ≡ true
-
-module _ {image : List ℕ} {component other at : ℕ} {o : ℕ} (e : o ≡ word image at) where
-  pub owned_self : o ≡ component → Owned image component other at
-  owned_self h = record { so = rw (← e, eq-eqb o component h) }
-
-  pub owned_other : o ≡ other → Owned image component other at
-  owned_other h = record { so = rw (← e, eq-eqb o other h) (or-true (eqb o component)) }
-
+-- a connection that is neither of two components', and a property of another one
 module _ (image : List ℕ) (component other : ℕ) (name : List ℕ) (at : ℕ) where
   pub joins_foreign : {o : ℕ} → o ≡ word image at → (o ≡ component → ⊥) → (o ≡ other → ⊥) → false ≡ joins_at image component other name at
   unfolding joins_at
   joins_foreign {o} e h k = rw (← e, ne_eqb o component h, ne_eqb o other k)
 
-  pub joins_source : {s : ℕ} {r : Bool} → Owned image component other at → s ≡ word image (at + SECOND) → r ≡ end_is image s name → r ≡ true
-      → true ≡ joins_at image component other name at
-  unfolding joins_at
-  joins_source {s} o e f h = rw (o.so, ← e, sym f ∙ h)
-
-  pub joins_target : {s t : ℕ} {r q : Bool} → Owned image component other at → s ≡ word image (at + SECOND) → r ≡ end_is image s name → r ≡ false
-      → t ≡ word image (at + THIRD) → q ≡ end_is image t name → q ≡ joins_at image component other name at
-  unfolding joins_at
-  joins_target {s} {t} o e f h g k = rw (o.so, ← e, sym f ∙ h, ← g) k
-
--- a property of another component, one of another set, and one of both
 module _ (image : List ℕ) (component : ℕ) (set name : List ℕ) (at : ℕ) {x : ℕ} (e : x ≡ word image at) where
   pub property_elsewhere : (x ≡ component → ⊥) → false ≡ is_property_at image component set name at
   unfolding is_property_at
   property_elsewhere h = rw (← e, ne_eqb x component h)
-
-  pub property_unlike : x ≡ component → false ≡ same (text image (word image (at + SECOND))) set → false ≡ is_property_at image component set name at
-  unfolding is_property_at
-  property_unlike h f = rw (← e, eq-eqb x component h, ← f)
-
-  pub property_like : {r : Bool} → x ≡ component → true ≡ same (text image (word image (at + SECOND))) set
-      → r ≡ same (text image (word image (at + THIRD))) name → r ≡ is_property_at image component set name at
-  unfolding is_property_at
-  property_like h f g = rw (← e, eq-eqb x component h, ← f) g
 
 -- the records of a section are passed over up to the one at a place
 pub record Walking (passes : ℕ → Bool) (first count at : ℕ) (whole : Bool) : Type 0 where

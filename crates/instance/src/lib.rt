@@ -7,7 +7,6 @@ ghost use Rattle.instance.specs.Places.{PLACES, other_owner, joins_at, is_proper
 
 use board::image;
 use board::image::Section;
-use syntax::text;
 
 // The mark of a component that is wired.
 const WIRED: u32 = 1;
@@ -25,17 +24,15 @@ const COMPONENT_SIZE: usize = 20;
 const FIFTH: usize = 16;
 
 // Whether a component or its parent is wired.
+#[tactic(auto, unfolding(crate::specs::Instance::component_connected))]
 pub fn component_connected(image: &[u8], component: u32) -> bool
     ensures { result ≡ component_connected image.now component }
 {
-    if image::field(image, Section::Components, component, image::WIRED) == WIRED {
+    if image::wired(image, component) == WIRED {
         return true;
     }
-    let parent = image::field(image, Section::Components, component, image::PARENT);
-    if parent == 0 {
-        return false;
-    }
-    image::field(image, Section::Components, parent - 1, image::WIRED) == WIRED
+    let parent = image::parent(image, component);
+    parent != 0 && image::wired(image, parent - 1) == WIRED
 }
 
 // Whether a component's feature is connected: the component is, or a connection joins the feature.
@@ -45,8 +42,7 @@ pub fn feature_connected(image: &[u8], component: u32, feature: u32) -> bool
     if component_connected(image, component) {
         return true;
     }
-    let number = image::field(image, Section::Features, feature, image::FEATURE_NAME);
-    let name = image::string(image, number);
+    let name = image::string(image, image::feature_name(image, feature));
     let other = other_owner(image, component);
     let first = image::section_offset(image, Section::Connections) as usize;
     let count = image::record_count(image, Section::Connections) as usize;
@@ -73,36 +69,25 @@ pub fn owners_wired(image: &[u8]) -> bool
     let connections = image::section_offset(image, Section::Connections) as usize;
     let components = image::section_offset(image, Section::Components) as usize;
     let count = image::record_count(image, Section::Connections) as usize;
-    let mut n = 0;
-    while n < count {
+    (0..count).all(|n| {
         let owner = image::word(image, connections + RECORD_SIZE * n) as usize;
-        if image::word(image, components + COMPONENT_SIZE * owner + FIFTH) != WIRED {
-            return false;
-        }
-        n += 1;
-    }
-    true
+        image::word(image, components + COMPONENT_SIZE * owner + FIFTH) == WIRED
+    })
 }
 
 // The parent of a component, which may own its connections too; the component itself where it has none.
+#[tactic(auto, unfolding(crate::specs::Places::other_owner))]
 fn other_owner(image: &[u8], component: u32) -> u32
     ensures { result ≡ other_owner image.now component }
 {
-    let parent = image::field(image, Section::Components, component, image::PARENT);
-    if 0 < parent {
-        return parent - 1;
-    }
-    component
+    image::parent(image, component).checked_sub(1).unwrap_or(component)
 }
 
 // The image up to a place, as far as it goes.
 fn front(image: &[u8], end: usize) -> &[u8]
     ensures { result.now ≡ take end image.now }
 {
-    if image.len() < end {
-        return image;
-    }
-    &image[..end]
+    &image[..end.min(image.len())]
 }
 
 // The place of the next record whose first number is one of two, from a record's place on; where there is none, the first place whose
@@ -117,10 +102,7 @@ fn next_owned(records: &[u8], from: usize, one: u32, other: u32) -> usize
     let mut at = from;
     while at <= last {
         let owner = image::word(records, at);
-        if owner == one {
-            return at;
-        }
-        if owner == other {
+        if owner == one || owner == other {
             return at;
         }
         at += RECORD_SIZE;
@@ -129,30 +111,23 @@ fn next_owned(records: &[u8], from: usize, one: u32, other: u32) -> usize
 }
 
 // Whether the connection at a place is owned by one of two components and has a feature of this name at an end.
+#[tactic(auto, unfolding(crate::specs::Places::joins_at))]
 fn joins(image: &[u8], component: u32, other: u32, name: &[u8], at: usize) -> bool
     requires { at < PLACES }
     ensures { result ≡ joins_at image.now component other name.now at }
 {
     let owner = image::word(image, at);
-    if owner != component {
-        if owner != other {
-            return false;
-        }
-    }
-    if end_is(image, image::word(image, at + SECOND), name) {
-        return true;
-    }
-    end_is(image, image::word(image, at + THIRD), name)
+    (owner == component || owner == other)
+        && (end_is(image, image::word(image, at + SECOND), name)
+            || end_is(image, image::word(image, at + THIRD), name))
 }
 
 // Whether there is such an end, and a feature of this name is at it.
+#[tactic(auto, unfolding(crate::specs::Instance::end_is))]
 fn end_is(image: &[u8], end: u32, name: &[u8]) -> bool
     ensures { result ≡ end_is image.now end name.now }
 {
-    if end == 0 {
-        return false;
-    }
-    text::same(image::string(image, end - 1), name)
+    end != 0 && image::string_is(image, end - 1, name)
 }
 
 // Whether a component has a property of this set and name.
@@ -178,19 +153,14 @@ pub fn has_property(image: &[u8], component: u32, set: &[u8], name: &[u8]) -> bo
 }
 
 // Whether the property at a place is the component's and of this set and name.
+#[tactic(auto, unfolding(crate::specs::Places::is_property_at))]
 fn is_property(image: &[u8], component: u32, set: &[u8], name: &[u8], at: usize) -> bool
     requires { at < PLACES }
     ensures { result ≡ is_property_at image.now component set.now name.now at }
 {
-    if image::word(image, at) != component {
-        return false;
-    }
-    let set_number = image::word(image, at + SECOND);
-    if !text::same(image::string(image, set_number), set) {
-        return false;
-    }
-    let name_number = image::word(image, at + THIRD);
-    text::same(image::string(image, name_number), name)
+    image::word(image, at) == component
+        && image::string_is(image, image::word(image, at + SECOND), set)
+        && image::string_is(image, image::word(image, at + THIRD), name)
 }
 
 // Whether a component has a feature of this name.
@@ -199,37 +169,25 @@ pub fn has_feature(image: &[u8], component: u32, name: &[u8]) -> bool
 {
     let first = image::section_offset(image, Section::Features) as usize;
     let end = features_end(image, component);
-    let mut n = image::field(image, Section::Components, component, image::FIRST_FEATURE);
-    while n < end {
-        if feature_is(image, name, first + RECORD_SIZE * (n as usize)) {
-            return true;
-        }
-        n += 1;
-    }
-    false
+    (image::first_feature(image, component)..end)
+        .any(|n| feature_is(image, name, first + RECORD_SIZE * (n as usize)))
 }
 
 // Whether the feature at a place has this name.
+#[tactic(auto, unfolding(crate::specs::Places::feature_is_at))]
 fn feature_is(image: &[u8], name: &[u8], at: usize) -> bool
     ensures { result ≡ feature_is_at image.now name.now at }
 {
-    text::same(image::string(image, image::word(image, at)), name)
+    image::string_is(image, image::word(image, at), name)
 }
 
 // The place past a component's last feature, as far as the features go.
+#[tactic(auto, unfolding(crate::specs::Instance::features_end))]
 pub fn features_end(image: &[u8], component: u32) -> u32
     ensures { result ≡ features_end image.now component }
 {
-    let first = image::field(image, Section::Components, component, image::FIRST_FEATURE) as usize;
-    let features = image::field(
-        image,
-        Section::Components,
-        component,
-        image::FEATURE_COUNT,
-    ) as usize;
-    let count = image::record_count(image, Section::Features);
-    if first + features < count as usize {
-        return (first + features) as u32;
-    }
-    count
+    let first = image::first_feature(image, component) as usize;
+    let features = image::features_of(image, component) as usize;
+    let count = image::record_count(image, Section::Features) as usize;
+    (first + features).min(count) as u32
 }

@@ -1,5 +1,5 @@
--- What stands at a place of the marks, and how far the passes have come: marks set to 0, then properties looked at one by one, where
--- those that are left decide what is not marked yet; and components looked at one by one. Assumes nothing.
+-- What stands at a place of the marks, and how far the passes have come: properties looked at one by one, where those that are left
+-- decide what is not marked yet; and components looked at one by one. Assumes nothing.
 use mathlib.Core.Path.{◌≡◌, refl, sym, ap, ◌∙◌, subst}
 use mathlib.Core.Bool.{Bool, true, false, not, ◌&&◌, ◌||◌, cond}
 use mathlib.Core.List.{List, [], ◌∷◌}
@@ -42,31 +42,6 @@ unfolding marks_of
 marks_at image value n c h =
     marks_from image (property_set_of value) (property_name_of value) 0 n c h
     ∙ ap (λ (c : ℕ). mark_of (has_property image c (property_set_of value) (property_name_of value))) (omega arith)
-
--- ---- marks set to 0
-
--- those up to a place are 0
-pub record Clearing (before marks : List ℕ) (i : ℕ) : Type 0 where
-  pub within : i ≤ length before
-  pub long : length marks ≡ length before
-  pub clear : (c : ℕ) → c < i → get_or marks c 0 ≡ 0
-
-pub clearing_start : (before : List ℕ) → Clearing before before 0
-clearing_start before = record { within = omega arith; long = refl; clear = λ c h. absurd (omega arith) }
-
-module _ {before marks : List ℕ} {i : ℕ} (p : Clearing before marks i) where
-  pub clearing_on : i < length marks → Clearing before (set marks i 0) (i + 1)
-  clearing_on h =
-      record {
-        within = omega (arith, p.long);
-        long = length-set marks i 0 ∙ p.long;
-        clear = below_more _ i (λ c l. get_or-set_other marks i c 0 0 (λ e. omega arith) ∙ p.clear c l) (get_or-set_same marks i 0 0 h);
-      }
-
-  pub clearing_end : length marks ≤ i → marks ≡ replicate (length before) 0
-  clearing_end h =
-      ext_get_or 0 marks (replicate (length before) 0) (p.long ∙ sym (length-replicate (length before) 0))
-      (λ c l. p.clear c (omega arith) ∙ sym (get_or-replicate (length before) c 0 0 (omega (arith, p.long))))
 
 -- ---- properties looked at
 
@@ -144,19 +119,6 @@ module _ {image set name : List ℕ} {size count n : ℕ} {marks : List ℕ} (p 
     where
       none : (c : ℕ) → get_or marks c 0 ≡ cond (some (is_property image c set name) n (count - n)) 1 (get_or marks c 0)
       none c = let over : count - n ≡ 0 = omega arith in rw over
-
--- ---- a property by its set and its name
-
--- one of another set, and one of this
-module _ (image set name : List ℕ) (property : ℕ) where
-  pub named_unlike : false ≡ same (text image (property_set image property)) set → false ≡ is_named image set name property
-  unfolding is_named
-  named_unlike e = rw (← e)
-
-  pub named_like : {r : Bool} → true ≡ same (text image (property_set image property)) set → r ≡ same (text image (property_name image property)) name
-      → r ≡ is_named image set name property
-  unfolding is_named
-  named_like e f = rw (← e) f
 
 -- its owner is marked where it is named so and there is a mark
 module _ (image set_name name : List ℕ) (property : ℕ) (marks : List ℕ) {r : Bool} (e : r ≡ is_named image set_name name property) where

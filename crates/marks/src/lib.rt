@@ -2,7 +2,7 @@
 // `instance::has_property` takes one for each component. Any image, text and slice of marks is taken.
 #![tactic(auto)]
 
-ghost use Rattle.std.specs.Prelude.{◌≡◌, length, replicate};
+ghost use Rattle.std.specs.Prelude.{◌≡◌, length};
 ghost use Rattle.board.specs.Image.{component_count};
 ghost use Rattle.marks.specs.Marks.{is_named, property_marks, marked, marks_of, featured, feature_marks};
 
@@ -11,7 +11,6 @@ use board::image::Section;
 use instance;
 use matching::search;
 use matching::search::Found;
-use syntax::text;
 
 // The mark of a component that has the property, and of another that has the feature.
 const OF_PROPERTY: u8 = 1;
@@ -22,24 +21,19 @@ const OF_FEATURE: u8 = 2;
 pub fn mark_properties(image: &[u8], value: &[u8], marks: &mut [u8])
     ensures { marks.new ≡ marks_of image.now value.now (length marks.old) }
 {
-    let found = search::find(value, b"::");
-    let Found::At(at) = found else {
+    let Found::At(at) = search::find(value, b"::") else {
         mark_named(image, b"", value, marks);
         return;
     };
-    let past = at + 2;
-    mark_named(image, &value[..at], &value[past..], marks);
+    mark_named(image, &value[..at], &value[at + 2..], marks);
 }
 
 // Marks the components that have no mark yet and have a feature of this name.
 pub fn mark_features(image: &[u8], name: &[u8], marks: &mut [u8])
     ensures { marks.new ≡ feature_marks image.now name.now (component_count image.now) 0 marks.old }
 {
-    let count = image::record_count(image, Section::Components);
-    let mut component = 0;
-    while component < count {
+    for component in 0..image::record_count(image, Section::Components) {
         mark_feature(image, name, component, marks);
-        component += 1;
     }
 }
 
@@ -48,13 +42,7 @@ fn mark_feature(image: &[u8], name: &[u8], component: u32, marks: &mut [u8])
     ensures { marks.new ≡ featured image.now name.now component marks.old }
 {
     let place = component as usize;
-    if marks.len() <= place {
-        return;
-    }
-    if marks[place] != 0 {
-        return;
-    }
-    if instance::has_feature(image, component, name) {
+    if place < marks.len() && marks[place] == 0 && instance::has_feature(image, component, name) {
         marks[place] = OF_FEATURE;
     }
 }
@@ -63,23 +51,9 @@ fn mark_feature(image: &[u8], name: &[u8], component: u32, marks: &mut [u8])
 fn mark_named(image: &[u8], set: &[u8], name: &[u8], marks: &mut [u8])
     ensures { marks.new ≡ property_marks image.now set.now name.now 0 (length marks.old) }
 {
-    clear(marks);
-    let count = image::record_count(image, Section::Properties);
-    let mut n = 0;
-    while n < count {
+    marks.fill(0);
+    for n in 0..image::record_count(image, Section::Properties) {
         mark_owner(image, set, name, n, marks);
-        n += 1;
-    }
-}
-
-// Sets all marks to 0.
-fn clear(marks: &mut [u8])
-    ensures { marks.new ≡ replicate (length marks.old) 0 }
-{
-    let mut i = 0;
-    while i < marks.len() {
-        marks[i] = 0;
-        i += 1;
     }
 }
 
@@ -90,25 +64,17 @@ fn mark_owner(image: &[u8], set: &[u8], name: &[u8], property: u32, marks: &mut 
     if !is_named(image, set, name, property) {
         return;
     }
-    let owner = image::field(
-        image,
-        Section::Properties,
-        property,
-        image::PROPERTY_COMPONENT,
-    ) as usize;
+    let owner = image::property_component(image, property) as usize;
     if owner < marks.len() {
         marks[owner] = OF_PROPERTY;
     }
 }
 
 // Whether a property is of this set and name.
+#[tactic(auto, unfolding(crate::specs::Marks::is_named))]
 fn is_named(image: &[u8], set: &[u8], name: &[u8], property: u32) -> bool
     ensures { result ≡ is_named image.now set.now name.now property }
 {
-    let set_number = image::field(image, Section::Properties, property, image::PROPERTY_SET);
-    if !text::same(image::string(image, set_number), set) {
-        return false;
-    }
-    let name_number = image::field(image, Section::Properties, property, image::PROPERTY_NAME);
-    text::same(image::string(image, name_number), name)
+    image::string_is(image, image::property_set(image, property), set)
+        && image::string_is(image, image::property_name(image, property), name)
 }

@@ -9,7 +9,7 @@ pub returns-then-component_connected : goal.returns-then-component_connected
 returns-then-component_connected c = feature_whole c.args.image.now c.args.component c.args.feature c.component_connected.ensures c.if-component_connected.true
 
 pub loop-at-init : goal.loop-at-init
-loop-at-init c = walking_start (connection_placed _ _ _ c.section_offset-first.ensures c.other_owner-other.ensures) (connections_start _ _ _ c.component_connected.ensures c.if-component_connected.false c.field-number.ensures c.string-name.ensures c.record_count-count.ensures)
+loop-at-init c = walking_start (connection_placed _ _ _ c.section_offset-first.ensures c.other_owner-other.ensures) (connections_start _ _ _ c.component_connected.ensures c.if-component_connected.false c.feature_name.ensures c.string-name.ensures c.record_count-count.ensures)
 
 pub returns-then-end-here : goal.returns-then-end-here
 returns-then-end-here c = walking_done (walking_over (connections_passing _ _ c.front-records.ensures _ _) c.loop-at.invariant c.next_owned-here.ensures) c.if-end-here.true

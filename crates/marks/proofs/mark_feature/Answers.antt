@@ -1,15 +1,14 @@
 -- `mark_feature` gives `featured`, by the mark that it reads and the features of the component. Assumes nothing.
 use Rattle.marks.proofs.MarkLaws.{featured_outside, featured_marked, featured_set, featured_unset}
 use Rattle.marks.proofs.mark_feature.Goals as goal
-
-pub returns-then-marks-place : goal.returns-then-marks-place
-returns-then-marks-place c = featured_outside _ _ _ _ c.if-marks-place.true
-
-pub returns-then-marks-place-ne0 : goal.returns-then-marks-place-ne0
-returns-then-marks-place-ne0 c = featured_marked _ _ _ _ c.if-marks-place-ne0.true
+use Rattle.marks.proofs.mark_feature.Goals.{else-place-marks-via-then-place-marks+then-marks-place-eq0+else-has_feature, else-place-marks-via-then-place-marks+else-marks-place-eq0, else-place-marks-via-else-place-marks}
 
 pub returns-then-has_feature : goal.returns-then-has_feature
-returns-then-has_feature c = featured_set _ _ _ _ c.if-marks-place-ne0.false c.has_feature.ensures c.if-has_feature.true
+returns-then-has_feature c = featured_set _ _ _ _ c.if-marks-place-eq0.true c.has_feature.ensures c.if-has_feature.true
 
-pub returns-else-has_feature : goal.returns-else-has_feature
-returns-else-has_feature c = featured_unset _ _ _ _ c.if-marks-place-ne0.false c.has_feature.ensures c.if-has_feature.false
+pub returns-else-place-marks : goal.returns-else-place-marks
+returns-else-place-marks c = elim c.else-place-marks.branch [
+    else-place-marks-via-then-place-marks+then-marks-place-eq0+else-has_feature w ↦ featured_unset _ _ _ _ w.if-marks-place-eq0.true w.has_feature.ensures w.if-has_feature.false
+    | else-place-marks-via-then-place-marks+else-marks-place-eq0 w ↦ featured_marked _ _ _ _ w.if-marks-place-eq0.false
+    | else-place-marks-via-else-place-marks w ↦ featured_outside _ _ _ _ w.if-place-marks.false
+  ]
