@@ -10,7 +10,6 @@ use board::image;
 use board::image::Section;
 use instance;
 use matching::search;
-use matching::search::Found;
 
 // The mark of a component that has the property, and of another that has the feature.
 const OF_PROPERTY: u8 = 1;
@@ -21,7 +20,7 @@ const OF_FEATURE: u8 = 2;
 pub fn mark_properties(image: &[u8], value: &[u8], marks: &mut [u8])
     ensures { marks.new ≡ marks_of image.now value.now (length marks.old) }
 {
-    let Found::At(at) = search::find(value, b"::") else {
+    let Some(at) = search::find(value, b"::") else {
         mark_named(image, b"", value, marks);
         return;
     };
