@@ -10,7 +10,7 @@ use borrow.Author.Tests.{le-leb, ne_eqb}
 use Rattle.syntax.specs.Kind.{BINARY_EXPR, UNARY_EXPR, COMPARE_EXPR, CALL_EXPR, PAREN_EXPR, IDENT_EXPR, CONTAINS_EXPR}
 use Rattle.syntax.specs.Text.{ascii}
 use Rattle.trees.specs.Green.{nil, node}
-use Rattle.matching.specs.declared.search.Found.{Found}
+use Rattle.std.specs.Prelude.{Option, None, Some}
 use Rattle.matching.specs.Search.{find, set_before, name_after, property_set_of, property_name_of}
 use Rattle.instance.specs.Instance.{has_property}
 use Rattle.predicate.specs.declared.atom.Member.{Member}
@@ -19,14 +19,14 @@ use Rattle.predicate.specs.Rows.{ROW, kind_at, children_at, node_at}
 
 -- a component's property by a text: parted where `::` was found, whole where it was not
 module _ (image : List ℕ) (component : ℕ) (value : List ℕ) where
-  by_found : {f : Found} → find (ascii "::") value ≡ f → has_property_of image component value ≡ has_property image component (set_before f value) (name_after f value)
+  by_found : {f : Option ℕ} → find (ascii "::") value ≡ f → has_property_of image component value ≡ has_property image component (set_before f value) (name_after f value)
   unfolding has_property_of property_set_of property_name_of
-  by_found e = ap (λ (f : Found). has_property image component (set_before f value) (name_after f value)) e
+  by_found e = ap (λ (f : Option ℕ). has_property image component (set_before f value) (name_after f value)) e
 
-  pub property_whole : find (ascii "::") value ≡ Found.Absent → has_property image component [] value ≡ has_property_of image component value
+  pub property_whole : find (ascii "::") value ≡ None → has_property image component [] value ≡ has_property_of image component value
   property_whole e = sym (by_found e)
 
-  pub property_parted : {at : ℕ} → find (ascii "::") value ≡ Found.At at → has_property image component (take at value) (take (length value - (at + 2)) (drop (at + 2) value)) ≡ has_property_of image component value
+  pub property_parted : {at : ℕ} → find (ascii "::") value ≡ Some at → has_property image component (take at value) (take (length value - (at + 2)) (drop (at + 2) value)) ≡ has_property_of image component value
   property_parted {at} e =
       ap (has_property image component (take at value)) (take_all (length value - (at + 2)) (drop (at + 2) value) (omega (arith, length-drop (at + 2) value)))
       ∙ sym (by_found e)

@@ -9,63 +9,52 @@ use borrow.Author.Tests.{le-leb, lt-leb, leb-true}
 use Rattle.syntax.specs.Kind.{ROOT, BINARY_EXPR, UNARY_EXPR, PAREN_EXPR}
 use Rattle.trees.specs.Green.{Forest}
 use Rattle.predicate.specs.declared.atom.Member.{Member}
+use Rattle.predicate.specs.declared.Evaluator.{Evaluator}
 use Rattle.predicate.specs.declared.Truth.{Truth}
 use Rattle.predicate.specs.declared.Operands.{Operands}
 use Rattle.predicate.specs.Truth.{or_after, joined_by, joined, sort_of, settle, truths, truth}
-use Rattle.predicate.specs.Rows.{ROW, kind_at, level_at, forest_from, children_at, node_at, is_row, is_below, of_node, past_below}
+use Rattle.predicate.specs.Rows.{ROW, kind_at, level_at, forest_from, children_at, node_at, is_below, of_node, past_below}
 use Rattle.predicate.specs.Eval.{FoundAt, FoundNowhere, Skips, Evaluated, Inner, joined_from, Joined, Operand, Joins}
 use Rattle.predicate.proofs.RowLaws.{row_there, below_row, row_below, passed_row, passed_stop}
 use Rattle.predicate.proofs.AtomLaws.{node_truth, of_kind_lem}
-use Rattle.predicate.proofs.ForestLaws.{children_none, forest_below, forest_ends, forest_token, forest_node, forest_skip, passed_passed, found_passed, found_level, found_kind, Ignores, ignored_none, ignored_found}
+use Rattle.predicate.proofs.ForestLaws.{forest_below, forest_ends, forest_token, forest_node, forest_skip, passed_passed, found_passed, found_level, found_kind, Ignores, ignored_none, ignored_found}
+
+-- no row is at a place
+pub truth_missing : (rule image tree : List ℕ) (m : Member) (at : ℕ) → length tree < at + ROW → false ≡ truth image m (node_at rule tree at)
+unfolding truth truths node_at
+truth_missing rule image tree m at h = sym (rw (lt-leb (at + ROW) (length tree) h))
 
 -- a node by the rows below its own
-module _ (rule image tree : List ℕ) (m : Member) where
-  -- no row is there
-  pub truth_missing : (at : ℕ) → length tree < at + ROW → false ≡ truth image m (node_at rule tree at)
-  unfolding truth truths node_at
-  truth_missing at h = sym (rw (lt-leb (at + ROW) (length tree) h))
-
-  pub args_missing : (at : ℕ) → is_row tree at ≡ false → false ≡ truth image m (children_at rule tree at)
-  unfolding truth truths
-  args_missing at h = sym (ap (truth image m) (children_none rule tree at h))
-
-  module _ (at : ℕ) (h : at + ROW ≤ length tree) where
-    pub truth_binary : kind_at tree at ≡ BINARY_EXPR → truth image m (node_at rule tree at) ≡ joined_from rule image tree m (level_at tree at) (record { at = at + ROW; or = false; before = true })
+module _ (ev : Evaluator) where
+  module _ (at : ℕ) (h : at + ROW ≤ length ev.tree.now) where
+    pub truth_binary : kind_at ev.tree.now at ≡ BINARY_EXPR → truth ev.image.now ev.member (node_at ev.rule.now ev.tree.now at) ≡ joined_from ev (level_at ev.tree.now at) (record { at = at + ROW; or = false; before = true })
     unfolding settle sort_of joined_from
-    truth_binary e = sym (of_kind_lem rule image tree m at h e)
+    truth_binary e = sym (of_kind_lem ev.rule.now ev.image.now ev.tree.now ev.member at h e)
 
-    pub truth_unary : kind_at tree at ≡ UNARY_EXPR → truth image m (node_at rule tree at) ≡ not (truth image m (children_at rule tree at))
+    pub truth_unary : kind_at ev.tree.now at ≡ UNARY_EXPR → truth ev.image.now ev.member (node_at ev.rule.now ev.tree.now at) ≡ not (truth ev.image.now ev.member (children_at ev.rule.now ev.tree.now at))
     unfolding settle sort_of truth
-    truth_unary e = sym (of_kind_lem rule image tree m at h e)
+    truth_unary e = sym (of_kind_lem ev.rule.now ev.image.now ev.tree.now ev.member at h e)
 
-    pub truth_paren : kind_at tree at ≡ PAREN_EXPR → truth image m (node_at rule tree at) ≡ truth image m (children_at rule tree at)
+    pub truth_paren : kind_at ev.tree.now at ≡ PAREN_EXPR → truth ev.image.now ev.member (node_at ev.rule.now ev.tree.now at) ≡ truth ev.image.now ev.member (children_at ev.rule.now ev.tree.now at)
     unfolding settle sort_of truth
-    truth_paren e = sym (of_kind_lem rule image tree m at h e)
+    truth_paren e = sym (of_kind_lem ev.rule.now ev.image.now ev.tree.now ev.member at h e)
 
   -- the truth of a forest is that of its first node
-  truth_ignores : Ignores of_node (truth image m)
+  truth_ignores : Ignores of_node (truth ev.image.now ev.member)
   unfolding truth truths
   truth_ignores = record { tokens = λ t f h. refl; nodes = λ k s f l h. absurd (false≢true (sym h ∙ le-leb ROOT k l)) }
 
   -- no node is below a level from a place on, or the one found is the first
-  pub inner_none : (level from : ℕ) → FoundNowhere of_node tree level from → false ≡ truth image m (forest_from rule tree level from)
+  pub inner_none : (level from : ℕ) → FoundNowhere of_node ev.tree.now level from → false ≡ truth ev.image.now ev.member (forest_from ev.rule.now ev.tree.now level from)
   unfolding truth truths
-  inner_none level from f = sym (ignored_none truth_ignores rule f)
+  inner_none level from f = sym (ignored_none truth_ignores ev.rule.now f)
 
-  pub inner_found : (level from at : ℕ) → FoundAt of_node tree level from at → truth image m (forest_from rule tree level from) ≡ truth image m (node_at rule tree at)
+  pub inner_found : (level from at : ℕ) → FoundAt of_node ev.tree.now level from at → truth ev.image.now ev.member (forest_from ev.rule.now ev.tree.now level from) ≡ truth ev.image.now ev.member (node_at ev.rule.now ev.tree.now at)
   unfolding truth truths node_at
   inner_found level from at f =
-      ignored_found truth_ignores rule f
-      ∙ ap (truth image m) (forest_node rule tree level at f.whole (found_level f) (leb-true ROOT (kind_at tree at) (found_kind f)))
-      ∙ sym (rw (le-leb (at + ROW) (length tree) f.whole, found_level f))
-
-  -- of the first node inside one
-  pub args_none : (at : ℕ) {l : ℕ} → l ≡ level_at tree at → FoundNowhere of_node tree (l + 1) (at + ROW) → false ≡ truth image m (children_at rule tree at)
-  args_none at {l} e f = inner_none (l + 1) (at + ROW) f ∙ ap (λ (l : ℕ). truth image m (forest_from rule tree (l + 1) (at + ROW))) e
-
-  pub args_found : (at : ℕ) {l first : ℕ} {r : Bool} → l ≡ level_at tree at → FoundAt of_node tree (l + 1) (at + ROW) first → r ≡ truth image m (node_at rule tree first)
-      → r ≡ truth image m (children_at rule tree at)
-  args_found at {l} {first} e f h = h ∙ sym (inner_found (l + 1) (at + ROW) first f) ∙ ap (λ (l : ℕ). truth image m (forest_from rule tree (l + 1) (at + ROW))) e
+      ignored_found truth_ignores ev.rule.now f
+      ∙ ap (truth ev.image.now ev.member) (forest_node ev.rule.now ev.tree.now level at f.whole (found_level f) (leb-true ROOT (kind_at ev.tree.now at) (found_kind f)))
+      ∙ sym (rw (le-leb (at + ROW) (length ev.tree.now) f.whole, found_level f))
 
 -- an operand that cannot change the truth so far, and one that decides it
 decided : (or before operand : Bool) → beq before or ≡ true → joined_by or before operand ≡ before
@@ -100,123 +89,111 @@ pub operand_there : {tree : List ℕ} {level : ℕ} {s : Operands} → Operand t
 operand_there {tree} {level} {s} b = row_there tree s.at (below_row tree level s.at b.row).0
 
 -- one row more of the operands
-module _ (rule image : List ℕ) {tree : List ℕ} (m : Member) {level : ℕ} {s : Operands} (b : Operand tree level s) where
-  there : s.at + ROW ≤ length tree
+module _ (ev : Evaluator) {level : ℕ} {s : Operands} (b : Operand ev.tree.now level s) where
+  there : s.at + ROW ≤ length ev.tree.now
   there = operand_there b
 
-  lower : level < level_at tree s.at
-  lower = (below_row tree level s.at b.row).1
+  lower : level < level_at ev.tree.now s.at
+  lower = (below_row ev.tree.now level s.at b.row).1
 
   -- a row further below is no operand and no operator
-  pub joins_deeper : level + 1 < level_at tree s.at → Joins rule image tree m level s (record { at = s.at + ROW; or = s.or; before = s.before })
+  pub joins_deeper : level + 1 < level_at ev.tree.now s.at → Joins ev level s (record { at = s.at + ROW; or = s.or; before = s.before })
   unfolding joined_from
   joins_deeper l =
       record {
-        value = sym (ap (λ (f : Forest). joined s.or s.before f (truths image m f)) (forest_below rule tree (level + 1) s.at there l));
+        value = sym (ap (λ (f : Forest). joined s.or s.before f (truths ev.image.now ev.member f)) (forest_below ev.rule.now ev.tree.now (level + 1) s.at there l));
         later = omega arith;
         within = there;
-        here = sym (passed_row tree level s.at b.row);
+        here = sym (passed_row ev.tree.now level s.at b.row);
       }
 
-  module _ (l : level_at tree s.at ≤ level + 1) where
-    level_is : level_at tree s.at ≡ level + 1
+  module _ (l : level_at ev.tree.now s.at ≤ level + 1) where
+    level_is : level_at ev.tree.now s.at ≡ level + 1
     level_is = omega (arith, lower)
 
     -- a token may be an operator
-    pub joins_token : kind_at tree s.at < ROOT → {or : Bool} → or ≡ or_after (kind_at tree s.at) s.or → Joins rule image tree m level s (record { at = s.at + ROW; or = or; before = s.before })
+    pub joins_token : kind_at ev.tree.now s.at < ROOT → {or : Bool} → or ≡ or_after (kind_at ev.tree.now s.at) s.or → Joins ev level s (record { at = s.at + ROW; or = or; before = s.before })
     unfolding joined_from joined truths
     joins_token k e =
         record {
           value =
-              ap (λ (o : Bool). joined_from rule image tree m level (record { at = s.at + ROW; or = o; before = s.before })) e
-              ∙ sym (ap (λ (f : Forest). joined s.or s.before f (truths image m f)) (forest_token rule tree (level + 1) s.at there level_is k));
+              ap (λ (o : Bool). joined_from ev level (record { at = s.at + ROW; or = o; before = s.before })) e
+              ∙ sym (ap (λ (f : Forest). joined s.or s.before f (truths ev.image.now ev.member f)) (forest_token ev.rule.now ev.tree.now (level + 1) s.at there level_is k));
           later = omega arith;
           within = there;
-          here = sym (passed_row tree level s.at b.row);
+          here = sym (passed_row ev.tree.now level s.at b.row);
         }
 
     -- an operand is joined to what stands before it
-    operand : (k : ROOT ≤ kind_at tree s.at) {next : ℕ} → Skips tree (level + 1) (s.at + ROW) next
-        → joined_from rule image tree m level (record { at = next; or = s.or; before = joined_by s.or s.before (truth image m (node_at rule tree s.at)) }) ≡ joined_from rule image tree m level s
+    operand : (k : ROOT ≤ kind_at ev.tree.now s.at) {next : ℕ} → Skips ev.tree.now (level + 1) (s.at + ROW) next
+        → joined_from ev level (record { at = next; or = s.or; before = joined_by s.or s.before (truth ev.image.now ev.member (node_at ev.rule.now ev.tree.now s.at)) }) ≡ joined_from ev level s
     unfolding joined_from joined truths
     operand k {next} n =
-        ap (λ (f : Forest). joined s.or (joined_by s.or s.before (truth image m (node_at rule tree s.at))) f (truths image m f)) (forest_skip rule n)
-        ∙ ap (λ (t : Bool). joined s.or (joined_by s.or s.before t) rest (truths image m rest)) (node_truth rule image tree m s.at there)
-        ∙ ap (λ (n : ℕ). joined s.or (joined_by s.or s.before (settle image m (sort_of (kind_at tree s.at)) (forest_from rule tree (n + 1) (s.at + ROW)) (truths image m (forest_from rule tree (n + 1) (s.at + ROW))))) rest (truths image m rest)) level_is
-        ∙ sym (ap (λ (f : Forest). joined s.or s.before f (truths image m f)) (forest_node rule tree (level + 1) s.at there level_is k))
+        ap (λ (f : Forest). joined s.or (joined_by s.or s.before (truth ev.image.now ev.member (node_at ev.rule.now ev.tree.now s.at))) f (truths ev.image.now ev.member f)) (forest_skip ev.rule.now n)
+        ∙ ap (λ (t : Bool). joined s.or (joined_by s.or s.before t) rest (truths ev.image.now ev.member rest)) (node_truth ev.rule.now ev.image.now ev.tree.now ev.member s.at there)
+        ∙ ap (λ (n : ℕ). joined s.or (joined_by s.or s.before (settle ev.image.now ev.member (sort_of (kind_at ev.tree.now s.at)) (forest_from ev.rule.now ev.tree.now (n + 1) (s.at + ROW)) (truths ev.image.now ev.member (forest_from ev.rule.now ev.tree.now (n + 1) (s.at + ROW))))) rest (truths ev.image.now ev.member rest)) level_is
+        ∙ sym (ap (λ (f : Forest). joined s.or s.before f (truths ev.image.now ev.member f)) (forest_node ev.rule.now ev.tree.now (level + 1) s.at there level_is k))
       where
         rest : Forest
-        rest = forest_from rule tree (level + 1) (s.at + ROW)
+        rest = forest_from ev.rule.now ev.tree.now (level + 1) (s.at + ROW)
 
-    passed : {next : ℕ} → Skips tree (level + 1) (s.at + ROW) next → past_below level (drop next tree) ≡ past_below level (drop s.at tree)
-    passed n = ap (past_below level) n.here ∙ passed_passed level (drop (s.at + ROW) tree) ∙ sym (passed_row tree level s.at b.row)
+    passed : {next : ℕ} → Skips ev.tree.now (level + 1) (s.at + ROW) next → past_below level (drop next ev.tree.now) ≡ past_below level (drop s.at ev.tree.now)
+    passed n = ap (past_below level) n.here ∙ passed_passed level (drop (s.at + ROW) ev.tree.now) ∙ sym (passed_row ev.tree.now level s.at b.row)
 
-    joins_operand : (k : ROOT ≤ kind_at tree s.at) {next : ℕ} (after : Bool) → Skips tree (level + 1) (s.at + ROW) next → joined_by s.or s.before (truth image m (node_at rule tree s.at)) ≡ after
-        → Joins rule image tree m level s (record { at = next; or = s.or; before = after })
+    joins_operand : (k : ROOT ≤ kind_at ev.tree.now s.at) {next : ℕ} (after : Bool) → Skips ev.tree.now (level + 1) (s.at + ROW) next → joined_by s.or s.before (truth ev.image.now ev.member (node_at ev.rule.now ev.tree.now s.at)) ≡ after
+        → Joins ev level s (record { at = next; or = s.or; before = after })
     joins_operand k {next} after n e =
         record {
-          value = ap (λ (t : Bool). joined_from rule image tree m level (record { at = next; or = s.or; before = t })) (sym e) ∙ operand k n;
+          value = ap (λ (t : Bool). joined_from ev level (record { at = next; or = s.or; before = t })) (sym e) ∙ operand k n;
           later = omega (arith, n.later);
           within = n.within;
           here = passed n;
         }
 
     -- it is passed over where it cannot change the truth so far, and else it is the truth so far
-    pub joins_decided : ROOT ≤ kind_at tree s.at → beq s.before s.or ≡ true → {next : ℕ} → Skips tree (level + 1) (s.at + ROW) next → Joins rule image tree m level s (record { at = next; or = s.or; before = s.before })
-    joins_decided k e n = joins_operand k s.before n (decided s.or s.before (truth image m (node_at rule tree s.at)) e)
+    pub joins_decided : ROOT ≤ kind_at ev.tree.now s.at → beq s.before s.or ≡ true → {next : ℕ} → Skips ev.tree.now (level + 1) (s.at + ROW) next → Joins ev level s (record { at = next; or = s.or; before = s.before })
+    joins_decided k e n = joins_operand k s.before n (decided s.or s.before (truth ev.image.now ev.member (node_at ev.rule.now ev.tree.now s.at)) e)
 
-    pub joins_open : ROOT ≤ kind_at tree s.at → beq s.before s.or ≡ false → {next : ℕ} {value : Bool} → Skips tree (level_at tree s.at) (s.at + ROW) next → value ≡ truth image m (node_at rule tree s.at) → Joins rule image tree m level s (record { at = next; or = s.or; before = value })
+    pub joins_open : ROOT ≤ kind_at ev.tree.now s.at → beq s.before s.or ≡ false → {next : ℕ} {value : Bool} → Skips ev.tree.now (level_at ev.tree.now s.at) (s.at + ROW) next → value ≡ truth ev.image.now ev.member (node_at ev.rule.now ev.tree.now s.at) → Joins ev level s (record { at = next; or = s.or; before = value })
     joins_open k e {next} {value} n v =
-        joins_operand k value (subst (λ (l : ℕ). Skips tree l (s.at + ROW) next) level_is n) (ap (joined_by s.or s.before) (sym v) ∙ undecided s.or s.before value e)
+        joins_operand k value (subst (λ (l : ℕ). Skips ev.tree.now l (s.at + ROW) next) level_is n) (ap (joined_by s.or s.before) (sym v) ∙ undecided s.or s.before value e)
 
 -- how far the operands from a place on are joined
-pub record Joining (rule image tree : List ℕ) (m : Member) (level from : ℕ) (s : Operands) : Type 0 where
-  pub value : joined_from rule image tree m level s ≡ joined_from rule image tree m level (record { at = from; or = false; before = true })
+pub record Joining (ev : Evaluator) (level from : ℕ) (s : Operands) : Type 0 where
+  pub value : joined_from ev level s ≡ joined_from ev level (record { at = from; or = false; before = true })
   pub later : from ≤ s.at
-  pub within : s.at ≤ length tree
-  pub here : past_below level (drop s.at tree) ≡ past_below level (drop from tree)
+  pub within : s.at ≤ length ev.tree.now
+  pub here : past_below level (drop s.at ev.tree.now) ≡ past_below level (drop from ev.tree.now)
 
-module _ {rule image tree : List ℕ} {m : Member} {level from : ℕ} where
-  pub joining_start : from ≤ length tree → Joining rule image tree m level from (record { at = from; or = false; before = true })
+module _ {ev : Evaluator} {level from : ℕ} where
+  pub joining_start : from ≤ length ev.tree.now → Joining ev level from (record { at = from; or = false; before = true })
   joining_start h = record { value = refl; later = omega arith; within = h; here = refl }
 
-  pub joining_on : {s r : Operands} → Joining rule image tree m level from s → Joins rule image tree m level s r → Joining rule image tree m level from r
+  pub joining_on : {s r : Operands} → Joining ev level from s → Joins ev level s r → Joining ev level from r
   joining_on j n = record { value = n.value ∙ j.value; later = omega (arith, j.later, n.later); within = n.within; here = n.here ∙ j.here }
 
-  pub joining_end : {s : Operands} → Joining rule image tree m level from s → is_below tree level s.at ≡ false → Joined rule image tree m level from (record { value = s.before; next = s.at })
+  pub joining_end : {s : Operands} → Joining ev level from s → is_below ev.tree.now level s.at ≡ false → Joined ev level from (record { value = s.before; next = s.at })
   unfolding joined_from joined truths
   joining_end {s} j h =
       record {
-        value = sym (ap (λ (f : Forest). joined s.or s.before f (truths image m f)) (forest_ends rule tree level s.at h)) ∙ j.value;
-        next = record { later = j.later; within = j.within; here = sym (passed_stop tree level s.at h) ∙ j.here };
+        value = sym (ap (λ (f : Forest). joined s.or s.before f (truths ev.image.now ev.member f)) (forest_ends ev.rule.now ev.tree.now level s.at h)) ∙ j.value;
+        next = record { later = j.later; within = j.within; here = sym (passed_stop ev.tree.now level s.at h) ∙ j.here };
       }
-
-skips_at : (tree : List ℕ) (at : ℕ) {l next : ℕ} → l ≡ level_at tree at → Skips tree l (at + ROW) next → Skips tree (level_at tree at) (at + ROW) next
-skips_at tree at {l} {next} e n = subst (λ (k : ℕ). Skips tree k (at + ROW) next) e n
 
 -- what the functions of the cycle give, by what those that they call gave
-module _ {rule image tree : List ℕ} {m : Member} where
-  pub evaluated_binary : {l at : ℕ} {r : Truth} → at + ROW ≤ length tree → kind_at tree at ≡ BINARY_EXPR → l ≡ level_at tree at → Joined rule image tree m l (at + ROW) r → Evaluated rule image tree m at r
-  evaluated_binary {l} {at} {r} h k e j =
-      record {
-        value = j.value ∙ ap (λ (l : ℕ). joined_from rule image tree m l (record { at = at + ROW; or = false; before = true })) e ∙ sym (truth_binary rule image tree m at h k);
-        next = skips_at tree at e j.next;
-      }
+module _ {ev : Evaluator} where
+  module _ {at : ℕ} {r : Truth} (h : at + ROW ≤ length ev.tree.now) where
+    pub evaluated_binary : kind_at ev.tree.now at ≡ BINARY_EXPR → Joined ev (level_at ev.tree.now at) (at + ROW) r → Evaluated ev at r
+    evaluated_binary k j = record { value = j.value ∙ sym (truth_binary ev at h k); next = j.next }
 
-  pub inner_value : (at : ℕ) {l : ℕ} {r : Truth} → l ≡ level_at tree at → Inner rule image tree m l (at + ROW) r → r.value ≡ truth image m (children_at rule tree at)
-  inner_value at e i = i.value ∙ ap (λ (l : ℕ). truth image m (forest_from rule tree (l + 1) (at + ROW))) e
+    pub evaluated_unary : kind_at ev.tree.now at ≡ UNARY_EXPR → Inner ev (level_at ev.tree.now at) (at + ROW) r → Evaluated ev at (record { value = not r.value; next = r.next })
+    evaluated_unary k i = record { value = ap not i.value ∙ sym (truth_unary ev at h k); next = i.next }
 
-  pub evaluated_unary : {l at : ℕ} {r : Truth} → at + ROW ≤ length tree → kind_at tree at ≡ UNARY_EXPR → l ≡ level_at tree at → Inner rule image tree m l (at + ROW) r → Evaluated rule image tree m at (record { value = not r.value; next = r.next })
-  evaluated_unary {l} {at} h k e i = record { value = ap not (inner_value at e i) ∙ sym (truth_unary rule image tree m at h k); next = skips_at tree at e i.next }
+    pub evaluated_paren : kind_at ev.tree.now at ≡ PAREN_EXPR → Inner ev (level_at ev.tree.now at) (at + ROW) r → Evaluated ev at r
+    evaluated_paren k i = record { value = i.value ∙ sym (truth_paren ev at h k); next = i.next }
 
-  pub evaluated_paren : {l at : ℕ} {r : Truth} → at + ROW ≤ length tree → kind_at tree at ≡ PAREN_EXPR → l ≡ level_at tree at → Inner rule image tree m l (at + ROW) r → Evaluated rule image tree m at r
-  evaluated_paren {l} {at} h k e i = record { value = inner_value at e i ∙ sym (truth_paren rule image tree m at h k); next = skips_at tree at e i.next }
+  pub inner_empty : {level from next : ℕ} → FoundNowhere of_node ev.tree.now (level + 1) from → Skips ev.tree.now level from next → Inner ev level from (record { value = false; next = next })
+  inner_empty {level} {from} f n = record { value = inner_none ev (level + 1) from f; next = n }
 
-  pub evaluated_atom : {l at next : ℕ} {value : Bool} → value ≡ truth image m (node_at rule tree at) → l ≡ level_at tree at → Skips tree l (at + ROW) next → Evaluated rule image tree m at (record { value = value; next = next })
-  evaluated_atom {l} {at} v e n = record { value = v; next = skips_at tree at e n }
-
-  pub inner_empty : {level from next : ℕ} → FoundNowhere of_node tree (level + 1) from → Skips tree level from next → Inner rule image tree m level from (record { value = false; next = next })
-  inner_empty {level} {from} f n = record { value = inner_none rule image tree m (level + 1) from f; next = n }
-
-  pub inner_first : {level from at next : ℕ} {r : Truth} → FoundAt of_node tree (level + 1) from at → Evaluated rule image tree m at r → Skips tree level r.next next → Inner rule image tree m level from (record { value = r.value; next = next })
-  inner_first {level} {from} {at} f e n = record { value = e.value ∙ sym (inner_found rule image tree m (level + 1) from at f); next = inner_skip f e.next n }
+  pub inner_first : {level from at next : ℕ} {r : Truth} → FoundAt of_node ev.tree.now (level + 1) from at → Evaluated ev at r → Skips ev.tree.now level r.next next → Inner ev level from (record { value = r.value; next = next })
+  inner_first {level} {from} {at} f e n = record { value = e.value ∙ sym (inner_found ev (level + 1) from at f); next = inner_skip f e.next n }

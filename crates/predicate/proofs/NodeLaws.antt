@@ -9,11 +9,11 @@ use lib.ListN.{length, take, drop, length-drop, drop_of_length-le}
 use lib.Seq.{drop-drop}
 use borrow.Author.Tests.{eqb-true}
 use Rattle.syntax.specs.Kind.{STRING_LIT, ROOT, LITERAL}
-use Rattle.matching.specs.declared.search.Found.{Found}
+use Rattle.std.specs.Prelude.{Option, None, Some}
 use Rattle.predicate.specs.Truth.{content, first_text, literal_of}
-use Rattle.predicate.specs.Rows.{ROW, kind_at, level_at, text_at, forest_from, children_at, is_row, of_kind, rows_from, place_in, first_row}
+use Rattle.predicate.specs.Rows.{ROW, kind_at, level_at, text_at, forest_from, children_at, of_kind, rows_from, place_in, first_row}
 use Rattle.predicate.specs.Eval.{FoundAt, FoundNowhere, Finds}
-use Rattle.predicate.proofs.RowLaws.{row_missing, row_and, drop_row}
+use Rattle.predicate.proofs.RowLaws.{row_and, drop_row}
 use Rattle.predicate.proofs.ForestLaws.{forest_token, forest_node, found_level, found_kind, Ignores, ignored_none, ignored_found}
 
 -- how many numbers before the row found stand
@@ -48,22 +48,22 @@ found_before test level (k ∷ m ∷ a ∷ e ∷ rows) x more h = go (found_befo
 
 -- the first row that passes is the one found, and there is none where none is
 module _ {test : ℕ → Bool} {tree : List ℕ} {level from : ℕ} where
-  pub first_found : {at : ℕ} → FoundAt test tree level from at → Found.At at ≡ first_row test tree level from
+  pub first_found : {at : ℕ} → FoundAt test tree level from at → Some at ≡ first_row test tree level from
   unfolding first_row place_in
   first_found {at} f = place ∙ ap (place_in tree) (sym (drop_row tree at f.whole) ∙ f.here)
     where
-      place : Found.At at ≡ place_in tree (row_and tree at)
-      place = ap Found.At (omega (arith, length-drop (at + ROW) tree, f.whole))
+      place : Some at ≡ place_in tree (row_and tree at)
+      place = ap Some (omega (arith, length-drop (at + ROW) tree, f.whole))
 
-  pub first_nowhere : FoundNowhere test tree level from → Found.Absent ≡ first_row test tree level from
+  pub first_nowhere : FoundNowhere test tree level from → None ≡ first_row test tree level from
   unfolding first_row place_in
   first_nowhere n = ap (place_in tree) (sym n.none)
 
-  pub row_found : {at : ℕ} → first_row test tree level from ≡ Found.At at → FoundAt test tree level from at
+  pub row_found : {at : ℕ} → first_row test tree level from ≡ Some at → FoundAt test tree level from at
   unfolding first_row place_in
   row_found {at} h = go (rows_from test level (drop from tree)) refl h
     where
-      go : (rows : List ℕ) → rows_from test level (drop from tree) ≡ rows → place_in tree rows ≡ Found.At at → FoundAt test tree level from at
+      go : (rows : List ℕ) → rows_from test level (drop from tree) ≡ rows → place_in tree rows ≡ Some at → FoundAt test tree level from at
       go [] e p =
           let z : ◌≡◌ {A = ℕ} 0 1 = cc in
           absurd (omega arith)
@@ -83,24 +83,24 @@ module _ {test : ℕ → Bool} {tree : List ℕ} {level from : ℕ} where
           same : from + b.skipped ≡ at
           same = cc (first_found there ∙ h)
 
-  pub row_absent : first_row test tree level from ≡ Found.Absent → FoundNowhere test tree level from
+  pub row_absent : first_row test tree level from ≡ None → FoundNowhere test tree level from
   unfolding first_row place_in
   row_absent h = go (rows_from test level (drop from tree)) refl h
     where
-      go : (rows : List ℕ) → rows_from test level (drop from tree) ≡ rows → place_in tree rows ≡ Found.Absent → FoundNowhere test tree level from
+      go : (rows : List ℕ) → rows_from test level (drop from tree) ≡ rows → place_in tree rows ≡ None → FoundNowhere test tree level from
       go [] e p = record { none = e }
       go (x ∷ more) e p =
           let z : ◌≡◌ {A = ℕ} 0 1 = cc in
           absurd (omega arith)
 
 -- the first row inside a node, by what was found from its children's first place on, one level below its own
-pub child_first : (test : ℕ → Bool) (tree : List ℕ) (at : ℕ) {level : ℕ} (f : Found) → level ≡ level_at tree at → Finds test tree (level + 1) (at + ROW) f → f ≡ first_row test tree (level_at tree at + 1) (at + ROW)
-child_first test tree at (Found.At row) e h = first_found h ∙ ap (λ (l : ℕ). first_row test tree (l + 1) (at + ROW)) e
-child_first test tree at Found.Absent e h = first_nowhere h ∙ ap (λ (l : ℕ). first_row test tree (l + 1) (at + ROW)) e
+pub child_first : (test : ℕ → Bool) (tree : List ℕ) (at : ℕ) {level : ℕ} (f : Option ℕ) → level ≡ level_at tree at → Finds test tree (level + 1) (at + ROW) f → f ≡ first_row test tree (level_at tree at + 1) (at + ROW)
+child_first test tree at (Some row) e h = first_found h ∙ ap (λ (l : ℕ). first_row test tree (l + 1) (at + ROW)) e
+child_first test tree at None e h = first_nowhere h ∙ ap (λ (l : ℕ). first_row test tree (l + 1) (at + ROW)) e
 
-pub child_missing : (test : ℕ → Bool) (tree : List ℕ) (level at : ℕ) → is_row tree at ≡ false → Found.Absent ≡ first_row test tree level (at + ROW)
+pub child_missing : (test : ℕ → Bool) (tree : List ℕ) (level at : ℕ) → length tree < at + ROW → None ≡ first_row test tree level (at + ROW)
 unfolding first_row place_in rows_from
-child_missing test tree level at h = sym (ap (λ (rows : List ℕ). place_in tree (rows_from test level rows)) (drop_of_length-le tree {i = at + ROW} (omega (arith, row_missing tree at h))))
+child_missing test tree level at h = sym (ap (λ (rows : List ℕ). place_in tree (rows_from test level rows)) (drop_of_length-le tree {i = at + ROW} (omega (arith, h))))
 
 -- a string's content
 pub content_none : (string : List ℕ) → length string < 2 → [] ≡ content string

@@ -2,16 +2,17 @@
 use mathlib.Core.Path.{◌≡◌, refl, sym, ap, ◌∙◌}
 use mathlib.Core.Bool.{Bool, true, false, ◌&&◌}
 use mathlib.Core.List.{List, [], ◌∷◌}
-use Prim.Native.Nat.{ℕ, suc, ◌+◌, ◌-◌, ◌≤◌, ◌<◌}
+use Prim.Native.Nat.{ℕ, suc, ◌+◌, ◌≤◌, ◌<◌}
 use native.Mathlib.Omega.{arith}
-use lib.Dec.{ltb, leb}
+use lib.Dec.{ltb}
 use lib.ListN.{length, get_or, drop, length-drop}
 use lib.Seq.{drop-cons}
 use borrow.Author.Tests.{lt-ltb, le-ltb, le-leb, lt-leb, eq-eqb, ne_eqb, leb-true, leb-false, ltb-true}
 use Rattle.trees.specs.Green.{nil}
 use Rattle.syntax.proofs.BoolLaws.{both}
 use Rattle.predicate.specs.Rows.{ROW, forest, kind_at, level_at, is_row, is_below, row_passes, rows_from, past_below}
-use Rattle.predicate.specs.Eval.{FoundAt, FoundNowhere, Skips}
+use Rattle.predicate.specs.declared.rows.Row.{Row}
+use Rattle.predicate.specs.Eval.{IsRow, FoundAt, FoundNowhere, Skips}
 
 -- a whole row is there, or not
 pub row_there : (tree : List ℕ) (at : ℕ) → is_row tree at ≡ true → at + ROW ≤ length tree
@@ -21,18 +22,6 @@ row_there tree at h = leb-true (at + ROW) (length tree) h
 pub row_missing : (tree : List ℕ) (at : ℕ) → is_row tree at ≡ false → length tree < at + ROW
 unfolding is_row
 row_missing tree at h = leb-false (at + ROW) (length tree) h
-
-pub row_none : (tree : List ℕ) (at : ℕ) → length tree < ROW → false ≡ is_row tree at
-unfolding is_row
-row_none tree at h = sym (lt-leb (at + ROW) (length tree) (omega arith))
-
-pub row_within : (tree : List ℕ) (at : ℕ) → ROW ≤ length tree → leb at (length tree - ROW) ≡ is_row tree at
-unfolding is_row
-row_within tree at h = go (leb at (length tree - ROW)) refl
-  where
-    go : (t : Bool) → leb at (length tree - ROW) ≡ t → t ≡ leb (at + ROW) (length tree)
-    go true e = sym (le-leb (at + ROW) (length tree) (omega (arith, leb-true at (length tree - ROW) e)))
-    go false e = sym (lt-leb (at + ROW) (length tree) (omega (arith, leb-false at (length tree - ROW) e)))
 
 -- a row passes a test if it is at the level and its kind does
 pub passes_elsewhere : (test : ℕ → Bool) (tree : List ℕ) (level at : ℕ) {m : ℕ} → m ≡ level_at tree at → (m ≡ level → ⊥) → false ≡ row_passes test tree level at
@@ -44,13 +33,13 @@ unfolding row_passes
 passes_here test tree level at {m} e h = sym (rw (eq-eqb (level_at tree at) level (sym e ∙ h)))
 
 -- a row is below a level if it is there and its own level is
-pub below_none : (tree : List ℕ) (level at : ℕ) → is_row tree at ≡ false → false ≡ is_below tree level at
-unfolding is_below
-below_none tree level at h = sym (rw h)
+pub below_none : (tree : List ℕ) (level at : ℕ) → length tree < at + ROW → false ≡ is_below tree level at
+unfolding is_below is_row
+below_none tree level at h = sym (rw (lt-leb (at + ROW) (length tree) h))
 
-pub below_there : (tree : List ℕ) (level at : ℕ) {m : ℕ} → is_row tree at ≡ true → m ≡ level_at tree at → ltb level m ≡ is_below tree level at
-unfolding is_below
-below_there tree level at {m} h e = ap (ltb level) e ∙ sym (ap (λ (t : Bool). t && ltb level (level_at tree at)) h)
+pub below_there : {tree : List ℕ} (level : ℕ) {at : ℕ} {row : Row} → IsRow tree at row → ltb level row.level ≡ is_below tree level at
+unfolding is_below is_row
+below_there {tree} level {at} i = ap (ltb level) i.level ∙ sym (ap (λ (t : Bool). t && ltb level (level_at tree at)) (le-leb (at + ROW) (length tree) i.whole))
 
 -- the row at a place, and the rows after it
 abbrev pub row_and : List ℕ → ℕ → List ℕ
@@ -104,12 +93,12 @@ pub finding_start : {test : ℕ → Bool} {tree : List ℕ} {level from : ℕ} �
 finding_start h = record { later = omega arith; within = h; rest = refl }
 
 module _ {test : ℕ → Bool} {tree : List ℕ} {level from at : ℕ} (f : Finding test tree level from at) where
-  pub finding_end : is_row tree at ≡ false → FoundNowhere test tree level from
-  finding_end h = record { none = sym f.rest ∙ short_found test level (drop at tree) (few tree at (row_missing tree at h)) }
+  pub finding_end : length tree < at + ROW → FoundNowhere test tree level from
+  finding_end h = record { none = sym f.rest ∙ short_found test level (drop at tree) (few tree at h) }
 
-  module _ (h : is_row tree at ≡ true) where
+  module _ (h : at + ROW ≤ length tree) where
     here : drop at tree ≡ row_and tree at
-    here = drop_row tree at (row_there tree at h)
+    here = drop_row tree at h
 
     pub finding_above : level_at tree at < level → FoundNowhere test tree level from
     unfolding rows_from
@@ -117,7 +106,7 @@ module _ {test : ℕ → Bool} {tree : List ℕ} {level from at : ℕ} (f : Find
 
     pub finding_hit : level ≤ level_at tree at → row_passes test tree level at ≡ true → FoundAt test tree level from at
     unfolding rows_from row_passes
-    finding_hit l e = record { later = f.later; whole = row_there tree at h; here = here ∙ sym found ∙ sym (ap (rows_from test level) here) ∙ f.rest }
+    finding_hit l e = record { later = f.later; whole = h; here = here ∙ sym found ∙ sym (ap (rows_from test level) here) ∙ f.rest }
       where
         found : rows_from test level (row_and tree at) ≡ row_and tree at
         found = rw (le-ltb (level_at tree at) level l, e)
@@ -127,9 +116,26 @@ module _ {test : ℕ → Bool} {tree : List ℕ} {level from at : ℕ} (f : Find
     finding_on l e =
         record {
           later = omega (arith, f.later);
-          within = row_there tree at h;
+          within = h;
           rest = sym (ap (rows_from test level) here ∙ rw (le-ltb (level_at tree at) level l, e)) ∙ f.rest;
         }
+
+-- the row at the place reached is above the level, or passes, or is passed over
+module _ {test : ℕ → Bool} {tree : List ℕ} {level from at : ℕ} {row : Row} (f : Finding test tree level from at) (i : IsRow tree at row) where
+  pub found_above : row.level < level → FoundNowhere test tree level from
+  found_above l = finding_above f i.whole (omega (arith, i.level))
+
+  pub found_elsewhere : level ≤ row.level → (row.level ≡ level → ⊥) → Finding test tree level from (at + ROW)
+  found_elsewhere l d = finding_on f i.whole (omega (arith, i.level)) (sym (passes_elsewhere test tree level at i.level d))
+
+  passes : {r : Bool} → row.level ≡ level → r ≡ test row.kind → r ≡ row_passes test tree level at
+  passes e t = t ∙ ap test i.kind ∙ passes_here test tree level at i.level e
+
+  pub found_hit : {r : Bool} → row.level ≡ level → r ≡ test row.kind → r ≡ true → FoundAt test tree level from at
+  found_hit e t h = finding_hit f i.whole (omega (arith, i.level)) (sym (passes e t) ∙ h)
+
+  pub found_failing : {r : Bool} → row.level ≡ level → r ≡ test row.kind → r ≡ false → Finding test tree level from (at + ROW)
+  found_failing e t h = finding_on f i.whole (omega (arith, i.level)) (sym (passes e t) ∙ h)
 
 -- how far rows below a level were passed over
 pub record Skipping (tree : List ℕ) (level from at : ℕ) : Type 0 where

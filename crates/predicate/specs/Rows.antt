@@ -1,8 +1,7 @@
 -- Tree rows read back as a green tree. Assumes nothing: these are definitions.
-use Rattle.std.specs.Prelude.{ℕ, ◌+◌, ◌-◌, Bool, ◌&&◌, cond, List, [], ◌∷◌, eqb, ltb, leb, length, get_or, drop}
+use Rattle.std.specs.Prelude.{ℕ, ◌+◌, ◌-◌, Bool, ◌&&◌, cond, List, [], ◌∷◌, eqb, ltb, leb, length, get_or, drop, Option, None, Some}
 use Rattle.syntax.specs.Kind.{ROOT}
 use Rattle.syntax.specs.Text.{bytes_between}
-use Rattle.matching.specs.declared.search.Found.{Found}
 use Rattle.trees.specs.Green.{Forest, nil, leaf, node}
 
 -- the numbers of a tree row: kind, level, first byte, end byte
@@ -91,12 +90,12 @@ rows_from test level (k ∷ m ∷ first ∷ end ∷ rows) =
     cond (ltb m level) [] (cond (eqb m level && test k) (k ∷ m ∷ first ∷ end ∷ rows) (rows_from test level rows))
 
 -- the place in a table where rows begin that are the last of it; none where there are none
-unfoldable pub place_in : List ℕ → List ℕ → Found
-place_in tree [] = Found.Absent
-place_in tree (x ∷ rows) = Found.At (length tree - length (x ∷ rows))
+unfoldable pub place_in : List ℕ → List ℕ → Option ℕ
+place_in tree [] = None
+place_in tree (x ∷ rows) = Some (length tree - length (x ∷ rows))
 
 -- the place of the first row at a level, from a place on, that passes, before one that is above the level
-unfoldable pub first_row : (ℕ → Bool) → List ℕ → ℕ → ℕ → Found
+unfoldable pub first_row : (ℕ → Bool) → List ℕ → ℕ → ℕ → Option ℕ
 unfolding rows_from place_in
 first_row test tree level from = place_in tree (rows_from test level (drop from tree))
 

@@ -1,17 +1,17 @@
 // The atoms of predicates: `connected`, `has('..')`, `field == '..'` and `message.contains('..')`, of one member of a board.
 ghost use Rattle.std.specs.Prelude.{◌≡◌, ◌+◌, ◌≤◌, length};
 ghost use Rattle.syntax.specs.Kind.{BINARY_EXPR, UNARY_EXPR, PAREN_EXPR};
-ghost use Rattle.predicate.specs.Truth.{connected, has_property_of, has, compares, message_contains, truth};
-ghost use Rattle.predicate.specs.Rows.{ROW, kind_at, node_at};
+ghost use Rattle.predicate.specs.Truth.{connected, has_property_of, has, compares, message_contains, literal_of};
+ghost use Rattle.predicate.specs.Rows.{ROW, kind_at, children_at};
+ghost use Rattle.predicate.specs.Eval.{truth_at};
 
-use crate::node;
+use crate::{Evaluator, node};
 use board::image;
 use board::image::Section;
 use instance;
 use matching;
 use matching::search;
-use matching::search::Found;
-use syntax::{kind, text};
+use syntax::kind;
 
 // A member of a collection: a component, a component's feature, or a diagnostic, by their indexes on the board.
 #[derive(Clone, Copy)]
@@ -21,55 +21,87 @@ pub enum Member {
     Diagnostic(u32),
 }
 
-// Whether the atom whose row is at a place is true of a member.
-pub(crate) fn eval_atom(rule: &[u8], image: &[u8], tree: &[u32], member: Member, at: usize) -> bool
-    requires { (at + ROW ≤ length tree.now) × (kind_at tree.now at ≡ BINARY_EXPR → ⊥) × (kind_at tree.now at ≡ UNARY_EXPR → ⊥) × (kind_at tree.now at ≡ PAREN_EXPR → ⊥) }
-    ensures { result ≡ truth image.now member (node_at rule.now tree.now at) }
-{
-    let kind = tree[at];
-    if kind == kind::IDENT_EXPR {
-        return connected(image, member);
-    }
-    let value = node::find_string_literal(rule, tree, at);
-    if kind == kind::CALL_EXPR {
-        return has(image, member, value);
-    }
-    if kind == kind::CONTAINS_EXPR {
-        return message_contains(image, member, value);
-    }
-    if kind == kind::COMPARE_EXPR {
-        let field = node::ident(rule, tree, at);
-        return compares(image, member, field, value);
-    }
-    false
-}
-
-// `connected`, which is false of a diagnostic.
-fn connected(image: &[u8], member: Member) -> bool
-    ensures { result ≡ connected image.now member }
-{
-    match member {
-        Member::Component(component) => instance::component_connected(image, component),
-        Member::Feature(component, feature) => instance::feature_connected(
-            image, component, feature,
-        ),
-        Member::Diagnostic(_) => false,
-    }
-}
-
-// `has('..')`: of a component by its properties or its features' names, of a feature by its owner's properties, of no diagnostic.
-fn has(image: &[u8], member: Member, value: &[u8]) -> bool
-    ensures { result ≡ has image.now member value.now }
-{
-    match member {
-        Member::Component(component) => {
-            if has_property_of(image, component, value) {
-                return true;
+impl<'a> Evaluator<'a> {
+    // Whether the atom whose row is at a place is true of the member.
+    pub(crate) fn eval_atom(&self, at: usize) -> bool
+        requires row { at + ROW ≤ length self.now.tree.now }
+        requires atom { (kind_at self.now.tree.now at ≡ BINARY_EXPR → ⊥) × (kind_at self.now.tree.now at ≡ UNARY_EXPR → ⊥) × (kind_at self.now.tree.now at ≡ PAREN_EXPR → ⊥) }
+        ensures { result ≡ truth_at self.now at }
+    {
+        match self.tree[at] {
+            kind::IDENT_EXPR => self.member.connected(self.image),
+            kind::CALL_EXPR => self.member.has(self.image, self.value(at)),
+            kind::CONTAINS_EXPR => self.member.message_contains(self.image, self.value(at)),
+            kind::COMPARE_EXPR => {
+                let field = node::ident(self.rule, self.tree, at);
+                self.member.compares(self.image, field, self.value(at))
             }
-            instance::has_feature(image, component, value)
+            _ => false,
         }
-        Member::Feature(component, _) => has_property_of(image, component, value),
-        Member::Diagnostic(_) => false,
+    }
+
+    // The text that an atom compares with.
+    fn value(&self, at: usize) -> &'a [u8]
+        ensures { result.now ≡ literal_of (children_at self.now.rule.now self.now.tree.now at) }
+    {
+        node::find_string_literal(self.rule, self.tree, at)
+    }
+}
+
+impl Member {
+    // `connected`, which is false of a diagnostic.
+    #[tactic(auto, unfolding(crate::specs::Truth::connected))]
+    fn connected(self, image: &[u8]) -> bool
+        ensures { result ≡ connected image.now self }
+    {
+        match self {
+            Member::Component(component) => instance::component_connected(image, component),
+            Member::Feature(component, feature) => instance::feature_connected(
+                image, component, feature,
+            ),
+            Member::Diagnostic(_) => false,
+        }
+    }
+
+    // `has('..')`: of a component by its properties or its features' names, of a feature by its owner's properties, of no diagnostic.
+    #[tactic(auto, unfolding(crate::specs::Truth::has))]
+    fn has(self, image: &[u8], value: &[u8]) -> bool
+        ensures { result ≡ has image.now self value.now }
+    {
+        match self {
+            Member::Component(component) => {
+                has_property_of(image, component, value)
+                    || instance::has_feature(image, component, value)
+            }
+            Member::Feature(component, _) => has_property_of(image, component, value),
+            Member::Diagnostic(_) => false,
+        }
+    }
+
+    // `field == '..'`, which is false of a field that the member does not have.
+    #[tactic(auto, unfolding(crate::specs::Truth::compares))]
+    fn compares(self, image: &[u8], field: &[u8], value: &[u8]) -> bool
+        ensures { result ≡ compares image.now self field.now value.now }
+    {
+        match self {
+            Member::Component(component) => category_is(image, component, field, value),
+            Member::Feature(component, feature) => feature_compares(
+                image, component, feature, field, value,
+            ),
+            Member::Diagnostic(diagnostic) => severity_is(image, diagnostic, field, value),
+        }
+    }
+
+    // `message.contains('..')`, which is false of what is no diagnostic.
+    #[tactic(auto, unfolding(crate::specs::Truth::message_contains))]
+    fn message_contains(self, image: &[u8], value: &[u8]) -> bool
+        ensures { result ≡ message_contains image.now self value.now }
+    {
+        let Member::Diagnostic(diagnostic) = self else {
+            return false;
+        };
+        let message = image::field(image, Section::Diagnostics, diagnostic, image::MESSAGE);
+        search::contains(image::string(image, message), value)
     }
 }
 
@@ -77,42 +109,22 @@ fn has(image: &[u8], member: Member, value: &[u8]) -> bool
 fn has_property_of(image: &[u8], component: u32, value: &[u8]) -> bool
     ensures { result ≡ has_property_of image.now component value.now }
 {
-    let found = search::find(value, b"::");
-    let Found::At(at) = found else {
-        return instance::has_property(image, component, b"", value);
-    };
-    let past = at + 2;
-    instance::has_property(image, component, &value[..at], &value[past..])
-}
-
-// `field == '..'`, which is false of a field that the member does not have.
-fn compares(image: &[u8], member: Member, field: &[u8], value: &[u8]) -> bool
-    ensures { result ≡ compares image.now member field.now value.now }
-{
-    match member {
-        Member::Component(component) => category_is(image, component, field, value),
-        Member::Feature(component, feature) => feature_compares(
-            image, component, feature, field, value,
-        ),
-        Member::Diagnostic(diagnostic) => {
-            if !text::same(field, b"severity") {
-                return false;
-            }
-            let severity = image::field(image, Section::Diagnostics, diagnostic, image::SEVERITY);
-            matching::severity_matches(severity, value)
-        }
+    match search::find(value, b"::") {
+        Some(at) => instance::has_property(image, component, &value[..at], &value[at + 2..]),
+        None => instance::has_property(image, component, b"", value),
     }
 }
 
-// The same of a feature.
+// `field == '..'` of a feature.
+#[tactic(auto, using(matching::proofs::WordLaws::pointwise_same), unfolding(crate::specs::Truth::compares))]
 fn feature_compares(image: &[u8], component: u32, feature: u32, field: &[u8], value: &[u8]) -> bool
     ensures { result ≡ compares image.now (Member.Feature component feature) field.now value.now }
 {
-    if text::same(field, b"kind") {
+    if field == b"kind".as_slice() {
         let kind = image::field(image, Section::Features, feature, image::FEATURE_KIND);
         return matching::feature_kind_matches(kind, value);
     }
-    if text::same(field, b"direction") {
+    if field == b"direction".as_slice() {
         let direction = image::field(image, Section::Features, feature, image::DIRECTION);
         return matching::direction_matches(direction, value);
     }
@@ -120,26 +132,25 @@ fn feature_compares(image: &[u8], component: u32, feature: u32, field: &[u8], va
 }
 
 // The same of a component.
+#[tactic(auto, using(matching::proofs::WordLaws::pointwise_same), unfolding(crate::specs::Truth::compares))]
 fn category_is(image: &[u8], component: u32, field: &[u8], value: &[u8]) -> bool
     ensures { result ≡ compares image.now (Member.Component component) field.now value.now }
 {
-    if !text::same(field, b"category") {
-        return false;
-    }
-    let category = image::field(image, Section::Components, component, image::CATEGORY);
-    matching::category_matches(category, value)
+    field == b"category".as_slice()
+        && matching::category_matches(
+            image::field(image, Section::Components, component, image::CATEGORY),
+            value,
+        )
 }
 
-// `message.contains('..')`, which is false of what is no diagnostic.
-fn message_contains(image: &[u8], member: Member, value: &[u8]) -> bool
-    ensures { result ≡ message_contains image.now member value.now }
+// The same of a diagnostic.
+#[tactic(auto, using(matching::proofs::WordLaws::pointwise_same), unfolding(crate::specs::Truth::compares))]
+fn severity_is(image: &[u8], diagnostic: u32, field: &[u8], value: &[u8]) -> bool
+    ensures { result ≡ compares image.now (Member.Diagnostic diagnostic) field.now value.now }
 {
-    match member {
-        Member::Component(_) => false,
-        Member::Feature(_, _) => false,
-        Member::Diagnostic(diagnostic) => {
-            let message = image::field(image, Section::Diagnostics, diagnostic, image::MESSAGE);
-            search::contains(image::string(image, message), value)
-        }
-    }
+    field == b"severity".as_slice()
+        && matching::severity_matches(
+            image::field(image, Section::Diagnostics, diagnostic, image::SEVERITY),
+            value,
+        )
 }

@@ -6,14 +6,23 @@ pub mod atom;
 pub mod node;
 pub mod rows;
 
-ghost use Rattle.std.specs.Prelude.{◌≡◌, ◌+◌, ◌≤◌, ◌<◌, ◌^◌, length};
+ghost use Rattle.std.specs.Prelude.{◌≡◌, ◌+◌, ◌≤◌, length};
 ghost use Rattle.predicate.specs.Truth.{truth, or_after};
 ghost use Rattle.predicate.specs.Rows.{ROW, children_at, node_at};
-ghost use Rattle.predicate.specs.Eval.{Evaluated, Inner, Operand, Joins, Joined};
+ghost use Rattle.predicate.specs.Eval.{truth_at, Evaluated, Inner, Operand, Joins, Joined};
 
 use atom::Member;
-use matching::search::Found;
+use rows::Row;
 use syntax::kind;
+
+// What evaluates the nodes of a rule's tree: the rule, its tree, and the member of a board that they are asked of.
+#[derive(Clone, Copy)]
+struct Evaluator<'a> {
+    rule: &'a [u8],
+    image: &'a [u8],
+    tree: &'a [u32],
+    member: Member,
+}
 
 // The truth of a node, and the place of the row after its last.
 #[derive(Clone, Copy)]
@@ -34,170 +43,161 @@ struct Operands {
 pub fn eval_predicate(rule: &[u8], image: &[u8], tree: &[u32], member: Member, at: usize) -> bool
     ensures { result ≡ truth image.now member (node_at rule.now tree.now at) }
 {
-    if tree.len() < rows::ROW {
-        return false;
+    let evaluator = Evaluator {
+        rule,
+        image,
+        tree,
+        member,
+    };
+    match Row::at(tree, at) {
+        Some(_) => evaluator.eval_node(at).value,
+        None => false,
     }
-    if tree.len() - rows::ROW < at {
-        return false;
-    }
-    let node = eval_node(rule, image, tree, member, at);
-    node.value
 }
 
 // The same of the first node inside the one whose row is at a place, as the predicate in a CALL_ARGS; false where there is none.
-#[cycle(eval_args)]
 pub fn eval_args(rule: &[u8], image: &[u8], tree: &[u32], member: Member, at: usize) -> bool
     ensures { result ≡ truth image.now member (children_at rule.now tree.now at) }
 {
-    if !rows::is_row(tree, at) {
-        return false;
-    }
-    let children = rows::level_at(tree, at) + 1;
-    let found = rows::find_child(tree, children, at + rows::ROW);
-    let Found::At(predicate) = found else {
-        return false;
+    let evaluator = Evaluator {
+        rule,
+        image,
+        tree,
+        member,
     };
-    eval_alone(rule, image, tree, member, predicate)
+    evaluator.eval_args(at)
 }
 
-// The truth of a node after which no row is looked at, so that its rows need not be passed over.
-#[cycle(eval_args)]
-fn eval_alone(rule: &[u8], image: &[u8], tree: &[u32], member: Member, at: usize) -> bool
-    requires { at + ROW ≤ length tree.now }
-    ensures { result ≡ truth image.now member (node_at rule.now tree.now at) }
-{
-    match tree[at] {
-        kind::BINARY_EXPR => eval_node(rule, image, tree, member, at).value,
-        kind::UNARY_EXPR => !eval_args(rule, image, tree, member, at),
-        kind::PAREN_EXPR => eval_args(rule, image, tree, member, at),
-        _ => atom::eval_atom(rule, image, tree, member, at),
+impl Evaluator<'_> {
+    // The truth of the first node inside the one whose row is at a place; false where there is none.
+    #[cycle(eval_args)]
+    fn eval_args(&self, at: usize) -> bool
+        ensures { result ≡ truth self.now.image.now self.now.member (children_at self.now.rule.now self.now.tree.now at) }
+    {
+        match node::first_child(self.tree, at) {
+            Some(predicate) => self.eval_alone(predicate),
+            None => false,
+        }
     }
-}
 
-#[cycle(eval_node)]
-fn eval_node(rule: &[u8], image: &[u8], tree: &[u32], member: Member, at: usize) -> Truth
-    requires { at + ROW ≤ length tree.now }
-    ensures { Evaluated rule.now image.now tree.now member at result }
-{
-    let kind = tree[at];
-    let level = rows::level_at(tree, at);
-    if kind == kind::BINARY_EXPR {
-        return eval_operands(rule, image, tree, member, level, at + rows::ROW);
+    // The truth of a node after which no row is looked at, so that its rows need not be passed over.
+    #[cycle(eval_args)]
+    fn eval_alone(&self, at: usize) -> bool
+        requires { at + ROW ≤ length self.now.tree.now }
+        ensures { result ≡ truth_at self.now at }
+    {
+        match self.tree[at] {
+            kind::BINARY_EXPR => self.eval_node(at).value,
+            kind::UNARY_EXPR => !self.eval_args(at),
+            kind::PAREN_EXPR => self.eval_args(at),
+            _ => self.eval_atom(at),
+        }
     }
-    if kind == kind::UNARY_EXPR {
-        let inner = eval_inner(rule, image, tree, member, level, at + rows::ROW);
-        return Truth {
-            value: !inner.value,
-            next: inner.next,
-        };
-    }
-    if kind == kind::PAREN_EXPR {
-        return eval_inner(rule, image, tree, member, level, at + rows::ROW);
-    }
-    let value = atom::eval_atom(rule, image, tree, member, at);
-    Truth {
-        value: value,
-        next: rows::skip_below(tree, level, at + rows::ROW),
-    }
-}
 
-// The first node below a level from a place on: its truth, or false where there is none.
-#[cycle(eval_node)]
-fn eval_inner(
-    rule: &[u8],
-    image: &[u8],
-    tree: &[u32],
-    member: Member,
-    level: usize,
-    from: usize,
-) -> Truth
-    requires { (from ≤ length tree.now) × (level < 2 ^ 32) }
-    ensures { Inner rule.now image.now tree.now member level from result }
-{
-    let found = rows::find_child(tree, level + 1, from);
-    let Found::At(at) = found else {
-        return Truth {
-            value: false,
-            next: rows::skip_below(tree, level, from),
-        };
-    };
-    let inner = eval_node(rule, image, tree, member, at);
-    Truth {
-        value: inner.value,
-        next: rows::skip_below(tree, level, inner.next),
+    // The truth of a node, and where the rows after it begin.
+    #[cycle(eval_node)]
+    fn eval_node(&self, at: usize) -> Truth
+        requires { at + ROW ≤ length self.now.tree.now }
+        ensures { Evaluated self.now at result }
+    {
+        let level = self.tree[at + 1];
+        let inside = at + rows::ROW;
+        match self.tree[at] {
+            kind::BINARY_EXPR => self.eval_operands(level, inside),
+            kind::UNARY_EXPR => {
+                let inner = self.eval_inner(level, inside);
+                Truth {
+                    value: !inner.value,
+                    next: inner.next,
+                }
+            }
+            kind::PAREN_EXPR => self.eval_inner(level, inside),
+            _ => Truth {
+                value: self.eval_atom(at),
+                next: rows::skip_below(self.tree, level as usize, inside),
+            },
+        }
     }
-}
 
-// The operands below a level from a place on, joined from left to right.
-#[cycle(eval_node)]
-fn eval_operands(
-    rule: &[u8],
-    image: &[u8],
-    tree: &[u32],
-    member: Member,
-    level: usize,
-    from: usize,
-) -> Truth
-    requires { (from ≤ length tree.now) × (level < 2 ^ 32) }
-    ensures { Joined rule.now image.now tree.now member level from result }
-{
-    let mut operands = Operands {
-        at: from,
-        or: false,
-        before: true,
-    };
-    while rows::is_below(tree, level, operands.at) {
-        operands = eval_operand(rule, image, tree, member, level, operands);
+    // The first node below a level from a place on: its truth, or false where there is none.
+    #[cycle(eval_node)]
+    fn eval_inner(&self, level: u32, from: usize) -> Truth
+        requires { from ≤ length self.now.tree.now }
+        ensures { Inner self.now level from result }
+    {
+        let level = level as usize;
+        match rows::find_child(self.tree, level + 1, from) {
+            Some(at) => {
+                let inner = self.eval_node(at);
+                Truth {
+                    value: inner.value,
+                    next: rows::skip_below(self.tree, level, inner.next),
+                }
+            }
+            None => Truth {
+                value: false,
+                next: rows::skip_below(self.tree, level, from),
+            },
+        }
     }
-    Truth {
-        value: operands.before,
-        next: operands.at,
-    }
-}
 
-// One row more: an operator, or an operand, which is passed over where it cannot change the truth so far.
-#[cycle(eval_node)]
-fn eval_operand(
-    rule: &[u8],
-    image: &[u8],
-    tree: &[u32],
-    member: Member,
-    level: usize,
-    operands: Operands,
-) -> Operands
-    requires { Operand tree.now level operands × (level < 2 ^ 32) }
-    ensures { Joins rule.now image.now tree.now member level operands result }
-{
-    let at = operands.at;
-    let or = operands.or;
-    let before = operands.before;
-    if level + 1 < rows::level_at(tree, at) {
-        return Operands {
-            at: at + rows::ROW,
-            or: or,
-            before: before,
+    // The operands below a level from a place on, joined from left to right.
+    #[cycle(eval_node)]
+    fn eval_operands(&self, level: u32, from: usize) -> Truth
+        requires { from ≤ length self.now.tree.now }
+        ensures { Joined self.now level from result }
+    {
+        let mut operands = Operands {
+            at: from,
+            or: false,
+            before: true,
         };
+        while rows::is_below(self.tree, level as usize, operands.at) {
+            operands = self.eval_operand(level, operands);
+        }
+        Truth {
+            value: operands.before,
+            next: operands.at,
+        }
     }
-    let kind = tree[at];
-    if kind < kind::ROOT {
-        return Operands {
-            at: at + rows::ROW,
-            or: or_after(kind, or),
-            before: before,
-        };
-    }
-    if before == or {
-        return Operands {
-            at: rows::skip_below(tree, level + 1, at + rows::ROW),
-            or: or,
-            before: before,
-        };
-    }
-    let operand = eval_node(rule, image, tree, member, at);
-    Operands {
-        at: operand.next,
-        or: or,
-        before: operand.value,
+
+    // One row more: an operator, or an operand, which is passed over where it cannot change the truth so far.
+    #[cycle(eval_node)]
+    fn eval_operand(&self, level: u32, operands: Operands) -> Operands
+        requires { Operand self.now.tree.now level operands }
+        ensures { Joins self.now level operands result }
+    {
+        let Operands { at, or, before } = operands;
+        let below = level as usize + 1;
+        let after = at + rows::ROW;
+        let kind = self.tree[at];
+        if below < self.tree[at + 1] as usize {
+            return Operands {
+                at: after,
+                or,
+                before,
+            };
+        }
+        if kind < kind::ROOT {
+            return Operands {
+                at: after,
+                or: or_after(kind, or),
+                before,
+            };
+        }
+        if before == or {
+            return Operands {
+                at: rows::skip_below(self.tree, below, after),
+                or,
+                before,
+            };
+        }
+        let operand = self.eval_node(at);
+        Operands {
+            at: operand.next,
+            or,
+            before: operand.value,
+        }
     }
 }
 
@@ -205,11 +205,9 @@ fn eval_operand(
 fn or_after(kind: u32, or: bool) -> bool
     ensures { result ≡ or_after kind or }
 {
-    if kind == kind::OR_KW {
-        return true;
+    match kind {
+        kind::OR_KW => true,
+        kind::AND_KW => false,
+        _ => or,
     }
-    if kind == kind::AND_KW {
-        return false;
-    }
-    or
 }

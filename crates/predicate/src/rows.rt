@@ -1,70 +1,71 @@
 // Rows of a tree table: kind, level, first byte, end byte. The children of a node are the rows one level below it that follow its own,
 // as far as the next row that is not below it.
-ghost use Rattle.std.specs.Prelude.{◌≡◌, ◌+◌, ◌≤◌, ◌<◌, ◌^◌, length};
-ghost use Rattle.predicate.specs.Rows.{level_at, is_row, is_below, row_passes, of_kind, of_node};
+ghost use Rattle.std.specs.Prelude.{◌≡◌, ℕ, ◌+◌, ◌≤◌, ◌<◌, Bool, length, MatchOption};
+ghost use Rattle.predicate.specs.Rows.{is_below, of_kind, of_node};
 ghost use Rattle.predicate.specs.Rows as meant;
-ghost use Rattle.predicate.specs.Eval.{Finds, Skips};
+ghost use Rattle.predicate.specs.Eval.{IsRow, Tells, Finds, Skips};
 
-use matching::search::Found;
 use syntax::kind;
 
 // The numbers of a row.
 pub const ROW: usize = 4;
 
+// The kind of a row and its level.
+#[derive(Clone, Copy)]
+pub(crate) struct Row {
+    pub(crate) kind: u32,
+    pub(crate) level: u32,
+}
+
+impl Row {
+    // The row at a place, if a whole one is there.
+    pub(crate) fn at(tree: &[u32], at: usize) -> Option<Row>
+        ensures { MatchOption result (length tree.now < at + meant.ROW) (IsRow tree.now at) }
+    {
+        match tree.get(at..)? {
+            [kind, level, _, _, ..] => Some(Row {
+                kind: *kind,
+                level: *level,
+            }),
+            _ => None,
+        }
+    }
+}
+
 // The first row of a kind at a level, from a place on, before one that is above the level.
-pub(crate) fn find_row(tree: &[u32], level: usize, kind: u32, from: usize) -> Found
+pub(crate) fn find_row(tree: &[u32], level: usize, kind: u32, from: usize) -> Option<usize>
     requires { from ≤ length tree.now }
     ensures { Finds (of_kind kind) tree.now level from result }
 {
-    let mut at = from;
-    while is_row(tree, at) {
-        if level_at(tree, at) < level {
-            return Found::Absent;
-        }
-        if row_is(tree, level, kind, at) {
-            return Found::At(at);
-        }
-        at += ROW;
-    }
-    Found::Absent
-}
-
-fn row_is(tree: &[u32], level: usize, kind: u32, at: usize) -> bool
-    requires { at + meant.ROW ≤ length tree.now }
-    ensures { result ≡ row_passes (of_kind kind) tree.now level at }
-{
-    if level_at(tree, at) != level {
-        return false;
-    }
-    tree[at] == kind
+    find(tree, level, from, |k| k == kind)
 }
 
 // The first node at a level, from a place on, before a row that is above the level.
-pub(crate) fn find_child(tree: &[u32], level: usize, from: usize) -> Found
+pub(crate) fn find_child(tree: &[u32], level: usize, from: usize) -> Option<usize>
     requires { from ≤ length tree.now }
     ensures { Finds of_node tree.now level from result }
 {
+    find(tree, level, from, |k| kind::ROOT <= k)
+}
+
+// The first row at a level whose kind passes a test, from a place on, before a row that is above the level.
+fn find<F: Fn(u32) -> bool>(tree: &[u32], level: usize, from: usize, test: F) -> Option<usize>
+    requires callable { F.IsAlwaysCallable test }
+    requires within { from ≤ length tree.now }
+    ensures { (p : ℕ → Bool) → Tells (F.post test) p → Finds p tree.now level from result }
+{
     let mut at = from;
-    while is_row(tree, at) {
-        if level_at(tree, at) < level {
-            return Found::Absent;
+    while let Some(row) = Row::at(tree, at) {
+        let here = row.level as usize;
+        if here < level {
+            return None;
         }
-        if row_is_child(tree, level, at) {
-            return Found::At(at);
+        if here == level && test(row.kind) {
+            return Some(at);
         }
         at += ROW;
     }
-    Found::Absent
-}
-
-fn row_is_child(tree: &[u32], level: usize, at: usize) -> bool
-    requires { at + meant.ROW ≤ length tree.now }
-    ensures { result ≡ row_passes of_node tree.now level at }
-{
-    if level_at(tree, at) != level {
-        return false;
-    }
-    kind::ROOT <= tree[at]
+    None
 }
 
 // The place of the first row from a place on that is not below a level, or past the last whole row.
@@ -83,26 +84,8 @@ pub(crate) fn skip_below(tree: &[u32], level: usize, from: usize) -> usize
 pub fn is_below(tree: &[u32], level: usize, at: usize) -> bool
     ensures { result ≡ is_below tree.now level at }
 {
-    if !is_row(tree, at) {
-        return false;
+    match Row::at(tree, at) {
+        Some(row) => level < row.level as usize,
+        None => false,
     }
-    level < level_at(tree, at)
-}
-
-// Whether a whole row is at a place.
-pub(crate) fn is_row(tree: &[u32], at: usize) -> bool
-    ensures { result ≡ is_row tree.now at }
-{
-    if tree.len() < ROW {
-        return false;
-    }
-    at <= tree.len() - ROW
-}
-
-// The level of the row at a place.
-pub(crate) fn level_at(tree: &[u32], at: usize) -> usize
-    requires { at + meant.ROW ≤ length tree.now }
-    ensures { (result ≡ level_at tree.now at) × (result < 2 ^ 32) }
-{
-    tree[at + 1] as usize
 }

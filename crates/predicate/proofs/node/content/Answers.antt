@@ -2,8 +2,8 @@
 use Rattle.predicate.proofs.NodeLaws.{content_none, content_part}
 use Rattle.predicate.proofs.node.content.Goals as goal
 
-pub returns-then-string-lt2 : goal.returns-then-string-lt2
-returns-then-string-lt2 c = content_none _ c.if-string-lt2.true
+pub returns-in_default : goal.returns-in_default
+returns-in_default c = content_none _ c.in_default.len_below
 
-pub returns : goal.returns
-returns c = content_part _
+pub returns-in-len2-up : goal.returns-in-len2-up
+returns-in-len2-up c = content_part _

@@ -4,8 +4,8 @@ use Rattle.predicate.specs.Truth.{content}
 use Rattle.predicate.proofs.NodeLaws.{row_found, row_absent, literal_none, literal_found}
 use Rattle.predicate.proofs.node.find_string_literal.Goals as goal
 
-pub returns-in_default : goal.returns-in_default
-returns-in_default c = literal_none _ (row_absent (sym c.child_of_kind-literal.ensures ∙ c.in_default.is))
+pub returns-in-Some : goal.returns-in-Some
+returns-in-Some c = c.content.ensures ∙ ap content c.first_text.ensures ∙ literal_found _ (row_found (sym c.child_of_kind.ensures ∙ c.in-Some.is))
 
-pub returns : goal.returns
-returns c = c.content.ensures ∙ ap content c.first_text.ensures ∙ literal_found _ (row_found (sym c.child_of_kind-literal.ensures ∙ c.in-At.is))
+pub returns-in-None : goal.returns-in-None
+returns-in-None c = literal_none _ (row_absent (sym c.child_of_kind.ensures ∙ c.in-None.is))
