@@ -15,7 +15,7 @@ use lib.Seq.{take_all, set_out, get_or-set_same, get_or-set_other, ext_get_or}
 use Rattle.syntax.specs.Text.{ascii, same}
 use Rattle.syntax.proofs.BoolLaws.{whether}
 use Rattle.board.specs.Image.{text, component_count, property_count, property_component, property_set, property_name}
-use Rattle.matching.specs.declared.search.Found.{Found}
+use Rattle.std.specs.Prelude.{Option, Some, None}
 use Rattle.matching.specs.Search.{find, set_before, name_after, property_set_of, property_name_of}
 use Rattle.instance.specs.Instance.{some, is_property, has_property, has_feature}
 use Rattle.marks.specs.Marks.{mark_of, is_named, property_marks, marked, marks_of, feature_mark, feature_marks, featured, mark_by}
@@ -138,14 +138,14 @@ module _ (image set_name name : List ℕ) (property : ℕ) (marks : List ℕ) {r
 -- ---- a text, parted where `::` was found, whole where it was not
 
 module _ (image value : List ℕ) (n : ℕ) where
-  by_found : {f : Found} → find (ascii "::") value ≡ f → property_marks image (set_before f value) (name_after f value) 0 n ≡ marks_of image value n
+  by_found : {f : Option ℕ} → find (ascii "::") value ≡ f → property_marks image (set_before f value) (name_after f value) 0 n ≡ marks_of image value n
   unfolding marks_of property_set_of property_name_of
-  by_found e = sym (ap (λ (f : Found). property_marks image (set_before f value) (name_after f value) 0 n) e)
+  by_found e = sym (ap (λ (f : Option ℕ). property_marks image (set_before f value) (name_after f value) 0 n) e)
 
-  pub marks_whole : find (ascii "::") value ≡ Found.Absent → property_marks image [] value 0 n ≡ marks_of image value n
+  pub marks_whole : find (ascii "::") value ≡ None → property_marks image [] value 0 n ≡ marks_of image value n
   marks_whole e = by_found e
 
-  pub marks_parted : {at : ℕ} → find (ascii "::") value ≡ Found.At at
+  pub marks_parted : {at : ℕ} → find (ascii "::") value ≡ Some at
       → property_marks image (take at value) (take (length value - (at + 2)) (drop (at + 2) value)) 0 n ≡ marks_of image value n
   marks_parted {at} e =
       ap (λ (name : List ℕ). property_marks image (take at value) name 0 n) (take_all (length value - (at + 2)) (drop (at + 2) value) (omega (arith, length-drop (at + 2) value)))
