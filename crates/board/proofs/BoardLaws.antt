@@ -13,7 +13,8 @@ use borrow.Author.Tests.{eq-eqb, eqb-true, leb-true, ltb-true, ltb-false, le-leb
 use Rattle.syntax.specs.Utf8.{utf8, is_ascii}
 use Rattle.syntax.proofs.BoolLaws.{both, neither}
 use Rattle.syntax.proofs.Utf8Laws.{ascii_utf8, ascii_take, ascii_drop}
-use Rattle.syntax.specs.declared.refusal.Check.{Check}
+use Rattle.std.specs.Prelude.{Ok, Err}
+use Rattle.syntax.specs.Refusal.{Check}
 use Rattle.syntax.specs.declared.refusal.Refusal.{Refusal}
 use Rattle.syntax.specs.declared.refusal.Refusal.TheVariants.{ImageBadSections, ImageBadStrings, ImageBadRecords, CollectionTooShort}
 use Rattle.board.specs.declared.image.Section.{Section}
@@ -362,11 +363,11 @@ record Passes (a b c d : Bool) : Type 0 where
   records : c ≡ true
   collection : d ≡ false
 
-never : {r : Refusal} → Check.Refused r ≡ Check.Passed → ⊥
+never : {r : Refusal} → ◌≡◌ {A = Check} (Err r) (Ok tt) → ⊥
 never e = let z : ◌≡◌ {A = ℕ} 0 1 = cc in omega arith
 
 passes : (a b c d : Bool)
-    → cond (not a) (Check.Refused ImageBadSections) (cond (not b) (Check.Refused ImageBadStrings) (cond (not c) (Check.Refused ImageBadRecords) (cond d (Check.Refused CollectionTooShort) Check.Passed))) ≡ Check.Passed
+    → ◌≡◌ {A = Check} (cond (not a) (Err ImageBadSections) (cond (not b) (Err ImageBadStrings) (cond (not c) (Err ImageBadRecords) (cond d (Err CollectionTooShort) (Ok tt))))) (Ok tt)
     → Passes a b c d
 passes true true true false e = record { sections = refl; strings = refl; records = refl; collection = refl }
 passes true true true true e = absurd (never e)
@@ -374,12 +375,12 @@ passes true true false d e = absurd (never e)
 passes true false c d e = absurd (never e)
 passes false b c d e = absurd (never e)
 
-passes_of : (image : List ℕ) (collection : ℕ) → check_image image collection ≡ Check.Passed → Passes (sections_fit image) (strings_fit image) (records_fit image) (collection_short image collection)
+passes_of : (image : List ℕ) (collection : ℕ) → check_image image collection ≡ Ok tt → Passes (sections_fit image) (strings_fit image) (records_fit image) (collection_short image collection)
 unfolding check_image
 passes_of image collection = passes (sections_fit image) (strings_fit image) (records_fit image) (collection_short image collection)
 
 -- an image that is not turned away is well formed
-pub passed_well_formed : (image : List ℕ) (collection : ℕ) → check_image image collection ≡ Check.Passed → WellFormed image
+pub passed_well_formed : (image : List ℕ) (collection : ℕ) → check_image image collection ≡ Ok tt → WellFormed image
 passed_well_formed image collection e =
     let p = passes_of image collection e in
     well_formed image p.sections p.strings p.records
@@ -392,7 +393,7 @@ field_read image w s index number l h =
     rw (le-leb (section_offset image s + record_size s * index + NUMBER_SIZE * number + NUMBER_SIZE) (length image) (omega (arith, w.record_within s index l)))
 
 -- and the collection table has room for its members
-pub passed_room : (image : List ℕ) (collection : ℕ) → check_image image collection ≡ Check.Passed → Room image collection
+pub passed_room : (image : List ℕ) (collection : ℕ) → check_image image collection ≡ Ok tt → Room image collection
 unfolding collection_short
 passed_room image collection e =
     let n = neither (ltb (collection / COLLECTION_ROW) (component_count image + feature_count image)) (ltb (collection / COLLECTION_ROW) (diagnostic_count image)) (passes_of image collection e).collection in

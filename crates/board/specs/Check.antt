@@ -1,8 +1,8 @@
 -- Document 01, "Turned away", refusals 5 to 8: which bytes are a board image, and whether the collection table is long enough for it.
 -- Assumes nothing: these are definitions.
-use Rattle.std.specs.Prelude.{ℕ, zero, suc, ◌+◌, ◌/◌, ◌%◌, Bool, true, cond, not, ◌&&◌, ◌||◌, List, eqb, leb, ltb, length}
+use Rattle.std.specs.Prelude.{ℕ, zero, suc, ◌+◌, ◌/◌, ◌%◌, Bool, true, cond, not, ◌&&◌, ◌||◌, List, eqb, leb, ltb, length, Ok, Err}
 use Rattle.syntax.specs.Utf8.{utf8}
-use Rattle.syntax.specs.declared.refusal.Check.{Check}
+use Rattle.syntax.specs.Refusal.{Check}
 use Rattle.syntax.specs.declared.refusal.Refusal.TheVariants.{ImageBadSections, ImageBadStrings, ImageBadRecords, CollectionTooShort}
 use Rattle.board.specs.declared.image.Section.{Section}
 use Rattle.board.specs.declared.image.Section.TheVariants.{Letters, Strings, Components, Features, Connections, Properties, Diagnostics}
@@ -168,7 +168,7 @@ collection_short image collection =
 -- refusals 5 to 8, in their order, of an image and the collection table's length in numbers
 unfoldable pub check_image : List ℕ → ℕ → Check
 check_image image collection =
-    cond (not (sections_fit image)) (Check.Refused ImageBadSections)
-    (cond (not (strings_fit image)) (Check.Refused ImageBadStrings)
-    (cond (not (records_fit image)) (Check.Refused ImageBadRecords)
-    (cond (collection_short image collection) (Check.Refused CollectionTooShort) Check.Passed)))
+    cond (not (sections_fit image)) (Err ImageBadSections)
+    (cond (not (strings_fit image)) (Err ImageBadStrings)
+    (cond (not (records_fit image)) (Err ImageBadRecords)
+    (cond (collection_short image collection) (Err CollectionTooShort) (Ok tt))))

@@ -11,7 +11,7 @@ ghost use Rattle.board.specs.CheckScan.{component_at, below_at, all_below};
 ghost use Rattle.board.specs.CheckScan as meant;
 
 use image::Section;
-use syntax::refusal::{Check, Refusal};
+use syntax::refusal::Refusal;
 use syntax::utf8;
 
 // The most bytes that an image may have, how many sections it has, and the bytes of their pairs, which are the fewest.
@@ -41,22 +41,22 @@ const TRIPLE_SIZE: usize = 12;
 const COLLECTION_ROW: usize = 2;
 
 // Refusals 5 to 8, in their order, of an image and the length of the collection table.
-pub fn check_image(image: &[u8], collection: usize) -> Check
+pub fn check_image(image: &[u8], collection: usize) -> Result<(), Refusal>
     ensures { result ≡ check_image image.now collection }
 {
     if !sections_fit(image) {
-        return Check::Refused(Refusal::ImageBadSections);
+        return Err(Refusal::ImageBadSections);
     }
     if !strings_fit(image) {
-        return Check::Refused(Refusal::ImageBadStrings);
+        return Err(Refusal::ImageBadStrings);
     }
     if !records_fit(image) {
-        return Check::Refused(Refusal::ImageBadRecords);
+        return Err(Refusal::ImageBadRecords);
     }
     if collection_short(image, collection) {
-        return Check::Refused(Refusal::CollectionTooShort);
+        return Err(Refusal::CollectionTooShort);
     }
-    Check::Passed
+    Ok(())
 }
 
 // Whether the image's length, the pairs of its sections and the sections' lengths are as they should be: refusal 5 does not come.
