@@ -9,7 +9,7 @@ use borrow.Author.Tests.{ne_eqb, le-leb, lt-leb}
 use lib.Dec.{leb}
 use lib.ListN.{length, get_or, get_or-eq_default}
 use Rattle.syntax.specs.Text.{same}
-use Rattle.syntax.proofs.TextLaws.{Compared, same_start, same_goes, same_stops, same_ends, same_lengths}
+use Rattle.matching.proofs.SameLaws.{Compared, same_start, same_goes, same_stops, same_ends, same_lengths}
 use Rattle.matching.specs.Words.{fold, folded, one_of}
 
 -- a byte folded: a dash, a byte below `A` that is none, one above `Z`, and a letter between
