@@ -1,11 +1,9 @@
 -- The verdict on an outcome of the definitions is theirs. Assumes nothing.
-use mathlib.Core.Path.{◌≡◌, refl, sym, ap, ◌∙◌}
-use mathlib.Core.Bool.{Bool, true, false}
+use mathlib.Core.Path.{◌≡◌, refl}
+use mathlib.Core.Bool.{true, false}
 use Rattle.meaning.specs.Value.{components, features, diagnostics, Outcome, collection, boolean, refused}
 use Rattle.meaning.specs.Outcome.{verdict_of}
-use Rattle.calls.specs.declared.value.Value.{Value}
-use Rattle.calls.specs.declared.value.Verdict.{Verdict}
-use Rattle.calls.specs.Answer.{answer_of, verdict_for, verdict_of_truth, verdict_of_value, verdict_of_answer}
+use Rattle.calls.specs.Answer.{answer_of, verdict_for, verdict_of_answer}
 
 pub verdict_is : (o : Outcome) → verdict_of_answer (answer_of o) ≡ verdict_for (verdict_of o)
 verdict_is (collection components members) = refl
@@ -17,11 +15,3 @@ verdict_is (boolean false true) = refl
 verdict_is (boolean false false) = refl
 verdict_is (Outcome.count n) = refl
 verdict_is (refused r) = refl
-
--- the verdict on a boolean, warned or not, is that on what it says
-module _ {v : Verdict} {holds : Bool} {value : Value} where
-  pub of_boolean : value ≡ Value.Bool holds → v ≡ verdict_of_truth holds → v ≡ verdict_of_value value
-  of_boolean e h = h ∙ ap verdict_of_value (sym e)
-
-  pub of_warned : value ≡ Value.BoolWithWarning holds → v ≡ verdict_of_truth holds → v ≡ verdict_of_value value
-  of_warned e h = h ∙ ap verdict_of_value (sym e)

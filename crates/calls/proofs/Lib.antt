@@ -1,3 +1,2 @@
-pub mod TableLaws
 pub mod AnswerLaws
 pub mod CompareLaws

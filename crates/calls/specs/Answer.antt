@@ -1,10 +1,14 @@
 -- What a rule comes to and the verdict on it, as the code's enums. Assumes nothing: these are definitions.
-use Rattle.std.specs.Prelude.{ℕ, Bool, true, false, length}
+use Rattle.std.specs.Prelude.{ℕ, Bool, true, false, length, Result, Ok, Err}
+use Rattle.syntax.specs.declared.refusal.Refusal.{Refusal}
 use Rattle.meaning.specs.Value as meaning
 use Rattle.meaning.specs.Outcome as meant
 use Rattle.calls.specs.declared.value.Value.{Value}
-use Rattle.calls.specs.declared.value.Outcome.{Outcome}
 use Rattle.calls.specs.declared.value.Verdict.{Verdict}
+
+-- what running a rule gives: a value, or a refusal
+abbrev pub Outcome : Type 0
+Outcome = Result Value Refusal
 
 -- a collection becomes its sort and the number of its members
 abbrev pub collection_of : meaning.Sort → ℕ → Value
@@ -18,10 +22,10 @@ boolean_of value false = Value.Bool value
 
 -- an outcome of the definitions as the code's enum
 abbrev pub answer_of : meaning.Outcome → Outcome
-answer_of (meaning.collection sort members) = Outcome.Given (collection_of sort (length members))
-answer_of (meaning.boolean value warned) = Outcome.Given (boolean_of value warned)
-answer_of (meaning.Outcome.count n) = Outcome.Given (Value.Count n)
-answer_of (meaning.refused r) = Outcome.Refused r
+answer_of (meaning.collection sort members) = Ok (collection_of sort (length members))
+answer_of (meaning.boolean value warned) = Ok (boolean_of value warned)
+answer_of (meaning.Outcome.count n) = Ok (Value.Count n)
+answer_of (meaning.refused r) = Err r
 
 -- a verdict of the definitions as the code's enum
 abbrev pub verdict_for : meant.Verdict → Verdict
@@ -44,5 +48,5 @@ verdict_of_value (Value.Diagnostics n) = Verdict.Open
 verdict_of_value (Value.Count n) = Verdict.Open
 
 abbrev pub verdict_of_answer : Outcome → Verdict
-verdict_of_answer (Outcome.Given value) = verdict_of_value value
-verdict_of_answer (Outcome.Refused r) = Verdict.Refused
+verdict_of_answer (Ok value) = verdict_of_value value
+verdict_of_answer (Err r) = Verdict.Refused

@@ -1,4 +1,3 @@
-pub mod Table
 pub mod Answer
 pub mod Integer
 pub mod Numbers

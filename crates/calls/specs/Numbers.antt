@@ -1,9 +1,9 @@
 -- The numbers by which an answer is known outside: what a rule comes to, and the verdict on it. Assumes nothing: these are definitions.
-use Rattle.std.specs.Prelude.{ℕ, Bool, true, false}
+use Rattle.std.specs.Prelude.{ℕ, Bool, true, false, Ok, Err}
 use Rattle.syntax.specs.Refusal.{refusal_number}
 use Rattle.calls.specs.declared.value.Value.{Value}
-use Rattle.calls.specs.declared.value.Outcome.{Outcome}
 use Rattle.calls.specs.declared.value.Verdict.{Verdict}
+use Rattle.calls.specs.Answer.{Outcome}
 
 -- 0 refused, 1 components, 2 features, 3 diagnostics, 4 boolean, 5 count
 abbrev pub value_number : Value → ℕ
@@ -15,8 +15,8 @@ value_number (Value.BoolWithWarning holds) = 4
 value_number (Value.Count n) = 5
 
 abbrev pub outcome_number : Outcome → ℕ
-outcome_number (Outcome.Given value) = value_number value
-outcome_number (Outcome.Refused r) = 0
+outcome_number (Ok value) = value_number value
+outcome_number (Err r) = 0
 
 -- a boolean as 0 or 1
 abbrev pub bit : Bool → ℕ
@@ -33,8 +33,8 @@ value_amount (Value.BoolWithWarning holds) = bit holds
 value_amount (Value.Count n) = n
 
 abbrev pub outcome_amount : Outcome → ℕ
-outcome_amount (Outcome.Given value) = value_amount value
-outcome_amount (Outcome.Refused r) = refusal_number r
+outcome_amount (Ok value) = value_amount value
+outcome_amount (Err r) = refusal_number r
 
 -- whether it is warned, as 0 or 1
 abbrev pub value_warned : Value → ℕ
@@ -46,8 +46,8 @@ value_warned (Value.BoolWithWarning holds) = 1
 value_warned (Value.Count n) = 0
 
 abbrev pub outcome_warned : Outcome → ℕ
-outcome_warned (Outcome.Given value) = value_warned value
-outcome_warned (Outcome.Refused r) = 0
+outcome_warned (Ok value) = value_warned value
+outcome_warned (Err r) = 0
 
 abbrev pub verdict_number : Verdict → ℕ
 verdict_number Verdict.Pass = 0

@@ -3,51 +3,39 @@ ghost use Rattle.std.specs.Prelude.{◌≡◌};
 ghost use Rattle.meaning.specs.Compare.{operator_holds};
 ghost use Rattle.calls.specs.Integer.{integer_for, digit_of};
 
-use crate::value::Integer;
-use syntax::kind;
-
-// The largest integer that a comparison takes.
-const MAX_INTEGER: u64 = 18446744073709551615;
+use syntax::kind::Kind;
 
 const BASE: u64 = 10;
 
-// The number that digits write, in one pass: it ends where a digit more is too large, as no later one makes it smaller.
-pub fn integer(digits: &[u8]) -> Integer
+// The number that digits write, or none where it is too large: the pass ends there, as no later digit makes it smaller.
+pub fn integer(digits: &[u8]) -> Option<u64>
     ensures { result ≡ integer_for digits.now }
 {
-    let mut n = 0;
-    let mut i = 0;
-    while i < digits.len() {
-        let digit = digit_of(digits[i]);
-        if (MAX_INTEGER - digit) / BASE < n {
-            return Integer::TooLarge;
-        }
-        n = BASE * n + digit;
-        i += 1;
+    let mut n: u64 = 0;
+    for b in digits {
+        n = n.checked_mul(BASE)?.checked_add(digit_of(*b))?;
     }
-    Integer::Fits(n)
+    Some(n)
 }
 
 // What a byte counts as a digit: one below `0` counts as 0.
 fn digit_of(b: u8) -> u64
     ensures { result ≡ digit_of b }
 {
-    if b < b'0' {
-        return 0;
-    }
-    (b - b'0') as u64
+    u64::from(b.saturating_sub(b'0'))
 }
 
-// Whether a comparison holds, by the kind of its operator; one that is none of the first five is `!=`.
+// Whether a comparison holds, by the number of its operator's kind; one that is none of the first five is `!=`.
+#[tactic(auto, unfolding(meaning::specs::Compare::operator_holds))]
 pub fn compares(operator: u32, left: u64, right: u64) -> bool
     ensures { result ≡ operator_holds operator left right }
 {
-    match operator {
-        kind::GE => left >= right,
-        kind::GT => left > right,
-        kind::LE => left <= right,
-        kind::LT => left < right,
-        kind::EQ_EQ => left == right,
+    match Kind::try_from(operator) {
+        Ok(Kind::Ge) => left >= right,
+        Ok(Kind::Gt) => left > right,
+        Ok(Kind::Le) => left <= right,
+        Ok(Kind::Lt) => left < right,
+        Ok(Kind::EqEq) => left == right,
         _ => left != right,
     }
 }

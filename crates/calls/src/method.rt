@@ -1,47 +1,32 @@
-// The seven calls, in the order of the table's lines, counted from 0. `method_number` has the same numbers for the definitions; a proof
-// fails where the two differ.
+// The calls by their words.
 ghost use Rattle.std.specs.Prelude.{◌≡◌};
-ghost use Rattle.meaning.specs.Calls.{method_number};
 ghost use Rattle.meaning.specs.Pipeline.{method_of};
 
+use meaning::Method;
 use syntax::text;
 
-pub const WHERE: usize = 0;
-
-pub const ALL: usize = 1;
-
-pub const ANY: usize = 2;
-
-pub const NONE: usize = 3;
-
-pub const COUNT: usize = 4;
-
-pub const FEATURES: usize = 5;
-
-pub const DIAGNOSTICS: usize = 6;
-
-// The number of the call that a word names. In a rule without parse errors a method is one of the seven; here any other word counts
-// as the last.
-pub fn method_number(word: &[u8]) -> usize
-    ensures { result ≡ method_number (method_of word.now) }
+// The call that a word names. In a rule without parse errors a method is one of the seven; here any other word counts as the last.
+#[tactic(auto, unfolding(meaning::specs::Pipeline::method_of))]
+pub fn method_of(word: &[u8]) -> Method
+    ensures { result ≡ method_of word.now }
 {
     if text::same(word, b"where") {
-        return WHERE;
+        return Method::Where;
     }
     if text::same(word, b"all") {
-        return ALL;
+        return Method::All;
     }
     if text::same(word, b"any") {
-        return ANY;
+        return Method::Any;
     }
     if text::same(word, b"none") {
-        return NONE;
+        return Method::None;
     }
     if text::same(word, b"count") {
-        return COUNT;
+        return Method::Count;
     }
     if text::same(word, b"features") {
-        return FEATURES;
+        return Method::Features;
     }
-    DIAGNOSTICS
+    Method::Diagnostics
 }

@@ -1,9 +1,9 @@
-// What a rule comes to, the verdict on it, and a comparison's integer.
+// What a rule comes to, and the verdict on it.
 use syntax::refusal::Refusal;
 
 // A collection by the number of its members, which stand in the collection table; a boolean, or one that is warned because it is said
 // of an empty collection; or a count.
-#[derive(Clone, Copy)]
+#[derive(Clone, Copy, PartialEq, Eq, Debug)]
 pub enum Value {
     Components(usize),
     Features(usize),
@@ -14,24 +14,13 @@ pub enum Value {
 }
 
 // What running a rule gives: a value, or a refusal.
-#[derive(Clone, Copy)]
-pub enum Outcome {
-    Given(Value),
-    Refused(Refusal),
-}
+pub type Outcome = Result<Value, Refusal>;
 
 // What an outcome says of a board. Open: neither true nor false.
-#[derive(Clone, Copy)]
+#[derive(Clone, Copy, PartialEq, Eq, Debug)]
 pub enum Verdict {
     Pass,
     Fail,
     Refused,
     Open,
-}
-
-// What the digits of an integer come to.
-#[derive(Clone, Copy)]
-pub enum Integer {
-    Fits(u64),
-    TooLarge,
 }

@@ -1,6 +1,6 @@
 // The verdict on what a rule comes to.
 ghost use Rattle.std.specs.Prelude.{◌≡◌};
-ghost use Rattle.calls.specs.Answer.{verdict_of_answer, verdict_of_value, verdict_of_truth};
+ghost use Rattle.calls.specs.Answer.{verdict_of_answer};
 
 use crate::value::{Outcome, Value, Verdict};
 
@@ -9,31 +9,9 @@ pub fn verdict(outcome: Outcome) -> Verdict
     ensures { result ≡ verdict_of_answer outcome }
 {
     match outcome {
-        Outcome::Given(value) => verdict_of_value(value),
-        Outcome::Refused(_) => Verdict::Refused,
+        Ok(Value::Bool(true) | Value::BoolWithWarning(true)) => Verdict::Pass,
+        Ok(Value::Bool(false) | Value::BoolWithWarning(false)) => Verdict::Fail,
+        Ok(_) => Verdict::Open,
+        Err(_) => Verdict::Refused,
     }
-}
-
-// The verdict on a value.
-fn verdict_of_value(value: Value) -> Verdict
-    ensures { result ≡ verdict_of_value value }
-{
-    match value {
-        Value::Bool(holds) => verdict_of_truth(holds),
-        Value::BoolWithWarning(holds) => verdict_of_truth(holds),
-        Value::Components(_) => Verdict::Open,
-        Value::Features(_) => Verdict::Open,
-        Value::Diagnostics(_) => Verdict::Open,
-        Value::Count(_) => Verdict::Open,
-    }
-}
-
-// The verdict on a boolean.
-fn verdict_of_truth(holds: bool) -> Verdict
-    ensures { result ≡ verdict_of_truth holds }
-{
-    if holds {
-        return Verdict::Pass;
-    }
-    Verdict::Fail
 }

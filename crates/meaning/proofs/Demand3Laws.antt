@@ -1,4 +1,5 @@
 -- Demand 3 holds. By the laws of texts (`call_outcome`), of truth (`predicate_holds`) and of members kept. Assumes nothing.
+use Rattle.std.specs.Prelude.{Ok}
 use mathlib.Core.Path.{◌≡◌, sym, ap, ap₂, ◌∙◌}
 use mathlib.Core.Bool.{Bool, false, not, ◌&&◌, ◌||◌}
 use mathlib.Core.List.{List, [], ◌++◌, append_assoc}
@@ -6,7 +7,6 @@ use Prim.Native.Nat.{ℕ, ◌+◌}
 use lib.Dec.{eqb, ltb}
 use lib.ListN.{length}
 use Rattle.syntax.specs.Text.{ascii}
-use Rattle.syntax.specs.declared.refusal.Check.{Check}
 use Rattle.lexer.specs.Lex.{lex}
 use Rattle.trees.specs.Green.{leaf, nil}
 use Rattle.trees.specs.Parse.{Parsed, parse, OrExpr}
@@ -30,7 +30,7 @@ use Rattle.meaning.proofs.CollectionLaws.{collection_read}
 use Rattle.meaning.proofs.PipelineLaws.{args_for, call_for, after, after_nothing, means, call_outcome, count_outcome, call_means, collection_means}
 
 -- a rule that passes 1 to 8 comes to its outcome
-run_passed : (rule image : List ℕ) (lent : Lent) → check_run rule image lent ≡ Check.Passed → run rule image lent ≡ outcome image rule
+run_passed : (rule image : List ℕ) (lent : Lent) → check_run rule image lent ≡ Ok tt → run rule image lent ≡ outcome image rule
 unfolding run
 run_passed rule image lent e = rw e
 

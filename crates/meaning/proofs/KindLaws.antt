@@ -1,11 +1,15 @@
 -- "What each call gives": the kind of what calls give is the table's, whatever the members. Assumes nothing.
+use Rattle.std.specs.Prelude.{Ok, Err}
 use mathlib.Core.Path.{◌≡◌, refl, ap, ◌∙◌}
 use mathlib.Core.Bool.{Bool}
 use mathlib.Core.List.{List, [], ◌∷◌}
 use Prim.Native.Nat.{ℕ}
 use Rattle.predicate.specs.declared.atom.Member.{Member}
-use Rattle.meaning.specs.Value.{Sort, components, features, diagnostics, Outcome, collection, boolean, refused, Kind, sort_kind}
-use Rattle.meaning.specs.Calls.{Method, Where, All, Any, None, Count, Features, Diagnostics, Entry, next, refuse, line, quantifier, gives, Call, true_for, on_members, by_entry, call_gives, calls_give}
+use Rattle.meaning.specs.declared.ValueKind.{ValueKind}
+use Rattle.meaning.specs.Value.{Sort, components, features, diagnostics, Outcome, collection, boolean, refused, sort_kind}
+use Rattle.meaning.specs.declared.Method.{Method}
+use Rattle.meaning.specs.declared.Method.TheVariants.{Where, All, Any, None, Count, Features, Diagnostics}
+use Rattle.meaning.specs.Calls.{Entry, line, quantifier, gives, Call, true_for, on_members, by_entry, call_gives, calls_give}
 use Rattle.meaning.specs.Walk.{entry_after, entries_after}
 
 -- `where`, the quantifiers and `count` follow every collection
@@ -14,16 +18,16 @@ line_alike e other components = refl
 line_alike e other features = refl
 line_alike e other diagnostics = refl
 
-where_line : (sort : Sort) → gives Where (sort_kind sort) ≡ next (sort_kind sort)
+where_line : (sort : Sort) → gives Where (sort_kind sort) ≡ Ok (sort_kind sort)
 unfolding gives
 where_line components = refl
 where_line features = refl
 where_line diagnostics = refl
 
-quantifier_line : (sort : Sort) → quantifier (sort_kind sort) ≡ next Kind.Boolean
+quantifier_line : (sort : Sort) → quantifier (sort_kind sort) ≡ Ok ValueKind.Boolean
 quantifier_line sort = line_alike _ _ sort
 
-count_line : (sort : Sort) → gives Count (sort_kind sort) ≡ next Kind.Count
+count_line : (sort : Sort) → gives Count (sort_kind sort) ≡ Ok ValueKind.Count
 unfolding gives
 count_line sort = line_alike _ _ sort
 
@@ -39,10 +43,10 @@ count_taken sort o = ap (λ (e : Entry). by_entry e o) (count_line sort)
 
 -- the kind of a value, or its refusal
 abbrev pub entry_of : Outcome → Entry
-entry_of (collection sort members) = next (sort_kind sort)
-entry_of (boolean value warned) = next Kind.Boolean
-entry_of (Outcome.count n) = next Kind.Count
-entry_of (refused r) = refuse r
+entry_of (collection sort members) = Ok (sort_kind sort)
+entry_of (boolean value warned) = Ok ValueKind.Boolean
+entry_of (Outcome.count n) = Ok ValueKind.Count
+entry_of (refused r) = Err r
 
 -- the kind of what a call gives on members
 members_kind : (image : List ℕ) (method : Method) (isTrue : Member → Bool) (sort : Sort) (members : List Member)
@@ -61,7 +65,7 @@ members_kind image Diagnostics isTrue features members = refl
 members_kind image Diagnostics isTrue diagnostics members = refl
 
 -- on a boolean or a count: none follows it
-other_kind : (method : Method) (o : Outcome) → entry_of (by_entry (gives method Kind.Boolean) o) ≡ gives method Kind.Boolean
+other_kind : (method : Method) (o : Outcome) → entry_of (by_entry (gives method ValueKind.Boolean) o) ≡ gives method ValueKind.Boolean
 unfolding gives
 other_kind Where o = refl
 other_kind All o = refl
@@ -71,7 +75,7 @@ other_kind Count o = refl
 other_kind Features o = refl
 other_kind Diagnostics o = refl
 
-other_alike : (method : Method) → gives method Kind.Count ≡ gives method Kind.Boolean
+other_alike : (method : Method) → gives method ValueKind.Count ≡ gives method ValueKind.Boolean
 unfolding gives
 other_alike Where = refl
 other_alike All = refl

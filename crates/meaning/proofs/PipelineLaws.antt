@@ -22,7 +22,8 @@ use Rattle.grammar.proofs.TextLaws.{method_call, call_text_lem, call_tokens_lem,
 use Rattle.predicate.specs.declared.atom.Member.{Member}
 use Rattle.predicate.specs.Truth.{first_text, literal_of}
 use Rattle.meaning.specs.Value.{Sort, Outcome, collection, boolean, refused}
-use Rattle.meaning.specs.Calls.{Where, All, Any, None, Count, Features, Diagnostics, Call, is_empty, call_gives, calls_give}
+use Rattle.meaning.specs.declared.Method.TheVariants.{Where, All, Any, None, Count, Features, Diagnostics}
+use Rattle.meaning.specs.Calls.{Call, is_empty, call_gives, calls_give}
 use Rattle.meaning.specs.Pipeline.{all_components, diagnostics_of, source_of, calls_of, eval_pipeline}
 use Rattle.meaning.specs.Compare.{MAX_INTEGER, operator_holds, against, compared, operator_of, integer_of}
 use Rattle.meaning.specs.Outcome.{first_kind, first_inner, eval_count_compare, eval_node, outcome_of, outcome}

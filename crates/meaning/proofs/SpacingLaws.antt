@@ -15,7 +15,8 @@ use Rattle.grammar.specs.Blanks.{no_blanks, solid_errors, strip}
 use Rattle.predicate.specs.declared.atom.Member.{Member}
 use Rattle.predicate.specs.Truth.{first_text, literal_of, has, message_contains, or_after, joined_by, joined, Sort, binary, unary, paren, ident, call, containing, compare, other, sort_of, settle, truths, first_of, truth}
 use Rattle.meaning.specs.Value.{Outcome, collection, boolean, refused, sort_kind}
-use Rattle.meaning.specs.Calls.{Method, gives, is_empty, on_members, by_entry, call_gives, calls_give}
+use Rattle.meaning.specs.declared.Method.{Method}
+use Rattle.meaning.specs.Calls.{gives, is_empty, on_members, by_entry, call_gives, calls_give}
 use Rattle.meaning.specs.Pipeline.{source_of, method_of, args_of, call_of, calls_of, eval_pipeline}
 use Rattle.meaning.specs.Compare.{operator_of, integer_of, decimal}
 use Rattle.meaning.specs.Outcome.{first_kind, first_inner, eval_count_compare, eval_node, outcome_of}

@@ -1,9 +1,10 @@
 -- What a pass means, and what is never one. Assumes nothing.
+use Rattle.std.specs.Prelude.{Ok, Err}
 use Prim.Native.Nat.{ℕ}
 use mathlib.Core.Path.{◌≡◌, refl, sym, ap, ◌∙◌, subst}
 use mathlib.Core.Bool.{Bool, true, false, cond}
 use mathlib.Core.List.{List, [], ◌∷◌, cons≢nil}
-use Rattle.syntax.specs.declared.refusal.Check.{Check}
+use Rattle.syntax.specs.Refusal.{Check}
 use Rattle.syntax.specs.declared.refusal.Refusal.{Refusal}
 use Rattle.syntax.specs.declared.refusal.Refusal.TheVariants.{ParseErrors}
 use Rattle.trees.specs.Parse.{Error, parse_expr}
@@ -36,19 +37,19 @@ errors_refused image rule n = go (parse_expr rule).errors n
 
 -- a pass: refusals 1 to 8 did not come, there were no parse errors, and the outcome is true
 pub record Passed (rule image : List ℕ) (lent : Lent) : Type 0 where
-  pub checked : check_run rule image lent ≡ Check.Passed
+  pub checked : check_run rule image lent ≡ Ok tt
   pub clean : (parse_expr rule).errors ≡ []
   pub warned : Bool
   pub holds : outcome image rule ≡ boolean true warned
 
 module _ (rule image : List ℕ) (lent : Lent) (p : verdict_of (run rule image lent) ≡ Pass) where
-  pass_checked : check_run rule image lent ≡ Check.Passed
+  pass_checked : check_run rule image lent ≡ Ok tt
   unfolding run
   pass_checked = go (check_run rule image lent) p
     where
-      go : (c : Check) → verdict_of (after_check c (outcome image rule)) ≡ Pass → c ≡ Check.Passed
-      go Check.Passed h = refl
-      go (Check.Refused r) h = absurd (is_pass Refused h)
+      go : (c : Check) → verdict_of (after_check c (outcome image rule)) ≡ Pass → c ≡ Ok tt
+      go (Ok tt) h = refl
+      go (Err r) h = absurd (is_pass Refused h)
 
   pass_outcome : verdict_of (outcome image rule) ≡ Pass
   unfolding run

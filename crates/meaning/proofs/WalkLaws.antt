@@ -1,5 +1,6 @@
 -- Members through the calls one at a time: the plan and what arrives settle what the calls give, members may be fed one by one, and those
 -- that arrive have their rows in the collection table. Assumes nothing.
+use Rattle.std.specs.Prelude.{Ok, Err}
 use mathlib.Core.Path.{◌≡◌, refl, sym, ap, ap₂, ◌∙◌, subst}
 use mathlib.Core.Bool.{Bool, true, false, ◌&&◌, false≢true}
 use mathlib.Core.List.{List, [], ◌∷◌, ◌++◌, append_assoc, append-nil, map}
@@ -19,8 +20,11 @@ use Rattle.board.specs.WellFormed.{total, WellFormed, Room}
 use Rattle.instance.specs.Instance.{features_end}
 use Rattle.predicate.specs.declared.atom.Member.{Member}
 use Rattle.predicate.specs.declared.atom.Member.TheVariants.{Component, Feature, Diagnostic}
-use Rattle.meaning.specs.Value.{Sort, components, features, diagnostics, Outcome, collection, boolean, refused, Kind, sort_kind, row_of, rows_of, whole_rows}
-use Rattle.meaning.specs.Calls.{Method, Where, All, Any, None, Count, Features, Diagnostics, Entry, next, refuse, quantifier, gives, keep, kept, every, is_empty, up_from, features_of, fan_out, Call, true_for, on_members, by_entry, call_gives, calls_give}
+use Rattle.meaning.specs.declared.ValueKind.{ValueKind}
+use Rattle.meaning.specs.Value.{Sort, components, features, diagnostics, Outcome, collection, boolean, refused, sort_kind, row_of, rows_of, whole_rows}
+use Rattle.meaning.specs.declared.Method.{Method}
+use Rattle.meaning.specs.declared.Method.TheVariants.{Where, All, Any, None, Count, Features, Diagnostics}
+use Rattle.meaning.specs.Calls.{Entry, quantifier, gives, keep, kept, every, is_empty, up_from, features_of, fan_out, Call, true_for, on_members, by_entry, call_gives, calls_give}
 use Rattle.meaning.specs.Pipeline.{all_components, is_of_analysis, diagnostics_of}
 use Rattle.meaning.specs.Walk.{entries_after, plan_of, is_quantifier, is_last, arrive_by, arrivals, last_call, last_method, last_test, how_many, settled}
 use Rattle.meaning.proofs.MemberLaws.{some_count, none_count, every_count}
@@ -28,27 +32,27 @@ use Rattle.meaning.proofs.MemberLaws.{some_count, none_count, every_count}
 -- ---- what the calls give is settled by the plan and by what arrives
 
 -- the last call by the kind that a plan comes to: a collection has none, a boolean has a quantifier, a count has `count`
-abbrev pub Ends : Kind → Option Call → Type 0
-Ends Kind.Components last = last ≡ none
-Ends Kind.Features last = last ≡ none
-Ends Kind.Diagnostics last = last ≡ none
-Ends Kind.Boolean last = (call : Call) × (last ≡ some call) × (is_quantifier call.method ≡ true)
-Ends Kind.Count last = (call : Call) × (last ≡ some call) × (call.method ≡ Count)
+abbrev pub Ends : ValueKind → Option Call → Type 0
+Ends ValueKind.Components last = last ≡ none
+Ends ValueKind.Features last = last ≡ none
+Ends ValueKind.Diagnostics last = last ≡ none
+Ends ValueKind.Boolean last = (call : Call) × (last ≡ some call) × (is_quantifier call.method ≡ true)
+Ends ValueKind.Count last = (call : Call) × (last ≡ some call) × (call.method ≡ Count)
 
 -- an outcome is what a plan makes of members, by a value for each kind, and the last call is as the plan's kind has it
-abbrev Planned : Entry → (value : Kind → Outcome) → Option Call → Outcome → Type 0
-Planned (next kind) value last o = (o ≡ value kind) × Ends kind last
-Planned (refuse r) value last o = o ≡ refused r
+abbrev Planned : Entry → (value : ValueKind → Outcome) → Option Call → Outcome → Type 0
+Planned (Ok kind) value last o = (o ≡ value kind) × Ends kind last
+Planned (Err r) value last o = o ≡ refused r
 
 -- a refusal stays
-module _ (image : List ℕ) (value : Kind → Outcome) (last : Option Call) where
-  after_refusal : (calls : List Call) (r : Refusal) → Planned (entries_after calls (refuse r)) value last (calls_give image calls (refused r))
+module _ (image : List ℕ) (value : ValueKind → Outcome) (last : Option Call) where
+  after_refusal : (calls : List Call) (r : Refusal) → Planned (entries_after calls (Err r)) value last (calls_give image calls (refused r))
   unfolding calls_give call_gives
   after_refusal [] r = refl
   after_refusal (call ∷ calls) r = after_refusal calls r
 
 -- no call follows a boolean or a count
-none_follows : (method : Method) (P : Entry → Entry → Type 0) → ((r : Refusal) → P (refuse r) (refuse r)) → P (gives method Kind.Boolean) (gives method Kind.Count)
+none_follows : (method : Method) (P : Entry → Entry → Type 0) → ((r : Refusal) → P (Err r) (Err r)) → P (gives method ValueKind.Boolean) (gives method ValueKind.Count)
 unfolding gives
 none_follows Where P h = h _
 none_follows All P h = h _
@@ -58,17 +62,17 @@ none_follows Count P h = h _
 none_follows Features P h = h _
 none_follows Diagnostics P h = h _
 
-module _ (image : List ℕ) (value : Kind → Outcome) (last : Option Call) where
-  after_boolean : (calls : List Call) (b w : Bool) → Planned (next Kind.Boolean) value last (boolean b w)
-      → Planned (plan_of Kind.Boolean calls) value last (calls_give image calls (boolean b w))
+module _ (image : List ℕ) (value : ValueKind → Outcome) (last : Option Call) where
+  after_boolean : (calls : List Call) (b w : Bool) → Planned (Ok ValueKind.Boolean) value last (boolean b w)
+      → Planned (plan_of ValueKind.Boolean calls) value last (calls_give image calls (boolean b w))
   unfolding calls_give call_gives
   after_boolean [] b w h = h
   after_boolean (call ∷ calls) b w h =
       none_follows call.method (λ e _. Planned (entries_after calls e) value last (calls_give image calls (by_entry e (boolean b w))))
       (after_refusal image value last calls)
 
-  after_count : (calls : List Call) (n : ℕ) → Planned (next Kind.Count) value last (Outcome.count n)
-      → Planned (plan_of Kind.Count calls) value last (calls_give image calls (Outcome.count n))
+  after_count : (calls : List Call) (n : ℕ) → Planned (Ok ValueKind.Count) value last (Outcome.count n)
+      → Planned (plan_of ValueKind.Count calls) value last (calls_give image calls (Outcome.count n))
   unfolding calls_give call_gives
   after_count [] n h = h
   after_count (call ∷ calls) n h =
@@ -76,13 +80,13 @@ module _ (image : List ℕ) (value : Kind → Outcome) (last : Option Call) wher
       (after_refusal image value last calls)
 
   -- a quantifier and `count` follow every collection
-  quantified : (calls : List Call) (sort : Sort) (b w : Bool) → Planned (next Kind.Boolean) value last (boolean b w)
+  quantified : (calls : List Call) (sort : Sort) (b w : Bool) → Planned (Ok ValueKind.Boolean) value last (boolean b w)
       → Planned (entries_after calls (quantifier (sort_kind sort))) value last (calls_give image calls (by_entry (quantifier (sort_kind sort)) (boolean b w)))
   quantified calls components b w h = after_boolean calls b w h
   quantified calls features b w h = after_boolean calls b w h
   quantified calls diagnostics b w h = after_boolean calls b w h
 
-  counted : (calls : List Call) (sort : Sort) (n : ℕ) → Planned (next Kind.Count) value last (Outcome.count n)
+  counted : (calls : List Call) (sort : Sort) (n : ℕ) → Planned (Ok ValueKind.Count) value last (Outcome.count n)
       → Planned (entries_after calls (gives Count (sort_kind sort))) value last (calls_give image calls (by_entry (gives Count (sort_kind sort)) (Outcome.count n)))
   unfolding gives
   counted calls components n h = after_count calls n h
@@ -90,7 +94,7 @@ module _ (image : List ℕ) (value : Kind → Outcome) (last : Option Call) wher
   counted calls diagnostics n h = after_count calls n h
 
 -- the value: what arrives, settled
-abbrev settled_by : (image : List ℕ) → List Call → List Member → Kind → Outcome
+abbrev settled_by : (image : List ℕ) → List Call → List Member → ValueKind → Outcome
 settled_by image calls members kind =
     let arrived : List Member = arrivals image calls members in
     settled kind (last_method calls) (length arrived) (how_many (last_test image calls) arrived) arrived
@@ -143,19 +147,19 @@ planned image calls sort members entry e =
 
 -- a refusal of the plan is that of the calls, whatever the members
 pub calls_refused : (image : List ℕ) (calls : List Call) (sort : Sort) (members : List Member) (r : Refusal)
-    → plan_of (sort_kind sort) calls ≡ refuse r → calls_give image calls (collection sort members) ≡ refused r
-calls_refused image calls sort members r e = planned image calls sort members (refuse r) e
+    → plan_of (sort_kind sort) calls ≡ Err r → calls_give image calls (collection sort members) ≡ refused r
+calls_refused image calls sort members r e = planned image calls sort members (Err r) e
 
 -- and where it comes to a kind, what arrives settles the outcome
-pub calls_settled : (image : List ℕ) (calls : List Call) (sort : Sort) (members : List Member) (kind : Kind)
-    → plan_of (sort_kind sort) calls ≡ next kind
+pub calls_settled : (image : List ℕ) (calls : List Call) (sort : Sort) (members : List Member) (kind : ValueKind)
+    → plan_of (sort_kind sort) calls ≡ Ok kind
     → let arrived : List Member = arrivals image calls members in
     calls_give image calls (collection sort members) ≡ settled kind (last_method calls) (length arrived) (how_many (last_test image calls) arrived) arrived
-calls_settled image calls sort members kind e = (planned image calls sort members (next kind) e).0
+calls_settled image calls sort members kind e = (planned image calls sort members (Ok kind) e).0
 
 -- the last call of such a plan
-pub plan_ends : (calls : List Call) (sort : Sort) (kind : Kind) → plan_of (sort_kind sort) calls ≡ next kind → Ends kind (last_call calls)
-plan_ends calls sort kind e = (planned [] calls sort [] (next kind) e).1
+pub plan_ends : (calls : List Call) (sort : Sort) (kind : ValueKind) → plan_of (sort_kind sort) calls ≡ Ok kind → Ends kind (last_call calls)
+plan_ends calls sort kind e = (planned [] calls sort [] (Ok kind) e).1
 
 -- ---- members one by one
 
@@ -527,8 +531,8 @@ Sorted (Outcome.count n) = Unit
 Sorted (refused r) = Unit
 
 entry_sorted : (entry : Entry) (o : Outcome) → Sorted o → Sorted (by_entry entry o)
-entry_sorted (next kind) o h = h
-entry_sorted (refuse r) o h = tt
+entry_sorted (Ok kind) o h = h
+entry_sorted (Err r) o h = tt
 
 members_sorted : (image : List ℕ) (method : Method) (isTrue : Member → Bool) (sort : Sort) (members : List Member)
     → every (is_of sort) members ≡ true → Sorted (on_members image method isTrue sort members)
@@ -545,8 +549,8 @@ call_sorted : (image : List ℕ) (call : Call) (o : Outcome) → Sorted o → So
 unfolding call_gives
 call_sorted image call (collection sort members) h =
     entry_sorted (gives call.method (sort_kind sort)) _ (members_sorted image call.method (true_for image call.args) sort members h)
-call_sorted image call (boolean value warned) h = entry_sorted (gives call.method Kind.Boolean) _ tt
-call_sorted image call (Outcome.count n) h = entry_sorted (gives call.method Kind.Count) _ tt
+call_sorted image call (boolean value warned) h = entry_sorted (gives call.method ValueKind.Boolean) _ tt
+call_sorted image call (Outcome.count n) h = entry_sorted (gives call.method ValueKind.Count) _ tt
 call_sorted image call (refused r) h = tt
 
 pub calls_sorted : (image : List ℕ) (calls : List Call) (o : Outcome) → Sorted o → Sorted (calls_give image calls o)
@@ -566,7 +570,7 @@ diagnostics_sorted image name =
     (every_made diagnostics Diagnostic (λ n. refl) (up_from 0 (diagnostic_count image)))
 
 -- so where the plan comes to a collection of a sort, members of that sort arrive
-pub arrivals_sorted : (image : List ℕ) (calls : List Call) (sort sort' : Sort) (members : List Member) → plan_of (sort_kind sort) calls ≡ next (sort_kind sort')
+pub arrivals_sorted : (image : List ℕ) (calls : List Call) (sort sort' : Sort) (members : List Member) → plan_of (sort_kind sort) calls ≡ Ok (sort_kind sort')
     → every (is_of sort) members ≡ true → every (is_of sort') (arrivals image calls members) ≡ true
 unfolding settled
 arrivals_sorted image calls sort sort' members e h =

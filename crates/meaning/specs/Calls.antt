@@ -1,5 +1,5 @@
 -- eval.rs `eval_dot_call`, `eval_where`, `eval_quantifier`: what a call gives, and a list of calls. Assumes nothing: these are definitions.
-use Rattle.std.specs.Prelude.{ℕ, zero, suc, ◌-◌, Bool, true, false, not, ◌&&◌, ◌||◌, List, [], ◌∷◌, ◌++◌, map, length}
+use Rattle.std.specs.Prelude.{ℕ, zero, suc, ◌-◌, Bool, true, false, not, ◌&&◌, ◌||◌, List, [], ◌∷◌, ◌++◌, map, length, Result, Ok, Err}
 use Rattle.syntax.specs.declared.refusal.Refusal.{Refusal}
 use Rattle.syntax.specs.declared.refusal.Refusal.TheVariants.{WhereOnNoCollection, QuantifierOnNoCollection, CountOnNoCollection, FeaturesOnNoComponents, DiagnosticsOnNoDiagnostics}
 use Rattle.trees.specs.Green.{Forest}
@@ -8,57 +8,38 @@ use Rattle.instance.specs.Instance.{features_end}
 use Rattle.predicate.specs.declared.atom.Member.{Member}
 use Rattle.predicate.specs.declared.atom.Member.TheVariants.{Component, Feature, Diagnostic}
 use Rattle.predicate.specs.Truth.{truth}
-use Rattle.meaning.specs.Value.{Sort, Outcome, collection, boolean, refused, Kind, sort_kind}
-
--- the seven calls
-pub data Method : Type 0 where
-  Where All Any None Count Features Diagnostics : Method
+use Rattle.meaning.specs.Value.{Sort, Outcome, collection, boolean, refused, sort_kind}
+use Rattle.meaning.specs.declared.ValueKind.{ValueKind}
+use Rattle.meaning.specs.declared.Method.{Method}
+use Rattle.meaning.specs.declared.Method.TheVariants.{Where, All, Any, None, Count, Features, Diagnostics}
 
 -- an entry of the table "What each call gives": the kind given, or the refusal
-pub data Entry : Type 0 where
-  next : Kind → Entry
-  refuse : Refusal → Entry
+abbrev pub Entry : Type 0
+Entry = Result ValueKind Refusal
 
 -- a line of the table, by its columns: components, features, diagnostics, other
-abbrev pub line : (c f d other : Entry) → Kind → Entry
-line c f d other Kind.Components = c
-line c f d other Kind.Features = f
-line c f d other Kind.Diagnostics = d
-line c f d other Kind.Boolean = other
-line c f d other Kind.Count = other
+abbrev pub line : (c f d other : Entry) → ValueKind → Entry
+line c f d other ValueKind.Components = c
+line c f d other ValueKind.Features = f
+line c f d other ValueKind.Diagnostics = d
+line c f d other ValueKind.Boolean = other
+line c f d other ValueKind.Count = other
 
 -- the table's line of a quantifier
-abbrev pub quantifier : Kind → Entry
-quantifier = line (next Kind.Boolean) (next Kind.Boolean) (next Kind.Boolean) (refuse QuantifierOnNoCollection)
+abbrev pub quantifier : ValueKind → Entry
+quantifier = line (Ok ValueKind.Boolean) (Ok ValueKind.Boolean) (Ok ValueKind.Boolean) (Err QuantifierOnNoCollection)
 
 -- "What each call gives"
-unfoldable pub gives : Method → Kind → Entry
-gives Where = line (next Kind.Components) (next Kind.Features) (next Kind.Diagnostics) (refuse WhereOnNoCollection)
+unfoldable pub gives : Method → ValueKind → Entry
+gives Where = line (Ok ValueKind.Components) (Ok ValueKind.Features) (Ok ValueKind.Diagnostics) (Err WhereOnNoCollection)
 gives All = quantifier
 gives Any = quantifier
 gives None = quantifier
-gives Count = line (next Kind.Count) (next Kind.Count) (next Kind.Count) (refuse CountOnNoCollection)
+gives Count = line (Ok ValueKind.Count) (Ok ValueKind.Count) (Ok ValueKind.Count) (Err CountOnNoCollection)
 gives Features =
-    line (next Kind.Features) (refuse FeaturesOnNoComponents) (refuse FeaturesOnNoComponents) (refuse FeaturesOnNoComponents)
+    line (Ok ValueKind.Features) (Err FeaturesOnNoComponents) (Err FeaturesOnNoComponents) (Err FeaturesOnNoComponents)
 gives Diagnostics =
-    line (refuse DiagnosticsOnNoDiagnostics) (refuse DiagnosticsOnNoDiagnostics) (next Kind.Diagnostics) (refuse DiagnosticsOnNoDiagnostics)
-
--- the same as numbers: the lines and columns count up from 0, and a refusal, from 10 on, is above every kind
-abbrev pub method_number : Method → ℕ
-method_number Where = 0
-method_number All = 1
-method_number Any = 2
-method_number None = 3
-method_number Count = 4
-method_number Features = 5
-method_number Diagnostics = 6
-
-abbrev pub kind_number : Kind → ℕ
-kind_number Kind.Components = 0
-kind_number Kind.Features = 1
-kind_number Kind.Diagnostics = 2
-kind_number Kind.Boolean = 3
-kind_number Kind.Count = 4
+    line (Err DiagnosticsOnNoDiagnostics) (Err DiagnosticsOnNoDiagnostics) (Ok ValueKind.Diagnostics) (Err DiagnosticsOnNoDiagnostics)
 
 -- `filter`: the members that pass a test, in order
 abbrev pub keep : Bool → Member → List Member → List Member
@@ -123,8 +104,8 @@ on_members image Diagnostics isTrue sort members = collection sort members
 
 -- what a call gives by the table's entry: the value that it comes to there, or the refusal
 abbrev pub by_entry : Entry → Outcome → Outcome
-by_entry (next kind) value = value
-by_entry (refuse r) value = refused r
+by_entry (Ok kind) value = value
+by_entry (Err r) value = refused r
 
 -- a call on what the call before it gave: the table is asked first, and lets no call follow a boolean or a count. "Among 10 to 14 the
 -- leftmost call decides"
@@ -132,8 +113,8 @@ unfoldable pub call_gives : List ℕ → Call → Outcome → Outcome
 unfolding gives on_members
 call_gives image call (collection sort members) =
     by_entry (gives call.method (sort_kind sort)) (on_members image call.method (true_for image call.args) sort members)
-call_gives image call (boolean value warned) = by_entry (gives call.method Kind.Boolean) (boolean value warned)
-call_gives image call (Outcome.count n) = by_entry (gives call.method Kind.Count) (Outcome.count n)
+call_gives image call (boolean value warned) = by_entry (gives call.method ValueKind.Boolean) (boolean value warned)
+call_gives image call (Outcome.count n) = by_entry (gives call.method ValueKind.Count) (Outcome.count n)
 call_gives image call (refused r) = refused r
 
 -- "The first call takes what the source gives, each later one what the call before gave"

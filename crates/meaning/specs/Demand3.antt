@@ -1,9 +1,8 @@
 -- DEMAND 3, in its own order, about texts. C is the text c, P and Q are the texts p and q, and z is any text set after. Refusals 5 to 8
 -- turn away every image that is not well formed, so no run on one is spoken of. Assumes nothing: this is the statement; `demand_3` of
 -- proofs/Demand3Laws proves it.
-use Rattle.std.specs.Prelude.{ℕ, ◌+◌, ◌≡◌, Bool, false, List, [], ◌++◌, eqb, ltb, length}
+use Rattle.std.specs.Prelude.{ℕ, ◌+◌, ◌≡◌, Bool, false, List, [], ◌++◌, eqb, ltb, length, Ok}
 use Rattle.syntax.specs.Text.{ascii}
-use Rattle.syntax.specs.declared.refusal.Check.{Check}
 use Rattle.lexer.specs.Lex.{lex}
 use Rattle.trees.specs.Parse.{parse, OrExpr}
 use Rattle.grammar.specs.Grammar.{ReadWhole}
@@ -48,12 +47,12 @@ count_text = ascii ".count()"
 
 -- "each part of the claim holds wherever the rules that it names pass 1 to 8": a rule comes to an outcome, whatever tables are lent
 abbrev pub ComesTo : (image rule : List ℕ) → Outcome → Type 0
-ComesTo image rule o = (lent : Lent) → check_run rule image lent ≡ Check.Passed → run rule image lent ≡ o
+ComesTo image rule o = (lent : Lent) → check_run rule image lent ≡ Ok tt → run rule image lent ≡ o
 
 -- two rules come to the same: "outcomes agree if result or refusal, warning and members do"
 abbrev pub Agree : (image rule rule' : List ℕ) → Type 0
 Agree image rule rule' =
-    (lent lent' : Lent) → check_run rule image lent ≡ Check.Passed → check_run rule' image lent' ≡ Check.Passed
+    (lent lent' : Lent) → check_run rule image lent ≡ Ok tt → check_run rule' image lent' ≡ Ok tt
     → run rule image lent ≡ run rule' image lent'
 
 -- what is claimed of C, whose collection has this sort and these members, and of P and Q

@@ -1,7 +1,7 @@
 -- What running a rule on a board image comes to, and the verdict on it. Assumes nothing: these are definitions.
-use Rattle.std.specs.Prelude.{ℕ, true, false, cond, List, eqb}
+use Rattle.std.specs.Prelude.{ℕ, true, false, cond, List, eqb, Ok, Err}
 use Rattle.syntax.specs.Kind.{COUNT_COMPARE_EXPR, NONE}
-use Rattle.syntax.specs.declared.refusal.Check.{Check}
+use Rattle.syntax.specs.Refusal.{Check}
 use Rattle.syntax.specs.declared.refusal.Refusal.TheVariants.{ParseErrors}
 use Rattle.lexer.specs.Read.{check_rule}
 use Rattle.trees.specs.Green.{Forest, nil, leaf, node}
@@ -53,8 +53,8 @@ pub record Lent : Type 0 where
 
 -- one check after another
 abbrev pub then_check : Check → Check → Check
-then_check Check.Passed later = later
-then_check (Check.Refused r) later = Check.Refused r
+then_check (Ok tt) later = later
+then_check (Err r) later = Err r
 
 -- refusals 1 to 8, in their order
 unfoldable pub check_run : List ℕ → List ℕ → Lent → Check
@@ -64,8 +64,8 @@ check_run rule image lent =
 
 -- what is given after a check: the outcome, or the refusal
 abbrev pub after_check : Check → Outcome → Outcome
-after_check Check.Passed o = o
-after_check (Check.Refused r) o = refused r
+after_check (Ok tt) o = o
+after_check (Err r) o = refused r
 
 -- "Turned away, in checking order": refusals 1 to 8, then 9 to 16, or the result
 unfoldable pub run : List ℕ → List ℕ → Lent → Outcome

@@ -10,7 +10,9 @@ use Rattle.predicate.specs.declared.atom.Member.{Member}
 use Rattle.predicate.specs.declared.atom.Member.TheVariants.{Component, Diagnostic}
 use Rattle.predicate.specs.Truth.{first_text, literal_of}
 use Rattle.meaning.specs.Value.{components, diagnostics, Outcome, collection, refused}
-use Rattle.meaning.specs.Calls.{Method, Where, All, Any, None, Count, Features, Diagnostics, Call, kept, up_from, calls_give}
+use Rattle.meaning.specs.declared.Method.{Method}
+use Rattle.meaning.specs.declared.Method.TheVariants.{Where, All, Any, None, Count, Features, Diagnostics}
+use Rattle.meaning.specs.Calls.{Call, kept, up_from, calls_give}
 
 -- `components`: every component of the board
 unfoldable pub all_components : List ℕ → Outcome

@@ -4,6 +4,7 @@ use Rattle.syntax.specs.declared.refusal.Refusal.{Refusal}
 use Rattle.board.specs.Check.{COLLECTION_ROW}
 use Rattle.predicate.specs.declared.atom.Member.{Member}
 use Rattle.predicate.specs.declared.atom.Member.TheVariants.{Component, Feature, Diagnostic}
+use Rattle.meaning.specs.declared.ValueKind.{ValueKind}
 
 -- the sorts of collection
 pub data Sort : Type 0 where
@@ -16,14 +17,11 @@ pub data Outcome : Type 0 where
   count : ℕ → Outcome
   refused : Refusal → Outcome
 
--- the kinds of value that a call can follow, in the order of 01's table; the last two are its `other`
-pub data Kind : Type 0 where
-  Components Features Diagnostics Boolean Count : Kind
-
-abbrev pub sort_kind : Sort → Kind
-sort_kind components = Components
-sort_kind features = Features
-sort_kind diagnostics = Diagnostics
+-- the kind of a collection, among the kinds of value that a call can follow
+abbrev pub sort_kind : Sort → ValueKind
+sort_kind components = ValueKind.Components
+sort_kind features = ValueKind.Features
+sort_kind diagnostics = ValueKind.Diagnostics
 
 -- "Collection: rows of two numbers, component and feature; a component or diagnostic has its index, then 0"
 unfoldable pub row_of : Member → List ℕ

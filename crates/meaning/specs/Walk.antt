@@ -1,23 +1,26 @@
 -- One member at a time through a list of calls: the kind that the calls come to, the members that arrive where the result is settled, and
 -- the outcome by them. WalkLaws shows that this is what the calls give, collection after collection. Assumes nothing: these are definitions.
-use Rattle.std.specs.Prelude.{ℕ, Bool, true, false, cond, ◌&&◌, List, [], ◌∷◌, eqb, ltb, length}
+use Rattle.std.specs.Prelude.{ℕ, Bool, true, false, cond, ◌&&◌, List, [], ◌∷◌, eqb, ltb, length, Ok, Err}
 use Rattle.std.proofs.Math.Option.{Option, none, some}
 use Rattle.predicate.specs.declared.atom.Member.{Member}
-use Rattle.meaning.specs.Value.{components, features, diagnostics, Outcome, collection, boolean, Kind}
-use Rattle.meaning.specs.Calls.{Method, Where, All, Any, None, Count, Features, Diagnostics, Entry, next, refuse, gives, kept, fan_out, Call, true_for}
+use Rattle.meaning.specs.declared.ValueKind.{ValueKind}
+use Rattle.meaning.specs.Value.{components, features, diagnostics, Outcome, collection, boolean}
+use Rattle.meaning.specs.declared.Method.{Method}
+use Rattle.meaning.specs.declared.Method.TheVariants.{Where, All, Any, None, Count, Features, Diagnostics}
+use Rattle.meaning.specs.Calls.{Entry, gives, kept, fan_out, Call, true_for}
 
 -- what the table makes of a kind, or of a refusal: the kinds of a whole list of calls are settled without a member
 abbrev pub entry_after : Method → Entry → Entry
-entry_after method (next kind) = gives method kind
-entry_after method (refuse r) = refuse r
+entry_after method (Ok kind) = gives method kind
+entry_after method (Err r) = Err r
 
 abbrev pub entries_after : List Call → Entry → Entry
 entries_after [] entry = entry
 entries_after (call ∷ calls) entry = entries_after calls (entry_after call.method entry)
 
 -- the kinds alone: the kind after all calls, or the refusal of the leftmost call that may not stand where it stands
-abbrev pub plan_of : Kind → List Call → Entry
-plan_of kind calls = entries_after calls (next kind)
+abbrev pub plan_of : ValueKind → List Call → Entry
+plan_of kind calls = entries_after calls (Ok kind)
 
 -- a call that gives a boolean: it tests members
 abbrev pub is_quantifier : Method → Bool
@@ -97,9 +100,9 @@ judged Diagnostics arrived passed = boolean false false
 
 -- the outcome of calls that come to a kind, by their last call's method, how many members arrived, how many of them pass its test, and
 -- the members themselves
-unfoldable pub settled : Kind → Method → (arrived passed : ℕ) → List Member → Outcome
-settled Kind.Components method arrived passed members = collection components members
-settled Kind.Features method arrived passed members = collection features members
-settled Kind.Diagnostics method arrived passed members = collection diagnostics members
-settled Kind.Boolean method arrived passed members = judged method arrived passed
-settled Kind.Count method arrived passed members = Outcome.count arrived
+unfoldable pub settled : ValueKind → Method → (arrived passed : ℕ) → List Member → Outcome
+settled ValueKind.Components method arrived passed members = collection components members
+settled ValueKind.Features method arrived passed members = collection features members
+settled ValueKind.Diagnostics method arrived passed members = collection diagnostics members
+settled ValueKind.Boolean method arrived passed members = judged method arrived passed
+settled ValueKind.Count method arrived passed members = Outcome.count arrived

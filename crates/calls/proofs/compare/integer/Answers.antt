@@ -1,26 +1,24 @@
 -- `integer` gives `integer_for`: the digits read so far write n. Assumes nothing.
+use mathlib.Core.Path.{◌∙◌}
 use native.Mathlib.Omega.{arith}
 use Rattle.calls.proofs.CompareLaws.{read_none, read_more, read_large, read_whole}
 use Rattle.calls.proofs.compare.integer.Goals as goal
 
-pub loop-i-init : goal.loop-i-init
-loop-i-init c = read_none _
+pub loop-b-init : goal.loop-b-init
+loop-b-init c = read_none _
 
-pub digit_of-digit-requires : goal.digit_of-digit-requires
-digit_of-digit-requires c = tt
+pub returns-in_err-checked_mul : goal.returns-in_err-checked_mul
+returns-in_err-checked_mul c =
+    c.from_residual.ensures ∙ read_large c.loop-b.invariant c.loop-b-test.true (omega (arith, c.in_err-checked_mul.ensures))
 
-pub overflow_sub-digit : goal.overflow_sub-digit
-overflow_sub-digit c = omega (arith, c.type_inv.digits c.loop-i.i)
+pub returns-in_err-n : goal.returns-in_err-n
+returns-in_err-n c =
+    c.from_residual-in_err-n.ensures ∙ read_large c.loop-b.invariant c.loop-b-test.true (omega (arith, c.in_err-n.ensures, c.in_ok-checked_mul.ensures, c.digit_of.ensures))
 
-pub returns-then-digit-n : goal.returns-then-digit-n
-returns-then-digit-n c = read_large c.loop-i.invariant c.digit_of-digit.result (omega arith) c.digit_of-digit.ensures
-    (omega (arith, c.type_inv.digits c.loop-i.i))
-
-pub overflow_add-n : goal.overflow_add-n
-overflow_add-n c = omega (arith, c.type_inv.digits c.loop-i.i)
-
-pub loop-i-preserved : goal.loop-i-preserved
-loop-i-preserved c = read_more c.loop-i.invariant c.digit_of-digit.result (omega arith) c.digit_of-digit.ensures (omega (arith, c.type_inv.digits c.loop-i.i))
+pub loop-b-preserved : goal.loop-b-preserved
+loop-b-preserved c =
+    read_more c.loop-b.invariant _ c.loop-b-test.true (omega (arith, c.in_ok-n.ensures, c.in_ok-checked_mul.ensures, c.digit_of.ensures))
+    (omega (arith, c.in_ok-n.ensures))
 
 pub returns : goal.returns
-returns c = read_whole c.loop-i.invariant c.loop-i-test.false
+returns c = read_whole c.loop-b.invariant c.loop-b-test.false
