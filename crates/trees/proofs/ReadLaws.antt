@@ -13,17 +13,17 @@ use Rattle.syntax.specs.declared.refusal.Refusal.{Refusal}
 use Rattle.syntax.proofs.BoolLaws.{neither}
 use Rattle.syntax.proofs.TableLaws.{sets_front}
 use Rattle.lexer.specs.Lex.{lex, token_rows}
-use Rattle.lexer.specs.Read.{MAX_RULE, TOKEN_ROW, TREE_ROW, ERROR_ROW, rows_needed, tokens_short, tables_short, check_rule, check_room}
-use Rattle.syntax.specs.declared.refusal.Check.{Check}
-use Rattle.lexer.specs.declared.Lexed.{Lexed}
+use Rattle.lexer.specs.Read.{Lexed, MAX_RULE, TOKEN_ROW, TREE_ROW, ERROR_ROW, rows_needed, tokens_short, tables_short, check_rule, check_room}
+use Rattle.syntax.specs.Refusal.{Check}
+use Rattle.std.specs.Prelude.{Ok, Err}
 use Rattle.lexer.proofs.ReadLaws.{lex_length, token_rows_length, passed_lengths}
 use Rattle.trees.specs.Green.{size}
 use Rattle.trees.specs.Parse.{parse_root, parse_expr}
 use Rattle.trees.specs.Rows.{tree_rows, error_rows}
 use Rattle.trees.specs.Writing.{Asks, Did}
-use Rattle.trees.specs.Read.{check_tables, rows_read, Reads}
+use Rattle.trees.specs.Read.{Reading, check_tables, rows_read, Reads}
 use Rattle.trees.specs.declared.Cursor.{Cursor}
-use Rattle.trees.specs.declared.Reading.{Reading}
+use Rattle.trees.specs.declared.Rows.{Rows}
 use Rattle.trees.proofs.GreenLaws.{tree_rows_length, error_rows_length}
 use Rattle.trees.proofs.TokenLaws.{width_lex}
 use Rattle.trees.proofs.BoundLaws.{rows_bound, errors_bound}
@@ -55,13 +55,13 @@ pub record Lexes (rule before after : List ℕ) (n : ℕ) : Type 0 where
 
 module _ {rule before after : List ℕ} {r : Lexed} (short : length rule ≤ MAX_RULE) (fits : 3 * length rule ≤ length before)
     (l : Rattle.lexer.specs.Read.Reads (check_room rule (length before)) rule before after r) where
-  passed : check_room rule (length before) ≡ Check.Passed
+  passed : check_room rule (length before) ≡ Ok tt
   unfolding check_room
   passed = rw (le-ltb _ _ short, le-ltb (length before / TOKEN_ROW) (length rule) (omega arith))
 
-  pub lexes : {n : ℕ} → r ≡ Lexed.Tokens n → Lexes rule before after n
+  pub lexes : {n : ℕ} → r ≡ Ok n → Lexes rule before after n
   lexes {n} e =
-      let a : r ≡ Lexed.Tokens (length (lex rule)) = rw passed at l.answer in
+      let a : r ≡ Ok (length (lex rule)) = rw passed at l.answer in
       let count : n ≡ length (lex rule) = cc in
       let table : after ≡ with_rows (token_rows 0 (lex rule)) before = rw passed at l.table in
       let long : length (token_rows 0 (lex rule)) ≡ 3 * n = omega (arith, token_rows_length 0 (lex rule)) in
@@ -75,9 +75,9 @@ module _ {rule before after : List ℕ} {r : Lexed} (short : length rule ≤ MAX
         within = omega (arith, ap length table, length-append (token_rows 0 (lex rule)) (drop (length (token_rows 0 (lex rule))) before));
       }
 
-  pub lex_refuses_not : {x : Refusal} → r ≡ Lexed.Refused x → ⊥
+  pub lex_refuses_not : {x : Refusal} → r ≡ Err x → ⊥
   lex_refuses_not {x} e =
-      let a : r ≡ Lexed.Tokens (length (lex rule)) = rw passed at l.answer in
+      let a : r ≡ Ok (length (lex rule)) = rw passed at l.answer in
       let z : ◌≡◌ {A = ℕ} 0 1 = cc in
       omega arith
 
@@ -105,32 +105,36 @@ rooted rule {t₀ = t₀} {e₀ = e₀} d a =
     }
 
 -- a check that passed reads as another that passed does, and one that refused gives its refusal and leaves the tables
-pub passed_reads : {k m : Check} {rule a b c d e f : List ℕ} {r : Reading} → k ≡ Check.Passed → m ≡ Check.Passed
+pub passed_reads : {k m : Check} {rule a b c d e f : List ℕ} {r : Reading} → k ≡ Ok tt → m ≡ Ok tt
     → Reads m rule a b c d e f r → Reads k rule a b c d e f r
 passed_reads p q h = rw p (rw q at h)
 
-pub refused_reads : {k : Check} {rule a c e : List ℕ} {r : Refusal} → k ≡ Check.Refused r → Reads k rule a a c c e e (Reading.Refused r)
+pub refused_reads : {k : Check} {rule a c e : List ℕ} {r : Refusal} → k ≡ Err r → Reads k rule a a c c e e (Err r)
 refused_reads e = rw e record { answer = refl; tokens = refl; tree = refl; errors = refl }
 
 -- what `check_rule` passes, `parse_rule` has room for
-pub passed_has_room : (rule : List ℕ) (tokens tree errors : ℕ) → check_rule rule tokens tree errors ≡ Check.Passed
-    → check_tables (length rule) tokens tree errors ≡ Check.Passed
+pub passed_has_room : (rule : List ℕ) (tokens tree errors : ℕ) → check_rule rule tokens tree errors ≡ Ok tt
+    → check_tables (length rule) tokens tree errors ≡ Ok tt
 unfolding check_tables
 passed_has_room rule tokens tree errors e = let l = passed_lengths rule tokens tree errors e in rw (l.0, l.1)
 
-pub rows_read_lem : {a b c a' b' c' : ℕ} → a ≡ a' → b ≡ b' → c ≡ c' → Reading.Rows a b c ≡ Reading.Rows a' b' c'
+abbrev pub counted : ℕ → ℕ → ℕ → Rows
+counted a b c = record { tokens = a; tree = b; errors = c }
+
+pub rows_read_lem : {a b c a' b' c' : ℕ} → a ≡ a' → b ≡ b' → c ≡ c' → ◌≡◌ {A = Reading} (Ok (counted a b c)) (Ok (counted a' b' c'))
 rows_read_lem p q s = cc
 
 -- numbers of rows that were given are small
-pub rows_few : (rule : List ℕ) (tokens tree errors : ℕ) {a b c : ℕ} → Reading.Rows a b c ≡ rows_read (check_rule rule tokens tree errors) rule
+pub rows_few : (rule : List ℕ) (tokens tree errors : ℕ) {a b c : ℕ} → Ok (counted a b c) ≡ rows_read (check_rule rule tokens tree errors) rule
     → (a ≤ 500) × (b ≤ 3505) × (c ≤ 3004)
 rows_few rule tokens tree errors {a} {b} {c} e = go (check_rule rule tokens tree errors) refl e
   where
-    go : (k : Check) → check_rule rule tokens tree errors ≡ k → Reading.Rows a b c ≡ rows_read k rule → (a ≤ 500) × (b ≤ 3505) × (c ≤ 3004)
-    go Check.Passed p q =
-        let x : a ≡ length (lex rule) = cc in
-        let y : b ≡ size (parse_expr rule).made = cc in
-        let z : c ≡ length (parse_expr rule).errors = cc in
+    go : (k : Check) → check_rule rule tokens tree errors ≡ k → Ok (counted a b c) ≡ rows_read k rule → (a ≤ 500) × (b ≤ 3505) × (c ≤ 3004)
+    go (Ok tt) p q =
+        let all : counted a b c ≡ counted (length (lex rule)) (size (parse_expr rule).made) (length (parse_expr rule).errors) = cc in
+        let x : a ≡ length (lex rule) = ap (λ (n : Rows). n.tokens) all in
+        let y : b ≡ size (parse_expr rule).made = ap (λ (n : Rows). n.tree) all in
+        let z : c ≡ length (parse_expr rule).errors = ap (λ (n : Rows). n.errors) all in
         let l = ltb-false MAX_RULE (length rule) (passed_lengths rule tokens tree errors p).0 in
         (omega (arith, lex_length rule), omega (arith, rows_bound rule), omega (arith, errors_bound rule))
-    go (Check.Refused r) p q = let w : ◌≡◌ {A = ℕ} 0 1 = cc in absurd (omega arith)
+    go (Err r) p q = let w : ◌≡◌ {A = ℕ} 0 1 = cc in absurd (omega arith)
