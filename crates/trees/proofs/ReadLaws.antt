@@ -21,9 +21,9 @@ use Rattle.trees.specs.Green.{size}
 use Rattle.trees.specs.Parse.{parse_root, parse_expr}
 use Rattle.trees.specs.Rows.{tree_rows, error_rows}
 use Rattle.trees.specs.Writing.{Asks, Did}
-use Rattle.trees.specs.Read.{check_tables, rows_read, Reads}
+use Rattle.trees.specs.Read.{Reading, check_tables, rows_read, Reads}
 use Rattle.trees.specs.declared.Cursor.{Cursor}
-use Rattle.trees.specs.declared.Reading.{Reading}
+use Rattle.trees.specs.declared.Rows.{Rows}
 use Rattle.trees.proofs.GreenLaws.{tree_rows_length, error_rows_length}
 use Rattle.trees.proofs.TokenLaws.{width_lex}
 use Rattle.trees.proofs.BoundLaws.{rows_bound, errors_bound}
@@ -109,7 +109,7 @@ pub passed_reads : {k m : Check} {rule a b c d e f : List ℕ} {r : Reading} →
     → Reads m rule a b c d e f r → Reads k rule a b c d e f r
 passed_reads p q h = rw p (rw q at h)
 
-pub refused_reads : {k : Check} {rule a c e : List ℕ} {r : Refusal} → k ≡ Err r → Reads k rule a a c c e e (Reading.Refused r)
+pub refused_reads : {k : Check} {rule a c e : List ℕ} {r : Refusal} → k ≡ Err r → Reads k rule a a c c e e (Err r)
 refused_reads e = rw e record { answer = refl; tokens = refl; tree = refl; errors = refl }
 
 -- what `check_rule` passes, `parse_rule` has room for
@@ -118,19 +118,23 @@ pub passed_has_room : (rule : List ℕ) (tokens tree errors : ℕ) → check_rul
 unfolding check_tables
 passed_has_room rule tokens tree errors e = let l = passed_lengths rule tokens tree errors e in rw (l.0, l.1)
 
-pub rows_read_lem : {a b c a' b' c' : ℕ} → a ≡ a' → b ≡ b' → c ≡ c' → Reading.Rows a b c ≡ Reading.Rows a' b' c'
+abbrev pub counted : ℕ → ℕ → ℕ → Rows
+counted a b c = record { tokens = a; tree = b; errors = c }
+
+pub rows_read_lem : {a b c a' b' c' : ℕ} → a ≡ a' → b ≡ b' → c ≡ c' → ◌≡◌ {A = Reading} (Ok (counted a b c)) (Ok (counted a' b' c'))
 rows_read_lem p q s = cc
 
 -- numbers of rows that were given are small
-pub rows_few : (rule : List ℕ) (tokens tree errors : ℕ) {a b c : ℕ} → Reading.Rows a b c ≡ rows_read (check_rule rule tokens tree errors) rule
+pub rows_few : (rule : List ℕ) (tokens tree errors : ℕ) {a b c : ℕ} → Ok (counted a b c) ≡ rows_read (check_rule rule tokens tree errors) rule
     → (a ≤ 500) × (b ≤ 3505) × (c ≤ 3004)
 rows_few rule tokens tree errors {a} {b} {c} e = go (check_rule rule tokens tree errors) refl e
   where
-    go : (k : Check) → check_rule rule tokens tree errors ≡ k → Reading.Rows a b c ≡ rows_read k rule → (a ≤ 500) × (b ≤ 3505) × (c ≤ 3004)
+    go : (k : Check) → check_rule rule tokens tree errors ≡ k → Ok (counted a b c) ≡ rows_read k rule → (a ≤ 500) × (b ≤ 3505) × (c ≤ 3004)
     go (Ok tt) p q =
-        let x : a ≡ length (lex rule) = cc in
-        let y : b ≡ size (parse_expr rule).made = cc in
-        let z : c ≡ length (parse_expr rule).errors = cc in
+        let all : counted a b c ≡ counted (length (lex rule)) (size (parse_expr rule).made) (length (parse_expr rule).errors) = cc in
+        let x : a ≡ length (lex rule) = ap (λ (n : Rows). n.tokens) all in
+        let y : b ≡ size (parse_expr rule).made = ap (λ (n : Rows). n.tree) all in
+        let z : c ≡ length (parse_expr rule).errors = ap (λ (n : Rows). n.errors) all in
         let l = ltb-false MAX_RULE (length rule) (passed_lengths rule tokens tree errors p).0 in
         (omega (arith, lex_length rule), omega (arith, rows_bound rule), omega (arith, errors_bound rule))
     go (Err r) p q = let w : ◌≡◌ {A = ℕ} 0 1 = cc in absurd (omega arith)

@@ -1,24 +1,30 @@
 -- Reading a rule: refusals 1 to 4, or token rows, tree rows and error rows. Assumes nothing: these are definitions.
-use Rattle.std.specs.Prelude.{ℕ, ◌≡◌, cond, List, ltb, length, Ok, Err}
+use Rattle.std.specs.Prelude.{ℕ, ◌≡◌, cond, List, ltb, length, Result, Ok, Err}
 use Rattle.syntax.specs.Table.{with_rows}
+use Rattle.syntax.specs.Refusal.{Check}
+use Rattle.syntax.specs.declared.refusal.Refusal.{Refusal}
 use Rattle.syntax.specs.declared.refusal.Refusal.TheVariants.{RuleTooLong, TableTooShort}
 use Rattle.lexer.specs.Lex.{lex}
 use Rattle.lexer.specs.Read.{MAX_RULE, tables_short, token_table}
-use Rattle.syntax.specs.Refusal.{Check}
 use Rattle.trees.specs.Green.{size}
 use Rattle.trees.specs.Parse.{parse_expr}
 use Rattle.trees.specs.Rows.{tree_rows, error_rows}
-use Rattle.trees.specs.declared.Reading.{Reading}
+use Rattle.trees.specs.declared.Rows.{Rows}
 
 -- of refusals 1 to 4, those that the parser by itself cannot do without: 1 and 3, by the lengths of the rule and the three tables
 unfoldable pub check_tables : ℕ → ℕ → ℕ → ℕ → Check
 check_tables n tokens tree errors =
     cond (ltb MAX_RULE n) (Err RuleTooLong) (cond (tables_short n tokens tree errors) (Err TableTooShort) (Ok tt))
 
+-- what reading a rule gives: the numbers of its rows in the three tables, or the refusal
+abbrev pub Reading : Type 0
+Reading = Result Rows Refusal
+
 -- what is given of a rule after a check: the numbers of token, tree and error rows, or the refusal
 abbrev pub rows_read : Check → List ℕ → Reading
-rows_read (Ok tt) rule = Reading.Rows (length (lex rule)) (size (parse_expr rule).made) (length (parse_expr rule).errors)
-rows_read (Err r) rule = Reading.Refused r
+rows_read (Ok tt) rule =
+    Ok (record { tokens = length (lex rule); tree = size (parse_expr rule).made; errors = length (parse_expr rule).errors })
+rows_read (Err r) rule = Err r
 
 -- what the tree table and the error table then hold, that held t: the rows and the rest as it was, or t unaltered
 abbrev pub tree_table : Check → List ℕ → List ℕ → List ℕ

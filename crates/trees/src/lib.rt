@@ -3,16 +3,16 @@
 
 use syntax::refusal::Refusal;
 
-// What reading a rule gives: the numbers of its rows in the three tables, or the refusal.
+// What reading a rule gives: the numbers of its rows in the three tables.
 #[derive(Clone, Copy)]
-pub enum Reading {
-    Rows {
-        tokens: usize,
-        tree: usize,
-        errors: usize,
-    },
-    Refused(Refusal),
+pub struct Rows {
+    pub tokens: usize,
+    pub tree: usize,
+    pub errors: usize,
 }
+
+// Or the refusal.
+pub type Reading = Result<Rows, Refusal>;
 
 // Where the parser stands: the next token and its first byte, and the next places of the tree and the error table.
 #[derive(Clone, Copy)]
