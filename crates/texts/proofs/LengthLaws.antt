@@ -11,15 +11,10 @@ use mathlib.Core.Bool.{◌&&◌}
 use Rattle.syntax.proofs.BoolLaws.{whether}
 use Rattle.syntax.specs.Text.{bytes_between}
 use Rattle.syntax.proofs.TextLaws.{part_length}
-use Rattle.texts.specs.Append.{Appends}
+use Rattle.texts.specs.Append.{Wrote}
 use Rattle.texts.specs.Text.{BLANK, TAB, MOST_DIGITS, each, digits, number_text, shown_byte, shown}
 use Rattle.texts.specs.Place.{CARET, mark_place, line_start, line_end, mark_end, column, columns, place_text}
 use Rattle.texts.proofs.NumberLaws.{digits_one, digits_more}
-
--- a text that has room stands whole, with the bytes around it as they were
-pub appends_whole : {text before after : List ℕ} {at next : ℕ} → Appends text before at after next → at + length text ≤ length before
-    → (next ≡ at + length text) × (after ≡ take at before ++ text ++ drop (at + length text) before)
-appends_whole {text} {before} {after} {at} p h = (omega (arith, p.place), p.bytes ∙ sets-eq text before at h)
 
 digits_length : (most n : ℕ) → length (digits most n) ≤ most
 unfolding digits
