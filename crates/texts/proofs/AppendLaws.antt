@@ -1,17 +1,17 @@
 -- Texts appended one after the other, with whatever is cut, and loops that append. Assumes nothing.
 use mathlib.Core.Path.{◌≡◌, refl, sym, ap, ◌∙◌}
-use mathlib.Core.List.{List, [], ◌∷◌, ◌++◌}
+use mathlib.Core.List.{List, [], ◌∷◌, ◌++◌, append_assoc}
 use Prim.Native.Nat.{ℕ, suc, ◌+◌, ◌-◌, min, ◌≤◌, ◌<◌}
 use native.Mathlib.Omega.{arith}
 use borrow.Author.Tests.{leb-true, leb-false}
 use lib.Dec.{leb}
-use lib.ListN.{length, get_or, length-append}
-use lib.Seq.{sets, length-sets, set_out, take-length}
+use lib.ListN.{length, get_or, take, drop, length-append, take-append-drop, drop_of_length-le}
+use lib.Seq.{sets, sets-eq, length-sets, set_out, take-length, length-take-le, drop-drop}
 use Rattle.syntax.proofs.BoolLaws.{whether}
 use Rattle.syntax.proofs.TextLaws.{from}
 use Rattle.syntax.proofs.TableLaws.{sets_append}
 use Rattle.syntax.specs.Text.{bytes_between}
-use Rattle.texts.specs.Append.{Written, Wrote, appended, written}
+use Rattle.texts.specs.Append.{Written, Wrote, appended}
 use Rattle.texts.specs.declared.Writer.{Writer}
 use Rattle.texts.specs.Text.{each}
 
@@ -35,14 +35,35 @@ appended_then x y w =
     let long : length (sets a at x) ≡ length a = length-sets a at x in
     let place : at + min (length (x ++ y)) (length a - at) ≡ next + min (length y) (length (sets a at x) - next) = rw (long, length-append x y) (omega arith) in
     let bytes : sets a at (x ++ y) ≡ sets (sets a at x) next y =
-        whether (leb (at + length x) (length a))
-        (λ t. let e : next ≡ at + length x = omega (arith, leb-true (at + length x) (length a) t) in rw e (sets_append x y a at))
-        (λ t.
-        let cut : length a < at + length x = leb-false _ _ t in
-        let past : length (sets a at x) ≤ next = rw long (omega arith) in
-        let beyond : length (sets a at x) ≤ at + length x = rw long (omega arith) in
-        sets_append x y a at ∙ sets_past y (sets a at x) (at + length x) beyond ∙ sym (sets_past y (sets a at x) next past)) in
+    whether (leb (at + length x) (length a))
+    (λ t. let e : next ≡ at + length x = omega (arith, leb-true (at + length x) (length a) t) in rw e (sets_append x y a at))
+    (λ t.
+    let cut : length a < at + length x = leb-false _ _ t in
+    let past : length (sets a at x) ≤ next = rw long (omega arith) in
+    let beyond : length (sets a at x) ≤ at + length x = rw long (omega arith) in
+    sets_append x y a at ∙ sets_past y (sets a at x) (at + length x) beyond ∙ sym (sets_past y (sets a at x) next past)) in
     λ i. record { bytes = bytes i; at = place i }
+
+-- as much of a text as there is room for, copied to its place
+pub appended_part : (piece : List ℕ) (w : Written) {n k : ℕ} {part : List ℕ} → w.at ≤ length w.bytes → n ≡ min (length piece) (length w.bytes - w.at) → k ≡ n → part ≡ take n piece
+    → record { bytes = take w.at w.bytes ++ (part ++ drop k (drop w.at w.bytes)); at = w.at + n } ≡ appended piece w
+unfolding appended
+appended_part piece w {n} {k} {part} within few all e =
+    let at = w.at in
+    let a = w.bytes in
+    let long : length part ≡ n = rw e (length-take-le n piece (omega arith)) in
+    let place : at + length part ≡ at + n = ap (λ (m : ℕ). at + m) long in
+    let fits : at + length part ≤ length a = omega arith in
+    let stored : take at a ++ (part ++ drop k (drop at a)) ≡ sets a at part =
+    sym (sets-eq part a at fits ∙ append_assoc (take at a) part (drop (at + length part) a) ∙ ap (λ (m : ℕ). take at a ++ (part ++ drop m a)) place ∙ rw (all, drop-drop n at a)) in
+    let whole : sets a at piece ≡ sets a at part =
+    rw e
+    (ap (sets a at) (sym (take-append-drop n piece))
+    ∙ sets_append (take n piece) (drop n piece) a at
+    ∙ whether (leb (length piece) n)
+    (λ t. rw (drop_of_length-le piece (leb-true (length piece) n t)))
+    (λ t. sets_past (drop n piece) (sets a at (take n piece)) (at + length (take n piece)) (rw (length-sets a at (take n piece), ← e) (omega (arith, leb-false (length piece) n t))))) in
+    λ i. record { bytes = (stored ∙ sym whole) i; at = ap (λ (m : ℕ). at + m) few i }
 
 -- the same of a writer
 pub wrote_none : {a : Writer} → Wrote [] a a

@@ -10,7 +10,6 @@ use lib.ListN.{length, take, drop, get_or, length-drop}
 use lib.Seq.{length-take-le, get_or-take}
 use Rattle.syntax.specs.Text.{ascii, bytes_between}
 use Rattle.syntax.proofs.BoolLaws.{whether}
-use Rattle.syntax.proofs.TextLaws.{from}
 use Rattle.texts.specs.declared.Writer.{Writer}
 use Rattle.texts.specs.Append.{Wrote}
 use Rattle.texts.proofs.AppendLaws.{wrote_then}

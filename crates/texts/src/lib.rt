@@ -3,24 +3,21 @@
 
 pub mod place;
 
-
-
-ghost use Rattle.std.specs.Prelude.{◌≡◌, [], ◌∷◌, ◌++◌, map};
-ghost use Rattle.texts.specs.Append.{Wrote};
+ghost use Rattle.std.specs.Prelude.{◌≡◌, [], ◌∷◌, ◌++◌, ◌≤◌, length, map, take};
 ghost use Rattle.texts.specs.Items.{item};
 ghost use Rattle.texts.specs.Text.{number_text, shown_byte, shown};
-
-// The control character that stands above the letters.
-const DELETE: u8 = 0x7f;
 
 // A lent place of bytes, and the number of them that are written.
 #[derive(Drop)]
 pub struct Writer<'a> {
     out: &'a mut [u8],
     at: usize,
+    ghost within: { at ≤ length out.now },
 }
 
 impl<'a> Writer<'a> {
+    ghost use Rattle.texts.specs.Append.{Wrote};
+
     // A writer at the front of a place.
     pub fn new(out: &'a mut [u8]) -> Writer<'a>
         ensures same_reference { result.out.ghost_name ≡ out.entry.ghost_name }
@@ -30,20 +27,20 @@ impl<'a> Writer<'a> {
         Writer { out, at: 0 }
     }
 
-    // The number of bytes written.
-    pub fn len(&self) -> usize
-        ensures { result ≡ self.now.at }
+    // What is written.
+    pub fn written(&self) -> &[u8]
+        ensures { result.now ≡ take self.now.at self.now.out.now }
     {
-        self.at
+        &self.out[..self.at]
     }
 
     // Copies a piece.
     pub fn append(&mut self, piece: &[u8])
         ensures { Wrote piece.now self.old self.new }
     {
-        for &b in piece {
-            self.append_byte(b);
-        }
+        let n = piece.len().min(self.out.len() - self.at);
+        self.out[self.at..self.at + n].copy_from_slice(&piece[..n]);
+        self.at += n;
     }
 
     // A text that is not the program's own: its control characters become blanks, so that it stays on its line.
@@ -55,7 +52,7 @@ impl<'a> Writer<'a> {
         }
     }
 
-    // A number in decimal digits.
+    // A number in decimal digits. std's formatting answers a `Result`, which a writer that can't fail would have to drop.
     pub fn write_number(&mut self, n: u64)
         ensures { Wrote (number_text n) self.old self.new }
     {
@@ -76,6 +73,7 @@ impl<'a> Writer<'a> {
     }
 
     // The n-th of some items, from 0; `?` where there are fewer.
+    #[tactic(auto, unfolding(crate::specs::Items::item))]
     pub fn write_item(&mut self, items: &[&[u8]], n: u32)
         ensures { Wrote (item n (map (λ text. text.now) items.now)) self.old self.new }
     {

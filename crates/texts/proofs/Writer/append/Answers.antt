@@ -1,12 +1,12 @@
--- `append` copies a piece byte by byte. Assumes nothing.
-use Rattle.texts.proofs.AppendLaws.{walks_itself, walks_on, walks_end}
+-- `append` copies what there is room for. Assumes nothing.
+use mathlib.Core.Path.{refl}
+use native.Mathlib.Omega.{arith}
+use Rattle.texts.proofs.AppendLaws.{appended_part}
 use Rattle.texts.proofs.Writer.append.Goals as goal
 
-pub loop-b-init : goal.loop-b-init
-loop-b-init c = walks_itself
-
-pub loop-b-preserved : goal.loop-b-preserved
-loop-b-preserved c = walks_on c.loop-b.invariant c.loop-b-test.true c.append_byte.ensures
-
 pub returns : goal.returns
-returns c = walks_end c.loop-b.invariant c.loop-b-test.false
+returns c =
+    record {
+      same_place = refl;
+      appends = appended_part c.args.piece.now (record { bytes = c.args.self.now.out.now; at = c.args.self.now.at }) c.args.self.now.within c.min-n.ensures (omega arith) c.copy_from_slice.ensures.after;
+    }
