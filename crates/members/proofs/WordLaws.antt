@@ -1,5 +1,5 @@
--- The words of a board's numbers: as items of one text, and as a rule has them. Assumes nothing.
-use mathlib.Core.Path.{◌≡◌, ◌∙◌}
+-- The words of a board's numbers: as items of a table, and as a rule has them. Assumes nothing.
+use mathlib.Core.Path.{◌≡◌}
 use mathlib.Core.List.{List, [], map}
 use Prim.Native.Nat.{ℕ, ◌<◌}
 use lib.Dec.{T}
@@ -7,15 +7,16 @@ use lib.ListN.{get_or, get_or-map}
 use Rattle.syntax.proofs.EveryByte.{at_each}
 use Rattle.board.specs.Check.{CATEGORIES, FEATURE_KINDS, DIRECTIONS, SEVERITIES}
 use Rattle.matching.specs.Words.{category_matches, feature_kind_matches, direction_matches, severity_matches}
-use Rattle.texts.specs.Append.{Appends}
+use Rattle.texts.specs.declared.Writer.{Writer}
+use Rattle.texts.specs.Append.{Wrote}
 use Rattle.texts.specs.Items.{item}
-use Rattle.texts.proofs.ItemLaws.{items_of, item_of}
 use Rattle.members.specs.Words.{first_word, category_text, feature_kind_text, direction_text, severity_text}
 
 -- a number's word, from the first words of all numbers
-pub word_appended : {out after : List ℕ} {at next : ℕ} (s : List ℕ) (n : ℕ) (words : List (List (List ℕ))) → items_of s ≡ map first_word words
-    → Appends (item n s) out at after next → Appends (first_word (get_or words n [])) out at after next
-word_appended s n words same p = rw (item_of n s same ∙ get_or-map first_word words n []) at p
+pub word_wrote : {before after : Writer} (texts : List (List ℕ)) (n : ℕ) (words : List (List (List ℕ))) → texts ≡ map first_word words → Wrote (item n texts) before after
+    → Wrote (first_word (get_or words n [])) before after
+unfolding item
+word_wrote texts n words same w = rw (same, get_or-map first_word words n []) at w
 
 -- each word is one by which a rule finds what it stands for
 pub category_typed : (category : ℕ) → category < CATEGORIES → T (category_matches category (category_text category))

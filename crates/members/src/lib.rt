@@ -1,91 +1,107 @@
 // The members of a collection, a line each. They stand in the collection table as rows of two numbers.
 #![tactic(auto)]
 
-ghost use Rattle.texts.specs.Append.{Appends};
+ghost use Rattle.texts.specs.Append.{Wrote};
 ghost use Rattle.members.specs.Member.{component_text, feature_text, port_text, diagnostic_text, member_text};
 
 use board::image;
 use board::image::Section;
 use calls::value::Value;
+use texts::Writer;
+
+// The words for the numbers of a board, in the order of the numbers.
+const CATEGORIES: [&[u8]; 14] = [
+    b"system",
+    b"process",
+    b"thread",
+    b"thread_group",
+    b"processor",
+    b"virtual_processor",
+    b"memory",
+    b"bus",
+    b"virtual_bus",
+    b"device",
+    b"subprogram",
+    b"subprogram_group",
+    b"data",
+    b"abstract",
+];
+
+const FEATURE_KINDS: [&[u8]; 10] = [
+    b"data_port",
+    b"event_port",
+    b"event_data_port",
+    b"parameter",
+    b"data_access",
+    b"bus_access",
+    b"subprogram_access",
+    b"subprogram_group_access",
+    b"feature_group",
+    b"abstract_feature",
+];
+
+const DIRECTIONS: [&[u8]; 4] = [b"none", b"in", b"out", b"in_out"];
+
+const SEVERITIES: [&[u8]; 3] = [b"error", b"warning", b"info"];
 
 // The line of a member of a value, from the two numbers of its row. A value that is no collection has no members, and no line.
-pub fn write_member(
-    image: &[u8],
-    value: Value,
-    first: u32,
-    second: u32,
-    out: &mut [u8],
-    at: usize,
-) -> usize
-    ensures { Appends (member_text image.now value first second) out.old at out.new result }
+#[tactic(auto, using(texts::proofs::AppendLaws::appended_none))]
+pub fn write_member(image: &[u8], value: Value, first: u32, second: u32, out: &mut Writer<'_>)
+    ensures { Wrote (member_text image.now value first second) out.old out.new }
 {
     match value {
-        Value::Components(_) => write_component(image, first, out, at),
-        Value::Features(_) => write_feature(image, first, second, out, at),
-        Value::Diagnostics(_) => write_diagnostic(image, first, out, at),
-        Value::Bool(_) => at,
-        Value::BoolWithWarning(_) => at,
-        Value::Count(_) => at,
+        Value::Components(_) => write_component(image, first, out),
+        Value::Features(_) => write_feature(image, first, second, out),
+        Value::Diagnostics(_) => write_diagnostic(image, first, out),
+        Value::Bool(_) | Value::BoolWithWarning(_) | Value::Count(_) => {}
     }
 }
 
 // A component: its index and its category.
-pub fn write_component(image: &[u8], component: u32, out: &mut [u8], at: usize) -> usize
-    ensures { Appends (component_text image.now component) out.old at out.new result }
+pub fn write_component(image: &[u8], component: u32, out: &mut Writer<'_>)
+    ensures { Wrote (component_text image.now component) out.old out.new }
 {
     let category = image::field(image, Section::Components, component, image::CATEGORY);
-    let word = texts::write_numbered(b"  component ", component as u64, b": ", out, at);
-    let end = texts::write_item(
-        b"system|process|thread|thread_group|processor|virtual_processor|memory|bus|virtual_bus|device|\
-          subprogram|subprogram_group|data|abstract",
-        category,
-        out,
-        word,
-    );
-    texts::append(b"\n", out, end)
+    out.write_numbered(b"  component ", u64::from(component), b": ");
+    out.write_item(&CATEGORIES, category);
+    out.append(b"\n");
 }
 
 // A feature: its component's index, its name, its kind and its direction.
-pub fn write_feature(image: &[u8], component: u32, feature: u32, out: &mut [u8], at: usize) -> usize
-    ensures { Appends (feature_text image.now component feature) out.old at out.new result }
+pub fn write_feature(image: &[u8], component: u32, feature: u32, out: &mut Writer<'_>)
+    ensures { Wrote (feature_text image.now component feature) out.old out.new }
 {
-    let string = image::field(image, Section::Features, feature, image::FEATURE_NAME);
-    let name = texts::write_numbered(b"  component ", component as u64, b": feature ", out, at);
-    let port = texts::write_shown(image::string(image, string), out, name);
-    let end = write_port(image, feature, out, port);
-    texts::append(b"\n", out, end)
+    let name = image::field(image, Section::Features, feature, image::FEATURE_NAME);
+    out.write_numbered(b"  component ", u64::from(component), b": feature ");
+    out.write_shown(image::string(image, name));
+    write_port(image, feature, out);
+    out.append(b"\n");
 }
 
 // A feature's kind and direction, each behind a comma; no direction where it has none.
-fn write_port(image: &[u8], feature: u32, out: &mut [u8], at: usize) -> usize
-    ensures { Appends (port_text image.now feature) out.old at out.new result }
+fn write_port(image: &[u8], feature: u32, out: &mut Writer<'_>)
+    ensures { Wrote (port_text image.now feature) out.old out.new }
 {
     let kind = image::field(image, Section::Features, feature, image::FEATURE_KIND);
     let direction = image::field(image, Section::Features, feature, image::DIRECTION);
-    let word = texts::append(b", ", out, at);
-    let end = texts::write_item(
-        b"data_port|event_port|event_data_port|parameter|data_access|bus_access|subprogram_access|\
-          subprogram_group_access|feature_group|abstract_feature",
-        kind,
-        out,
-        word,
-    );
+    out.append(b", ");
+    out.write_item(&FEATURE_KINDS, kind);
     if direction == 0 {
-        return end;
+        return;
     }
-    let last = texts::append(b", ", out, end);
-    texts::write_item(b"none|in|out|in_out", direction, out, last)
+    out.append(b", ");
+    out.write_item(&DIRECTIONS, direction);
 }
 
 // A diagnostic: its severity and its message.
-pub fn write_diagnostic(image: &[u8], diagnostic: u32, out: &mut [u8], at: usize) -> usize
-    ensures { Appends (diagnostic_text image.now diagnostic) out.old at out.new result }
+pub fn write_diagnostic(image: &[u8], diagnostic: u32, out: &mut Writer<'_>)
+    ensures { Wrote (diagnostic_text image.now diagnostic) out.old out.new }
 {
     let severity = image::field(image, Section::Diagnostics, diagnostic, image::SEVERITY);
-    let string = image::field(image, Section::Diagnostics, diagnostic, image::MESSAGE);
-    let word = texts::append(b"  ", out, at);
-    let colon = texts::write_item(b"error|warning|info", severity, out, word);
-    let message = texts::append(b": ", out, colon);
-    let end = texts::write_shown(image::string(image, string), out, message);
-    texts::append(b"\n", out, end)
+    let message = image::field(image, Section::Diagnostics, diagnostic, image::MESSAGE);
+    out.append(b"  ");
+    out.write_item(&SEVERITIES, severity);
+    out.append(b": ");
+    out.write_shown(image::string(image, message));
+    out.append(b"\n");
 }

@@ -1,5 +1,4 @@
-pub mod PutLaws
 pub mod MessageLaws
-pub mod WordLaws
+pub mod NameLaws
 pub mod WriteLaws
 pub mod Examples

@@ -1,5 +1,5 @@
 -- Laws of the messages: their parts, form by form, and their lengths. Assumes nothing.
-use mathlib.Core.Path.{◌≡◌, refl, sym, ap, ◌∙◌, subst}
+use mathlib.Core.Path.{◌≡◌, refl, sym, ◌∙◌, subst}
 use mathlib.Core.Bool.{Bool, true, cond, ◌&&◌}
 use mathlib.Core.List.{List, [], ◌∷◌, ◌++◌}
 use Prim.Native.Nat.{ℕ, zero-le, ◌+◌, ◌≤◌, ◌<◌}
@@ -8,12 +8,12 @@ use borrow.Author.Tests.{eqb-true, eqb-false, ne_eqb, leb-true}
 use lib.Dec.{T, eqb, leb}
 use lib.ListN.{length, length-append}
 use Rattle.syntax.specs.Kind.{COUNT_COMPARE_EXPR}
-use Rattle.syntax.specs.Text.{bytes_between}
+use Rattle.syntax.specs.Text.{ascii, bytes_between}
 use Rattle.syntax.proofs.BoolLaws.{whether, and_left, and_right, T→true}
 use Rattle.syntax.proofs.TextLaws.{part_length}
 use Rattle.syntax.specs.Form.{EXPECT, EXPECT_IDENT, LEFT_OVER, SOURCE, METHOD, ATOM}
-use Rattle.message.specs.Message.{Name, names, name_in, kind_name, quoted, message_with, message_of}
-use Rattle.message.specs.Parts.{HEAD, LONGEST_NAME, LONGEST_END, head_of, end_of}
+use Rattle.message.specs.Message.{Name, names, name_in, kind_name, quoted, text_or_eof, found, message_with, message_of}
+use Rattle.message.specs.Parts.{head_of, found_of}
 
 -- every name of a list passes a test
 abbrev all : (Name → Bool) → List Name → Bool
@@ -30,6 +30,10 @@ name_in_case p P k none some (n ∷ ns) t =
     let others = name_in_case p P k none some ns (and_right (p n) (all p ns) t) in
     whether (eqb k n.kind) (λ e. rw (e, name_in) (some n passes (eqb-true _ _ e))) (λ e. rw (e, name_in) others)
 
+-- the most bytes of a kind's name
+abbrev pub LONGEST_NAME : ℕ
+LONGEST_NAME = 18
+
 pub name_short : (k : ℕ) → length (kind_name k) ≤ LONGEST_NAME
 unfolding kind_name names
 name_short k =
@@ -42,6 +46,23 @@ unfolding kind_name names
 name_above k h =
     name_in_case (λ n. leb n.kind COUNT_COMPARE_EXPR) (λ text. text ≡ []) k refl
     (λ n passes e. absurd (omega (arith, leb-true n.kind COUNT_COMPARE_EXPR passes))) names tt
+
+-- the token at the end of text, and one found
+pub text_none : (text : List ℕ) → length text ≡ 0 → text_or_eof text ≡ ascii "EOF"
+text_none [] z = refl
+text_none (b ∷ s) z = absurd (omega arith)
+
+pub text_some : (text : List ℕ) → (length text ≡ 0 → ⊥) → text_or_eof text ≡ text
+text_some [] some = absurd (some refl)
+text_some (b ∷ s) some = refl
+
+pub found_none : (text : List ℕ) → length text ≡ 0 → found text ≡ ascii "EOF"
+found_none [] z = refl
+found_none (b ∷ s) z = absurd (omega arith)
+
+pub found_some : (text : List ℕ) → (length text ≡ 0 → ⊥) → found text ≡ quoted text
+found_some [] some = absurd (some refl)
+found_some (b ∷ s) some = refl
 
 -- a number that is no form
 abbrev pub NoForm : ℕ → Type 0
@@ -66,63 +87,49 @@ pub no_head : (f e : ℕ) → NoForm f → head_of f e ≡ []
 unfolding head_of
 no_head f e n = none_of _ _ _ _ _ _ n
 
-pub no_end : (f : ℕ) → NoForm f → end_of f ≡ []
-unfolding end_of
-no_end f n = none_of _ _ _ _ _ _ n
+pub no_found : (f : ℕ) (text : List ℕ) → NoForm f → found_of f text ≡ []
+unfolding found_of
+no_found f text n = none_of _ _ _ _ _ _ n
 
 no_message : (f e : ℕ) (text : List ℕ) → NoForm f → message_with f e text ≡ []
 unfolding message_with
 no_message f e text n = none_of _ _ _ _ _ _ n
 
--- at the end of text: the head, and what stands behind it
-pub message_end : (e : ℕ) (text : List ℕ) (f : ℕ) → length text ≡ 0 → message_with f e text ≡ head_of f e ++ end_of f
-unfolding message_with head_of end_of
-message_end e (b ∷ s) f z = absurd (omega arith)
-message_end e [] f z =
-    by_form (λ f. message_with f e [] ≡ head_of f e ++ end_of f) refl refl refl refl refl refl
-    (λ f n. no_message f e [] n ∙ sym (rw (no_head f e n, no_end f n))) f
+-- a message: the head, and what stands for the token found
+message_parts : (e : ℕ) (text : List ℕ) (f : ℕ) → message_with f e text ≡ head_of f e ++ found_of f text
+unfolding message_with head_of found_of
+message_parts e text =
+    by_form (λ f. message_with f e text ≡ head_of f e ++ found_of f text) refl refl refl refl refl refl
+    (λ f n. no_message f e text n ∙ sym (rw (no_head f e n, no_found f text n)))
 
--- of a text found, where there is a head: the head, and the text in quotes
-pub message_found : (e : ℕ) (text : List ℕ) (f : ℕ) → (length text ≡ 0 → ⊥) → (length (head_of f e) ≡ 0 → ⊥) → message_with f e text ≡ head_of f e ++ quoted text
-unfolding message_with head_of
-message_found e [] f some known = absurd (some refl)
-message_found e (b ∷ s) f some known =
-    by_form (λ f. (length (head_of f e) ≡ 0 → ⊥) → message_with f e (b ∷ s) ≡ head_of f e ++ quoted (b ∷ s))
-    (λ h. refl) (λ h. refl) (λ h. refl) (λ h. refl) (λ h. refl) (λ h. refl) (λ f n h. absurd (h (ap length (no_head f e n)))) f known
+pub message_is : (rule : List ℕ) (form expected first end : ℕ) → message_of rule form expected first end ≡ head_of form expected ++ found_of form (bytes_between rule first end)
+unfolding message_of
+message_is rule form expected first end = message_parts expected (bytes_between rule first end) form
 
--- where there is no head
-pub message_none : (e : ℕ) (text : List ℕ) (f : ℕ) → length (head_of f e) ≡ 0 → message_with f e text ≡ []
-unfolding head_of
-message_none e text =
-    by_form (λ f. length (head_of f e) ≡ 0 → message_with f e text ≡ [])
-    (λ h. absurd (omega arith)) (λ h. absurd (omega arith)) (λ h. absurd (omega arith))
-    (λ h. absurd (omega arith)) (λ h. absurd (omega arith)) (λ h. absurd (omega arith)) (λ f n h. no_message f e text n)
+-- a head is short, and so is what stands for the token, but for its text
+abbrev pub LONGEST_HEAD : ℕ
+LONGEST_HEAD = 123
 
-pub head_short : (e f : ℕ) → length (head_of f e) + LONGEST_END ≤ HEAD
+pub head_short : (e f : ℕ) → length (head_of f e) ≤ LONGEST_HEAD
 unfolding head_of
 head_short e =
-    by_form (λ f. length (head_of f e) + LONGEST_END ≤ HEAD)
+    by_form (λ f. length (head_of f e) ≤ LONGEST_HEAD)
     (simp length-append (omega (arith, name_short e))) (omega arith) (omega arith) (omega arith) (omega arith) (omega arith)
     (λ f n. rw (no_head f e n) (omega arith))
 
-pub end_short : (f : ℕ) → length (end_of f) ≤ LONGEST_END
-unfolding end_of
-end_short =
-    by_form (λ f. length (end_of f) ≤ LONGEST_END) (omega arith) (omega arith) (omega arith) (omega arith) (omega arith) (omega arith)
-    (λ f n. rw (no_end f n) (omega arith))
-
--- a message is at most as much longer than its text as a head has room
-with_length : (f e : ℕ) (text : List ℕ) → length (message_with f e text) ≤ length text + HEAD
-with_length f e text =
-    whether (eqb (length text) 0)
-    (λ t. rw (message_end e text f (eqb-true _ _ t), length-append (head_of f e) (end_of f)) (omega (arith, head_short e f, end_short f)))
-    (λ t.
-    whether (eqb (length (head_of f e)) 0)
-    (λ u. rw (message_none e text f (eqb-true _ _ u)) (omega arith))
-    (λ u. rw (message_found e text f (eqb-false _ _ t) (eqb-false _ _ u)) (simp length-append (omega (arith, head_short e f)))))
+pub found_short : (text : List ℕ) (f : ℕ) → length (found_of f text) ≤ length text + 5
+unfolding found_of
+found_short [] =
+    by_form (λ f. length (found_of f []) ≤ 5) (omega arith) (omega arith) (omega arith) (omega arith) (omega arith) (omega arith)
+    (λ f n. rw (no_found f [] n) (omega arith))
+found_short (b ∷ s) =
+    let quotes : length (quoted (b ∷ s)) ≤ length (b ∷ s) + 5 = simp length-append (omega arith) in
+    by_form (λ f. length (found_of f (b ∷ s)) ≤ length (b ∷ s) + 5) quotes quotes quotes quotes quotes quotes (λ f n. rw (no_found f (b ∷ s) n) (omega arith))
 
 -- a message of a rule of n bytes has at most n + 200 bytes
 pub message_length : (rule : List ℕ) (form expected first end : ℕ) → length (message_of rule form expected first end) ≤ length rule + 200
 unfolding message_of
 message_length rule form expected first end =
-    omega (arith, with_length form expected (bytes_between rule first end), part_length rule first end)
+    let text = bytes_between rule first end in
+    rw (message_parts expected text form, length-append (head_of form expected) (found_of form text))
+    (omega (arith, head_short expected form, found_short text form, part_length rule first end))

@@ -1,56 +1,49 @@
--- A message written: its head made apart, and what is then written into the lent place. Assumes nothing.
-use mathlib.Core.Path.{◌≡◌, sym, ◌∙◌}
-use mathlib.Core.List.{List, [], ◌++◌, append_assoc, append-nil}
-use Prim.Native.Nat.{ℕ, ◌≤◌}
+-- A message written whole, and one that has no room. Assumes nothing.
+use mathlib.Core.Path.{◌≡◌, sym, ap, ◌∙◌}
+use mathlib.Core.List.{List, ◌++◌}
+use Prim.Native.Nat.{ℕ, ◌+◌, ◌≤◌, ◌<◌}
 use native.Mathlib.Omega.{arith}
-use lib.ListN.{length, take, length-append}
-use lib.Seq.{length-take-le}
-use Rattle.syntax.specs.Text.{ascii, bytes_between}
-use Rattle.message.specs.declared.Message.{Message}
-use Rattle.message.specs.Message.{message_with, message_of}
+use borrow.Author.Tests.{lt-ltb, le-ltb}
+use lib.ListN.{length, length-append}
+use Rattle.std.specs.declared.option.Option.TheVariants.{None, Some}
+use Rattle.syntax.specs.Text.{bytes_between}
+use Rattle.syntax.proofs.TextLaws.{part_length}
+use Rattle.syntax.proofs.TableLaws.{sets_front}
+use Rattle.texts.specs.declared.Writer.{Writer}
+use Rattle.texts.specs.Append.{Written, Wrote, appended}
+use Rattle.texts.proofs.AppendLaws.{wrote_then}
+use Rattle.message.specs.Message.{message_of}
 use Rattle.message.specs.Write.{Writes}
-use Rattle.message.specs.Parts.{HEAD, LONGEST_END, Puts, head_of, end_of}
-use Rattle.message.proofs.PutLaws.{puts_then, puts_none, puts_long, puts_taken, puts_writes}
-use Rattle.message.proofs.MessageLaws.{head_short, message_end, message_found, message_none}
+use Rattle.message.specs.Parts.{head_of, found_of}
+use Rattle.message.proofs.MessageLaws.{head_short, found_short, message_is}
 
--- the first m bytes of h are a form's head and a piece behind it
-pub record Begun (f e : ℕ) (x h : List ℕ) (m : ℕ) : Type 0 where
-  pub fits : m ≤ length h
-  pub long : m ≡ length (take m h)
-  pub short : m ≤ HEAD
-  pub front : take m h ≡ head_of f e ++ x
-
-pub begun : {f e n m : ℕ} {x a h h' : List ℕ} → length a ≡ HEAD → length x ≤ LONGEST_END → Puts (head_of f e) a 0 h n → Puts x h n h' m → Begun f e x h' m
-begun {f} {e} {n} {m} {x} {a} {h} {h'} room few p q =
-    let both : Puts (head_of f e ++ x) a 0 h' m = puts_then p q in
-    let few : length (head_of f e ++ x) ≤ HEAD = simp length-append (omega (arith, head_short e f)) in
-    let within : m ≤ length h' = omega (arith, both.place, puts_long both) in
+whole_writes : {m : List ℕ} {before after : Writer} {n : ℕ} → Wrote m before after → before.at ≡ 0 → length m ≤ length before.out.now → n ≡ length m
+    → Writes m before.out.now after.out.now (Some n)
+unfolding appended
+whole_writes {m} {before} w z h e =
     record {
-      fits = within;
-      long = sym (length-take-le m h' within);
-      short = omega (arith, both.place);
-      front = puts_taken both (omega arith);
+      answer = rw (le-ltb _ _ h) (ap Some e);
+      out = rw (le-ltb _ _ h) (rw z at (ap (λ (x : Written). x.bytes) w.appends) ∙ sets_front m before.out.now h);
     }
 
--- no form: the empty message
-pub written_none : (rule : List ℕ) (f e first end : ℕ) {a h out : List ℕ} {n : ℕ} → Puts (head_of f e) a 0 h n → n ≡ 0
-    → Writes (message_of rule f e first end) out out (Message.Written 0)
-unfolding message_of
-written_none rule f e first end p z = rw (message_none e (bytes_between rule first end) f (omega (arith, p.place))) (puts_writes puts_none (omega arith))
+no_room_writes : {m before : List ℕ} → length before < length m → Writes m before before None
+no_room_writes h = record { answer = rw (lt-ltb _ _ h); out = rw (lt-ltb _ _ h) }
 
-module _ (rule : List ℕ) (first end : ℕ) {text h before after : List ℕ} {f e m : ℕ} {r : Message} (t : text ≡ bytes_between rule first end) where
-  -- the end of text: the head and what stands behind it are the message
-  pub written_end : length text ≡ 0 → Begun f e (end_of f) h m → Writes (take m h ++ [] ++ []) before after r → Writes (message_of rule f e first end) before after r
-  unfolding message_of
-  written_end z b w =
-      let parts : take m h ++ [] ++ [] ≡ message_with f e text = append-nil _ ∙ append-nil _ ∙ b.front ∙ sym (message_end e text f z) in
-      rw (← t) (rw parts at w)
+-- a message in two parts
+module _ (rule : List ℕ) (form expected first end : ℕ) {head found text : List ℕ} (h : head ≡ head_of form expected) (t : text ≡ bytes_between rule first end) (f : found ≡ found_of form text) where
+  both : head ++ found ≡ message_of rule form expected first end
+  both = rw (h, f, t) (sym (message_is rule form expected first end))
 
-  -- a text found: the head with a quote, the text, and a quote
-  pub written_found : {a h₀ : List ℕ} {n : ℕ} → Puts (head_of f e) a 0 h₀ n → (n ≡ 0 → ⊥) → (length text ≡ 0 → ⊥) → Begun f e (ascii "'") h m
-      → Writes (take m h ++ text ++ ascii "'") before after r → Writes (message_of rule f e first end) before after r
-  unfolding message_of
-  written_found p known some b w =
-      let found = message_found e text f some (λ z. known (omega (arith, p.place))) in
-      let parts : take m h ++ text ++ ascii "'" ≡ message_with f e text = rw b.front (simp append_assoc) ∙ sym found in
-      rw (← t) (rw parts at w)
+  pub parts_short : length head + length found ≤ length rule + 200
+  parts_short = omega (arith, ap length h, ap length f, ap length t, head_short expected form, found_short text form, part_length rule first end)
+
+  module _ {m n : ℕ} (a : m ≡ length head) (b : n ≡ length found) where
+    pub parts_lack : {before : List ℕ} → length before < m + n → Writes (message_of rule form expected first end) before before None
+    parts_lack {before} few = rw (← both) (no_room_writes (rw (length-append head found) (omega arith)))
+
+    pub parts_write : {before : List ℕ} {w x y : Writer} → w.out.now ≡ before → w.at ≡ 0 → m + n ≤ length before → Wrote head w x → Wrote found x y
+        → Writes (message_of rule form expected first end) before y.out.now (Some (m + n))
+    parts_write {before} {w} {x} {y} e z room p q =
+        let all : m + n ≡ length (head ++ found) = rw (length-append head found) (omega arith) in
+        let fits : length (head ++ found) ≤ length w.out.now = omega (arith, all, ap length e) in
+        rw (← both, ← e) (whole_writes (wrote_then p q) z fits all)

@@ -1,50 +1,18 @@
 -- The parts of a message, as the code writes them one after the other. No reader of `message_of` needs this file.
 -- Assumes nothing: these are definitions.
-use Rattle.std.specs.Prelude.{ℕ, zero, suc, ◌+◌, ◌≡◌, true, false, cond, List, [], ◌∷◌, ◌++◌, eqb, length, take, drop}
-use Rattle.std.proofs.lemmas.List.Edits.{sets}
-use Rattle.syntax.specs.Text.{ascii, is}
+use Rattle.std.specs.Prelude.{ℕ, cond, List, [], ◌++◌, eqb, get_or}
+use Rattle.syntax.specs.Text.{ascii}
 use Rattle.syntax.specs.Form.{EXPECT, EXPECT_IDENT, LEFT_OVER, SOURCE, METHOD, ATOM}
-use Rattle.message.specs.Message.{kind_name}
+use Rattle.message.specs.declared.Pieces.{Pieces}
+use Rattle.message.specs.Message.{kind_name, quoted, text_or_eof, found}
 
--- the room that the code has for what stands before the text found
-abbrev pub HEAD : ℕ
-HEAD = 128
+-- the text of three pieces
+abbrev pub whole : Pieces → List ℕ
+whole p = p.first.now ++ p.middle.now ++ p.last.now
 
--- the most bytes of a kind's name, and of what stands for the token at the end of text
-abbrev pub LONGEST_NAME : ℕ
-LONGEST_NAME = 18
-
-abbrev pub LONGEST_END : ℕ
-LONGEST_END = 5
-
--- a piece is copied to `at`, and `next` is the place past it
-pub record Puts (piece before : List ℕ) (at : ℕ) (after : List ℕ) (next : ℕ) : Type 0 where
-  pub place : next ≡ at + length piece
-  pub bytes : after ≡ sets before at piece
-
--- how many bytes of a text stand before its n-th word, with a blank between two words
-unfoldable pub word_start : ℕ → List ℕ → ℕ
-word_start zero s = 0
-word_start (suc n) [] = 0
-word_start (suc n) (b ∷ s) = suc (elim (is " " b) [ true ↦ word_start n s | false ↦ word_start (suc n) s ])
-
--- how many bytes stand before the first blank
-unfoldable pub word_length : List ℕ → ℕ
-word_length [] = 0
-word_length (b ∷ s) = elim (is " " b) [ true ↦ 0 | false ↦ suc (word_length s) ]
-
--- the n-th word of a text begins at `first`
-pub record Begins (s : List ℕ) (n first : ℕ) : Type 0 where
-  pub place : first ≡ word_start n s
-
--- the word that begins at `first` ends at `end`
-pub record Ends (s : List ℕ) (first end : ℕ) : Type 0 where
-  pub place : end ≡ first + word_length (drop first s)
-
--- the n-th word of a text
-unfoldable pub word : ℕ → List ℕ → List ℕ
-unfolding word_start word_length
-word n s = let rest = drop (word_start n s) s in take (word_length rest) rest
+-- the n-th of some texts, from 0; nothing where there are fewer
+unfoldable pub nth : List (List ℕ) → ℕ → List ℕ
+nth texts n = get_or texts n []
 
 -- what stands before the token found, of each form
 unfoldable pub head_of : (form expected : ℕ) → List ℕ
@@ -57,13 +25,13 @@ head_of form expected =
     (cond (eqb form ATOM) (ascii "expected 'not', 'has', 'connected', 'category', 'kind', 'direction', 'severity', 'message', or '(', found ")
     [])))))
 
--- what stands for the token at the end of text
-unfoldable pub end_of : (form : ℕ) → List ℕ
-end_of form =
-    cond (eqb form EXPECT) (ascii "EOF")
-    (cond (eqb form EXPECT_IDENT) (ascii "EOF")
-    (cond (eqb form LEFT_OVER) (ascii "''")
-    (cond (eqb form SOURCE) (ascii "'EOF'")
-    (cond (eqb form METHOD) (ascii "''")
-    (cond (eqb form ATOM) (ascii "'EOF'")
+-- what stands for the token found
+unfoldable pub found_of : (form : ℕ) (text : List ℕ) → List ℕ
+found_of form text =
+    cond (eqb form EXPECT) (found text)
+    (cond (eqb form EXPECT_IDENT) (found text)
+    (cond (eqb form LEFT_OVER) (quoted text)
+    (cond (eqb form SOURCE) (quoted (text_or_eof text))
+    (cond (eqb form METHOD) (quoted text)
+    (cond (eqb form ATOM) (quoted (text_or_eof text))
     [])))))

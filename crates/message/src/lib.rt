@@ -1,183 +1,203 @@
 // parser.rs: the messages of its parse errors, as text, from a rule and a row of the error table.
 #![tactic(auto)]
 
-ghost use Rattle.std.specs.Prelude.{◌++◌, ◌+◌, ◌^◌, ◌≤◌, ◌<◌, length};
-ghost use Rattle.syntax.specs.Form.{EXPECT};
-ghost use Rattle.message.specs.Message.{kind_name, message_of};
+ghost use Rattle.std.specs.Prelude.{◌≡◌, ◌^◌, ◌<◌, length, map};
+ghost use Rattle.syntax.specs.Form.{EXPECT, EXPECT_IDENT, LEFT_OVER, SOURCE, METHOD, ATOM};
+ghost use Rattle.texts.specs.Append.{Wrote};
+ghost use Rattle.message.specs.Message.{kind_name, quoted, text_or_eof, found, message_of};
 ghost use Rattle.message.specs.Write.{Writes};
-ghost use Rattle.message.specs.Parts.{LONGEST_NAME, LONGEST_END, Puts, Begins, Ends, word, head_of, end_of};
-ghost use Rattle.message.specs.Parts as meant;
+ghost use Rattle.message.specs.Parts.{head_of, found_of, nth, whole};
 
-use syntax::{form, kind, text};
+use syntax::{form, text};
+use texts::Writer;
 
-// The room for what stands before the text found: more than any form needs.
-const HEAD: usize = 128;
-
-// What writing a message gives: the number of its bytes, or that it is longer than the place.
+// A row of the error table: the form, the kind that was due, and where the token found begins and ends.
 #[derive(Clone, Copy)]
-pub enum Message {
-    Written(usize),
-    NoRoom,
+pub struct ErrorRow {
+    pub form: u32,
+    pub expected: u32,
+    pub first: u32,
+    pub end: u32,
 }
 
-// Writes the message of an error row at the front of `out`, and leaves the bytes past it as they are. Where `out` is shorter than the
-// message, all of it stays as it is.
-pub fn write_message(
-    rule: &[u8],
-    form: u32,
-    expected: u32,
-    first: u32,
-    end: u32,
-    out: &mut [u8],
-) -> Message
-    ensures { Writes (message_of rule.now form expected first end) out.old out.new result }
+// Three pieces of a text.
+#[derive(Clone, Copy)]
+struct Pieces<'a> {
+    first: &'a [u8],
+    middle: &'a [u8],
+    last: &'a [u8],
+}
+
+impl<'a> Pieces<'a> {
+    // A text in one piece.
+    fn one(text: &'a [u8]) -> Pieces<'a>
+        ensures { whole result ≡ text.now }
+    {
+        Pieces {
+            first: text,
+            middle: b"",
+            last: b"",
+        }
+    }
+
+    // A text in quotes.
+    fn quoted(text: &'a [u8]) -> Pieces<'a>
+        ensures { whole result ≡ quoted text.now }
+    {
+        Pieces {
+            first: b"'",
+            middle: text,
+            last: b"'",
+        }
+    }
+
+    // How long the text is.
+    fn len(self) -> usize
+        requires { length (whole self) < 2 ^ 64 }
+        ensures { result ≡ length (whole self.entry) }
+    {
+        self.first.len() + self.middle.len() + self.last.len()
+    }
+
+    // Appends the text.
+    fn write(self, out: &mut Writer<'_>)
+        ensures { Wrote (whole self.entry) out.old out.new }
+    {
+        out.append(self.first);
+        out.append(self.middle);
+        out.append(self.last);
+    }
+}
+
+// Writes the message of an error row at the front of `out`, and leaves the bytes past it as they are: the number of its bytes. Where `out`
+// is shorter than the message, all of it stays as it is.
+pub fn write_message(rule: &[u8], row: ErrorRow, out: &mut [u8]) -> Option<usize>
+    ensures { Writes (message_of rule.now row.form row.expected row.first row.end) out.old out.new result }
 {
-    let text = text::part(rule, first as usize, end as usize);
-    let mut head = [0u8; HEAD];
-    let n = put_head(&mut head, form, expected);
-    if n == 0 {
-        return Message::Written(0);
+    let head = head_by_form(row.form, row.expected);
+    let found = found_by_form(
+        row.form,
+        text::part(rule, row.first as usize, row.end as usize),
+    );
+    let len = head.len() + found.len();
+    if out.len() < len {
+        return None;
     }
-    if text.len() == 0 {
-        let whole = put_end(&mut head, n, form);
-        return write_pieces(out, &head[..whole], b"", b"");
-    }
-    let opened = put(&mut head, n, b"'");
-    write_pieces(out, &head[..opened], text, b"'")
+    let mut out = Writer::new(out);
+    head.write(&mut out);
+    found.write(&mut out);
+    Some(len)
 }
 
-// Writes three pieces one after the other, where there is room for all of them.
-fn write_pieces(out: &mut [u8], head: &[u8], text: &[u8], tail: &[u8]) -> Message
-    requires { length head.now + length text.now + length tail.now < 2 ^ 64 }
-    ensures { Writes (head.now ++ text.now ++ tail.now) out.old out.new result }
-{
-    if out.len() < head.len() + text.len() + tail.len() {
-        return Message::NoRoom;
-    }
-    let from = put(out, 0, head);
-    let past = put(out, from, text);
-    Message::Written(put(out, past, tail))
-}
-
-// Writes what stands before the token found, and gives its length, which is 0 for a number that is no form.
-fn put_head(head: &mut [u8; HEAD], form: u32, expected: u32) -> usize
-    ensures { Puts (head_of form expected) head.old 0 head.new result }
+// What stands before the token found; nothing for a number that is no form.
+#[tactic(auto, unfolding(crate::specs::Parts::head_of))]
+fn head_by_form(form: u32, expected: u32) -> Pieces<'static>
+    ensures { whole result ≡ head_of form expected }
 {
     match form {
-        form::EXPECT => put_expected(head, expected),
-        form::EXPECT_IDENT => put(head, 0, b"expected 'contains', found "),
-        form::LEFT_OVER => put(head, 0, b"unexpected "),
-        form::SOURCE => put(head, 0, b"expected 'components' or 'analysis', found "),
-        form::METHOD => put(
-            head,
-            0,
+        form::EXPECT => Pieces {
+            first: b"expected '",
+            middle: kind_name(expected),
+            last: b"', found ",
+        },
+        form::EXPECT_IDENT => Pieces::one(b"expected 'contains', found "),
+        form::LEFT_OVER => Pieces::one(b"unexpected "),
+        form::SOURCE => Pieces::one(b"expected 'components' or 'analysis', found "),
+        form::METHOD => Pieces::one(
             b"expected method name (where, all, any, none, count, features, diagnostics), found ",
         ),
-        form::ATOM => put(
-            head,
-            0,
+        form::ATOM => Pieces::one(
             b"expected 'not', 'has', 'connected', 'category', 'kind', 'direction', 'severity', 'message', or '(', found ",
         ),
-        _ => 0,
+        _ => Pieces::one(b""),
     }
 }
 
-// The same for `expect`, which names a kind.
-fn put_expected(head: &mut [u8; HEAD], expected: u32) -> usize
-    ensures { Puts (head_of EXPECT expected) head.old 0 head.new result }
-{
-    let from = put(head, 0, b"expected '");
-    let past = put_kind_name(head, from, expected);
-    put(head, past, b"', found ")
-}
-
-// Writes what stands for the token at the end of text.
-fn put_end(head: &mut [u8; HEAD], at: usize, form: u32) -> usize
-    requires { at + LONGEST_END ≤ meant.HEAD }
-    ensures { Puts (end_of form) head.old at head.new result }
+// What stands for the token found, which has no text at the end of the rule; nothing for a number that is no form.
+#[tactic(auto, unfolding(crate::specs::Parts::found_of))]
+fn found_by_form<'a>(form: u32, text: &'a [u8]) -> Pieces<'a>
+    ensures { whole result ≡ found_of form text.now }
 {
     match form {
-        form::EXPECT => put(head, at, b"EOF"),
-        form::EXPECT_IDENT => put(head, at, b"EOF"),
-        form::LEFT_OVER => put(head, at, b"''"),
-        form::SOURCE => put(head, at, b"'EOF'"),
-        form::METHOD => put(head, at, b"''"),
-        form::ATOM => put(head, at, b"'EOF'"),
-        _ => at,
+        form::EXPECT => found(text),
+        form::EXPECT_IDENT => found(text),
+        form::LEFT_OVER => Pieces::quoted(text),
+        form::SOURCE => Pieces::quoted(text_or_eof(text)),
+        form::METHOD => Pieces::quoted(text),
+        form::ATOM => Pieces::quoted(text_or_eof(text)),
+        _ => Pieces::one(b""),
     }
 }
 
-// syntax.rs: the name of a kind; a number that is no kind has none. The names stand in the order of the kinds.
-fn put_kind_name(head: &mut [u8; HEAD], at: usize, kind: u32) -> usize
-    requires { at + LONGEST_NAME ≤ meant.HEAD }
-    ensures { Puts (kind_name kind) head.old at head.new result }
+// `found` of `expect` and `expect_ident`: the token in quotes, or EOF without quotes.
+#[tactic(auto, using(crate::proofs::MessageLaws::found_none, crate::proofs::MessageLaws::found_some))]
+fn found<'a>(text: &'a [u8]) -> Pieces<'a>
+    ensures { whole result ≡ found text.now }
 {
-    if kind::COUNT_COMPARE_EXPR < kind {
-        return at;
+    if text.is_empty() {
+        Pieces::one(b"EOF")
+    } else {
+        Pieces::quoted(text)
     }
-    put_word(
-        head,
-        at,
-        b"WHITESPACE IDENT STRING_LIT DOT L_PAREN R_PAREN EQ_EQ NEQ GE GT LE LT INT_LIT COMMA \
-          AND_KW OR_KW NOT_KW ERROR \
-          ROOT PIPELINE_EXPR DOT_CALL CALL_ARGS BINARY_EXPR UNARY_EXPR COMPARE_EXPR CALL_EXPR PAREN_EXPR LITERAL \
-          IDENT_EXPR CONTAINS_EXPR COUNT_COMPARE_EXPR",
-        kind,
-    )
 }
 
-// Copies the n-th word of a text to `at`, and gives the place past it.
-fn put_word(out: &mut [u8], at: usize, words: &[u8], n: u32) -> usize
-    requires { at + length (word n words.now) ≤ length out.old }
-    ensures { Puts (word n words.now) out.old at out.new result }
+// The text of a token, or EOF.
+#[tactic(auto, using(crate::proofs::MessageLaws::text_none, crate::proofs::MessageLaws::text_some))]
+fn text_or_eof<'a>(text: &'a [u8]) -> &'a [u8]
+    ensures { result.now ≡ text_or_eof text.now }
 {
-    let first = word_start(words, n);
-    let end = word_end(words, first);
-    put(out, at, &words[first..end])
+    if text.is_empty() { b"EOF" } else { text }
 }
 
-// Where the n-th word of a text begins, with a blank between two words.
-fn word_start(words: &[u8], n: u32) -> usize
-    ensures { Begins words.now n result }
+// syntax.rs: the names of the kinds, in their order.
+const NAMES: [&[u8]; 31] = [
+    b"WHITESPACE",
+    b"IDENT",
+    b"STRING_LIT",
+    b"DOT",
+    b"L_PAREN",
+    b"R_PAREN",
+    b"EQ_EQ",
+    b"NEQ",
+    b"GE",
+    b"GT",
+    b"LE",
+    b"LT",
+    b"INT_LIT",
+    b"COMMA",
+    b"AND_KW",
+    b"OR_KW",
+    b"NOT_KW",
+    b"ERROR",
+    b"ROOT",
+    b"PIPELINE_EXPR",
+    b"DOT_CALL",
+    b"CALL_ARGS",
+    b"BINARY_EXPR",
+    b"UNARY_EXPR",
+    b"COMPARE_EXPR",
+    b"CALL_EXPR",
+    b"PAREN_EXPR",
+    b"LITERAL",
+    b"IDENT_EXPR",
+    b"CONTAINS_EXPR",
+    b"COUNT_COMPARE_EXPR",
+];
+
+// The name of a kind; a number that is no kind has none.
+fn kind_name(kind: u32) -> &'static [u8]
+    ensures { result.now ≡ kind_name kind }
 {
-    let mut first = 0;
-    let mut skip = n;
-    while first < words.len() {
-        if skip == 0 {
-            return first;
-        }
-        if words[first] == b' ' {
-            skip -= 1;
-        }
-        first += 1;
-    }
-    first
+    name_in(&NAMES, kind)
 }
 
-// Where the word ends that begins at `first`.
-fn word_end(words: &[u8], first: usize) -> usize
-    requires { first ≤ length words.now }
-    ensures { Ends words.now first result }
+// The n-th of some names; nothing where there are fewer.
+#[tactic(auto, unfolding(crate::specs::Parts::nth))]
+fn name_in(names: &[&'static [u8]], n: u32) -> &'static [u8]
+    ensures { result.now ≡ nth (map (λ name. name.now) names.now) n }
 {
-    let mut end = first;
-    while end < words.len() {
-        if words[end] == b' ' {
-            return end;
-        }
-        end += 1;
+    match names.get(n as usize) {
+        Some(name) => name,
+        None => b"",
     }
-    end
-}
-
-// Copies a piece to `at`, and gives the place past it.
-fn put(out: &mut [u8], at: usize, piece: &[u8]) -> usize
-    requires { at + length piece.now ≤ length out.old }
-    ensures { Puts piece.now out.old at out.new result }
-{
-    let mut i = 0;
-    while i < piece.len() {
-        out[at + i] = piece[i];
-        i += 1;
-    }
-    at + i
 }

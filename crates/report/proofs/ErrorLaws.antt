@@ -10,9 +10,11 @@ use lib.Seq.{take-append_seam}
 use Rattle.syntax.specs.Text.{ascii}
 use Rattle.syntax.proofs.BoolLaws.{whether}
 use Rattle.lexer.specs.Read.{MAX_RULE}
-use Rattle.texts.specs.Append.{Appends}
+use Rattle.texts.specs.declared.Writer.{Writer}
+use Rattle.texts.specs.Append.{Wrote}
 use Rattle.texts.specs.Text.{shown}
-use Rattle.message.specs.declared.Message.{Message}
+use Rattle.std.specs.declared.option.Option.{Option}
+use Rattle.std.specs.declared.option.Option.TheVariants.{None, Some}
 use Rattle.message.specs.Message.{message_of}
 use Rattle.message.specs.Write.{Writes}
 use Rattle.message.proofs.MessageLaws.{message_length}
@@ -25,13 +27,13 @@ pub record Fits (m before after : List ℕ) (n : ℕ) : Type 0 where
   pub front : take n after ≡ m
   pub within : n ≤ length after
 
-module _ {m before after : List ℕ} {r : Message} (w : Writes m before after r) where
-  pub fits : {n : ℕ} → r ≡ Message.Written n → Fits m before after n
+module _ {m before after : List ℕ} {r : Option ℕ} (w : Writes m before after r) where
+  pub fits : {n : ℕ} → r ≡ Some n → Fits m before after n
   fits {n} e =
       whether (ltb (length before) (length m))
-      (λ t. let no : r ≡ Message.NoRoom = rw t at w.answer in let z : ◌≡◌ {A = ℕ} 0 1 = cc in absurd (omega arith))
+      (λ t. let no : r ≡ None = rw t at w.answer in let z : ◌≡◌ {A = ℕ} 0 1 = cc in absurd (omega arith))
       (λ t.
-      let yes : r ≡ Message.Written (length m) = rw t at w.answer in
+      let yes : r ≡ Some (length m) = rw t at w.answer in
       let all : n ≡ length m = cc in
       let held = rw t at w.out in
       record {
@@ -41,22 +43,22 @@ module _ {m before after : List ℕ} {r : Message} (w : Writes m before after r)
         within = rw held (simp length-append (omega arith));
       })
 
-  pub lacks : r ≡ Message.NoRoom → length before < length m
+  pub lacks : r ≡ None → length before < length m
   lacks e =
       whether (ltb (length before) (length m)) (λ t. ltb-true _ _ t)
-      (λ t. let yes : r ≡ Message.Written (length m) = rw t at w.answer in let z : ◌≡◌ {A = ℕ} 0 1 = cc in absurd (omega arith))
+      (λ t. let yes : r ≡ Some (length m) = rw t at w.answer in let z : ◌≡◌ {A = ℕ} 0 1 = cc in absurd (omega arith))
 
 -- a message shown from where it was written, and one that had no room
-module _ (rule : List ℕ) (form expected first end : ℕ) {before held out after : List ℕ} {at last : ℕ} {r : Message} (room : length before ≡ ROOM)
+module _ (rule : List ℕ) (form expected first end : ℕ) {before held : List ℕ} {out after : Writer} {r : Option ℕ} (room : length before ≡ ROOM)
     (w : Writes (message_of rule form expected first end) before held r) where
-  pub message_shown : {n : ℕ} → r ≡ Message.Written n → Appends (shown (take n held)) out at after last → Appends (message_text rule form expected first end) out at after last
+  pub message_shown : {n : ℕ} → r ≡ Some n → Wrote (shown (take n held)) out after → Wrote (message_text rule form expected first end) out after
   unfolding message_text
   message_shown e p =
       let f = fits w e in
       let short : length (message_of rule form expected first end) ≤ ROOM = omega (arith, f.room) in
       rw (le-ltb ROOM _ short) (rw f.front at p)
 
-  pub message_long : r ≡ Message.NoRoom → Appends (ascii "a message too long to show") out at after last → Appends (message_text rule form expected first end) out at after last
+  pub message_long : r ≡ None → Wrote (ascii "a message too long to show") out after → Wrote (message_text rule form expected first end) out after
   unfolding message_text
   message_long e p =
       let long : ROOM < length (message_of rule form expected first end) = omega (arith, lacks w e) in

@@ -1,4 +1,3 @@
-pub mod WordLaws
 pub mod ErrorLaws
 pub mod NumberLaws
 pub mod LengthLaws

@@ -1,108 +1,119 @@
 // The first two lines: the verdict, and what the rule comes to.
-ghost use Rattle.std.specs.Prelude.{◌++◌};
-ghost use Rattle.texts.specs.Append.{Appends};
-ghost use Rattle.report.specs.Answer.{head_text, verdict_text, outcome_text, refusal_text, value_text, truth_text, counted};
+ghost use Rattle.std.specs.Prelude.{◌≡◌, ◌++◌};
+ghost use Rattle.texts.specs.Append.{Wrote};
+ghost use Rattle.report.specs.Answer.{head_text, verdict_text, outcome_text, reason_text, refusal_text, value_text, truth_text, counted};
 
 use calls::value::{Outcome, Value, Verdict};
 use calls::verdict;
 use syntax::refusal;
 use syntax::refusal::Refusal;
+use texts::Writer;
 
 // The verdict on an outcome, and the outcome in words.
-pub fn write_head(outcome: Outcome, out: &mut [u8], at: usize) -> usize
-    ensures { Appends (head_text outcome) out.old at out.new result }
+pub fn write_head(outcome: Outcome, out: &mut Writer<'_>)
+    ensures { Wrote (head_text outcome) out.old out.new }
 {
-    let first = write_verdict(verdict::verdict(outcome), out, at);
-    let second = texts::append(b"\n", out, first);
-    let last = write_outcome(outcome, out, second);
-    texts::append(b"\n", out, last)
+    write_verdict(verdict::verdict(outcome), out);
+    out.append(b"\n");
+    write_outcome(outcome, out);
+    out.append(b"\n");
 }
 
 // A verdict's word.
-pub fn write_verdict(verdict: Verdict, out: &mut [u8], at: usize) -> usize
-    ensures { Appends (verdict_text verdict) out.old at out.new result }
+pub fn write_verdict(verdict: Verdict, out: &mut Writer<'_>)
+    ensures { Wrote (verdict_text verdict) out.old out.new }
 {
     match verdict {
-        Verdict::Pass => texts::append(b"pass", out, at),
-        Verdict::Fail => texts::append(b"fail", out, at),
-        Verdict::Refused => texts::append(b"refused", out, at),
-        Verdict::Open => texts::append(b"open", out, at),
+        Verdict::Pass => out.append(b"pass"),
+        Verdict::Fail => out.append(b"fail"),
+        Verdict::Refused => out.append(b"refused"),
+        Verdict::Open => out.append(b"open"),
     }
 }
 
 // What a rule comes to, in words.
-pub fn write_outcome(outcome: Outcome, out: &mut [u8], at: usize) -> usize
-    ensures { Appends (outcome_text outcome) out.old at out.new result }
+pub fn write_outcome(outcome: Outcome, out: &mut Writer<'_>)
+    ensures { Wrote (outcome_text outcome) out.old out.new }
 {
     match outcome {
-        Outcome::Given(value) => write_value(value, out, at),
-        Outcome::Refused(refusal) => write_refusal(refusal, out, at),
+        Outcome::Given(value) => write_value(value, out),
+        Outcome::Refused(refusal) => write_refusal(refusal, out),
     }
 }
 
-// A refusal's number, and why. The reasons stand in the order of the numbers, which count from 1, so item 0 is empty.
-pub fn write_refusal(refusal: Refusal, out: &mut [u8], at: usize) -> usize
-    ensures { Appends (refusal_text refusal) out.old at out.new result }
+// A refusal's number, and why.
+pub fn write_refusal(refusal: Refusal, out: &mut Writer<'_>)
+    ensures { Wrote (refusal_text refusal) out.old out.new }
 {
     let number = refusal::number(refusal);
-    let reason = texts::write_numbered(b"refusal ", number as u64, b": ", out, at);
-    texts::write_item(
-        b"|the rule is longer than 500 bytes|\
-          the rule is not UTF-8 text|\
-          the table for tokens, tree or errors has too few rows for the rule|\
-          more than 64 tokens of the rule are '(' or 'not'|\
-          the board file is not an image: its length or the list of its sections is wrong|\
-          a string of the board file is out of place or is not UTF-8 text|\
-          a record of the board file has a number outside its range|\
-          the table for members has too few rows for the board|\
-          the rule has parse errors|\
-          'where' follows something that is not a collection|\
-          'all', 'any' or 'none' follows something that is not a collection|\
-          'count' follows something that is not a collection|\
-          'features' follows something other than components|\
-          'diagnostics' follows something other than diagnostics|\
-          the left side of the comparison is neither a count nor a collection|\
-          the integer is above 18446744073709551615",
-        number,
-        out,
-        reason,
-    )
+    out.write_numbered(b"refusal ", u64::from(number), b": ");
+    out.append(reason(refusal));
+}
+
+// Why a rule, a board or a table is refused.
+fn reason(refusal: Refusal) -> &'static [u8]
+    ensures { result.now ≡ reason_text refusal }
+{
+    match refusal {
+        Refusal::RuleTooLong => b"the rule is longer than 500 bytes",
+        Refusal::RuleNotUtf8 => b"the rule is not UTF-8 text",
+        Refusal::TableTooShort =>
+            b"the table for tokens, tree or errors has too few rows for the rule",
+        Refusal::TooManyOpeners => b"more than 64 tokens of the rule are '(' or 'not'",
+        Refusal::ImageBadSections =>
+            b"the board file is not an image: its length or the list of its sections is wrong",
+        Refusal::ImageBadStrings =>
+            b"a string of the board file is out of place or is not UTF-8 text",
+        Refusal::ImageBadRecords => b"a record of the board file has a number outside its range",
+        Refusal::CollectionTooShort => b"the table for members has too few rows for the board",
+        Refusal::ParseErrors => b"the rule has parse errors",
+        Refusal::WhereOnNoCollection => b"'where' follows something that is not a collection",
+        Refusal::QuantifierOnNoCollection =>
+            b"'all', 'any' or 'none' follows something that is not a collection",
+        Refusal::CountOnNoCollection => b"'count' follows something that is not a collection",
+        Refusal::FeaturesOnNoComponents => b"'features' follows something other than components",
+        Refusal::DiagnosticsOnNoDiagnostics =>
+            b"'diagnostics' follows something other than diagnostics",
+        Refusal::ComparisonNotCountable =>
+            b"the left side of the comparison is neither a count nor a collection",
+        Refusal::IntegerTooLarge => b"the integer is above 18446744073709551615",
+    }
 }
 
 // A value in words; of a collection, how many members it has.
-fn write_value(value: Value, out: &mut [u8], at: usize) -> usize
-    ensures { Appends (value_text value) out.old at out.new result }
+fn write_value(value: Value, out: &mut Writer<'_>)
+    ensures { Wrote (value_text value) out.old out.new }
 {
     match value {
-        Value::Components(n) => write_counted(n, b" component", out, at),
-        Value::Features(n) => write_counted(n, b" feature", out, at),
-        Value::Diagnostics(n) => write_counted(n, b" diagnostic", out, at),
-        Value::Bool(holds) => write_truth(holds, b"", out, at),
-        Value::BoolWithWarning(holds) => write_truth(
-            holds,
-            b", of an empty collection: no member was there to be looked at",
-            out,
-            at,
-        ),
-        Value::Count(n) => texts::write_numbered(b"count: ", n as u64, b"", out, at),
+        Value::Components(n) => write_counted(n, b" component", out),
+        Value::Features(n) => write_counted(n, b" feature", out),
+        Value::Diagnostics(n) => write_counted(n, b" diagnostic", out),
+        Value::Bool(holds) => write_truth(holds, out),
+        Value::BoolWithWarning(holds) => {
+            write_truth(holds, out);
+            out.append(b", of an empty collection: no member was there to be looked at");
+        }
+        Value::Count(n) => {
+            out.append(b"count: ");
+            out.write_number(n as u64);
+        }
     }
 }
 
 // A number of things, with an `s` unless there is one.
-fn write_counted(n: usize, thing: &[u8], out: &mut [u8], at: usize) -> usize
-    ensures { Appends (counted n thing.now) out.old at out.new result }
+fn write_counted(n: usize, thing: &[u8], out: &mut Writer<'_>)
+    ensures { Wrote (counted n thing.now) out.old out.new }
 {
-    if n == 1 {
-        return texts::write_numbered(b"", 1, thing, out, at);
+    out.write_number(n as u64);
+    out.append(thing);
+    if n != 1 {
+        out.append(b"s");
     }
-    let end = texts::write_numbered(b"", n as u64, thing, out, at);
-    texts::append(b"s", out, end)
 }
 
-// A boolean, and what is to be said of it.
-fn write_truth(holds: bool, note: &[u8], out: &mut [u8], at: usize) -> usize
-    ensures { Appends (truth_text holds ++ note.now) out.old at out.new result }
+// A boolean.
+fn write_truth(holds: bool, out: &mut Writer<'_>)
+    ensures { Wrote (truth_text holds) out.old out.new }
 {
-    let end = texts::write_item(b"false|true", holds as u32, out, at);
-    texts::append(note, out, end)
+    out.append(if holds { b"true" } else { b"false" });
 }

@@ -1,25 +1,35 @@
 -- How long texts are, and that a text which has room is not cut. Assumes nothing.
-use mathlib.Core.Path.{◌≡◌, ◌∙◌}
+use mathlib.Core.Path.{◌≡◌, ap, ◌∙◌}
 use mathlib.Core.List.{List, [], ◌∷◌, ◌++◌}
 use Prim.Native.Nat.{ℕ, zero, suc, zero-le, ◌+◌, ◌*◌, ◌/◌, ◌≤◌}
 use native.Mathlib.Omega.{arith}
 use borrow.Author.Tests.{ltb-true, ltb-false}
 use lib.Dec.{eqb, leb, ltb}
 use lib.ListN.{length, take, drop, length-append}
-use lib.Seq.{sets-eq}
 use mathlib.Core.Bool.{◌&&◌}
 use Rattle.syntax.proofs.BoolLaws.{whether}
+use lib.Seq.{sets-eq, take-append_seam}
 use Rattle.syntax.specs.Text.{bytes_between}
+use Rattle.texts.specs.declared.Writer.{Writer}
+use Rattle.texts.specs.Append.{Written, Wrote, appended}
 use Rattle.syntax.proofs.TextLaws.{part_length}
-use Rattle.texts.specs.Append.{Appends}
 use Rattle.texts.specs.Text.{BLANK, TAB, MOST_DIGITS, each, digits, number_text, shown_byte, shown}
 use Rattle.texts.specs.Place.{CARET, mark_place, line_start, line_end, mark_end, column, columns, place_text}
 use Rattle.texts.proofs.NumberLaws.{digits_one, digits_more}
 
 -- a text that has room stands whole, with the bytes around it as they were
-pub appends_whole : {text before after : List ℕ} {at next : ℕ} → Appends text before at after next → at + length text ≤ length before
-    → (next ≡ at + length text) × (after ≡ take at before ++ text ++ drop (at + length text) before)
-appends_whole {text} {before} {after} {at} p h = (omega (arith, p.place), p.bytes ∙ sets-eq text before at h)
+pub wrote_whole : {text : List ℕ} {before after : Writer} → Wrote text before after → before.at + length text ≤ length before.out.now
+    → (after.at ≡ before.at + length text) × (after.out.now ≡ take before.at before.out.now ++ text ++ drop (before.at + length text) before.out.now)
+unfolding appended
+wrote_whole {text} {before} {after} w h =
+    (ap (λ (x : Written). x.at) w.appends ∙ omega arith, ap (λ (x : Written). x.bytes) w.appends ∙ sets-eq text before.out.now before.at h)
+
+-- of a writer at the front of its place, it is what is written
+pub wrote_first : {text : List ℕ} {before after : Writer} → Wrote text before after → before.at ≡ 0 → length text ≤ length before.out.now → take after.at after.out.now ≡ text
+wrote_first {text} {before} {after} w z h =
+    let whole = wrote_whole w (omega arith) in
+    let end : after.at ≡ length text = omega (arith, whole.0) in
+    rw (end, whole.1, z) (take-append_seam text (drop (0 + length text) before.out.now))
 
 digits_length : (most n : ℕ) → length (digits most n) ≤ most
 unfolding digits

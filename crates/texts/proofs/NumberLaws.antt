@@ -7,9 +7,10 @@ use native.Mathlib.Nat.{pow-succ'}
 use borrow.Author.Tests.{lt-ltb, le-ltb, ltb-true, ltb-false}
 use lib.Dec.{ltb}
 use Rattle.syntax.proofs.BoolLaws.{whether}
-use Rattle.texts.specs.Append.{Appends}
+use Rattle.texts.specs.Append.{Wrote}
+use Rattle.texts.specs.declared.Writer.{Writer}
 use Rattle.texts.specs.Text.{digit, digits, number_text}
-use Rattle.texts.proofs.AppendLaws.{appends_then}
+use Rattle.texts.proofs.AppendLaws.{wrote_then}
 
 pub digits_one : (most n : ℕ) → n < 10 → digits (suc most) n ≡ digit n ∷ []
 unfolding digits
@@ -39,10 +40,9 @@ pub number_more : (n : ℕ) → 10 ≤ n → n < 2 ^ 64 → number_text n ≡ nu
 unfolding number_text
 number_more n many fits = digits_more 19 n many ∙ ap (λ (front : List ℕ). front ++ (digit (n % 10) ∷ [])) (digits_enough 18 (n / 10) (omega arith))
 
-module _ {out after : List ℕ} {at last n : ℕ} where
-  pub number_few : {b : ℕ} → n < 10 → Appends (b ∷ []) out at after last → b ≡ digit n → Appends (number_text n) out at after last
-  number_few few p e = rw (number_one n few, ← e) p
+module _ {before after : Writer} {n : ℕ} where
+  pub number_few : {b : ℕ} → n < 10 → b ≡ digit (n % 10) → Wrote (b ∷ []) before after → Wrote (number_text n) before after
+  number_few few e p = let whole : n % 10 ≡ n = omega arith in rw (number_one n few, ← whole, ← e) p
 
-  pub number_many : {between : List ℕ} {next b : ℕ} → 10 ≤ n → n < 2 ^ 64 → Appends (number_text (n / 10)) out at between next
-      → Appends (b ∷ []) between next after last → b ≡ digit (n % 10) → Appends (number_text n) out at after last
-  number_many many fits p q e = rw (number_more n many fits, ← e) (appends_then p q)
+  pub number_many : {between : Writer} {b : ℕ} → 10 ≤ n → n < 2 ^ 64 → b ≡ digit (n % 10) → Wrote (number_text (n / 10)) before between → Wrote (b ∷ []) between after → Wrote (number_text n) before after
+  number_many many fits e p q = rw (number_more n many fits, ← e) (wrote_then p q)

@@ -1,30 +1,20 @@
 -- The line that holds a place, found byte by byte, and the columns under it. Assumes nothing.
-use mathlib.Core.Path.{◌≡◌, refl, sym, ◌∙◌}
-use mathlib.Core.Bool.{Bool, true, false}
+use mathlib.Core.Path.{◌≡◌, sym, ap, ◌∙◌}
+use mathlib.Core.Bool.{Bool, true, false, true≢false}
 use mathlib.Core.List.{List, [], ◌∷◌, ◌++◌}
 use Prim.Native.Nat.{ℕ, zero, suc, zero-le, suc-le-suc, ◌+◌, ◌-◌, ◌≤◌, ◌<◌}
 use native.Mathlib.Omega.{arith}
-use borrow.Author.Tests.{eq-eqb, ne_eqb, lt-ltb, le-ltb, ltb-true}
-use lib.Dec.{eqb, ltb}
-use lib.ListN.{length, drop, get_or, drop_of_length-le, length-drop}
+use borrow.Author.Tests.{lt-ltb, le-ltb, ltb-true, leb-true, leb-false}
+use lib.Dec.{eqb, ltb, leb}
+use lib.ListN.{length, take, drop, get_or, length-drop}
+use lib.Seq.{length-take-le, get_or-take}
 use Rattle.syntax.specs.Text.{ascii, bytes_between}
 use Rattle.syntax.proofs.BoolLaws.{whether}
-use Rattle.syntax.proofs.TextLaws.{from}
-use Rattle.texts.specs.Append.{Appends}
+use Rattle.texts.specs.declared.Writer.{Writer}
+use Rattle.texts.specs.Append.{Wrote}
+use Rattle.texts.proofs.AppendLaws.{wrote_then}
 use Rattle.texts.specs.Text.{BLANK, shown, indented, line}
-use Rattle.texts.specs.Place.{LINE_FEED, CARET, behind_last, mark_place, line_start, line_length, line_end, mark_end, columns, place_text}
-use Rattle.texts.proofs.AppendLaws.{appends_then}
-
--- the place behind the last byte that passes, one byte back at a time
-back_one : (test : ℕ → Bool) (s : List ℕ) (n : ℕ) → 0 < n → test (get_or s (n - 1) 0) ≡ false → behind_last test s (n - 1) ≡ behind_last test s n
-unfolding behind_last
-back_one test s zero h e = absurd (omega arith)
-back_one test s (suc n) h e = let one : suc n - 1 ≡ n = omega arith in rw one (sym (rw (rw one at e)))
-
-back_found : (test : ℕ → Bool) (s : List ℕ) (n : ℕ) → 0 < n → test (get_or s (n - 1) 0) ≡ true → n ≡ behind_last test s n
-unfolding behind_last
-back_found test s zero h e = absurd (omega arith)
-back_found test s (suc n) h e = let one : suc n - 1 ≡ n = omega arith in sym (rw (rw one at e))
+use Rattle.texts.specs.Place.{LINE_FEED, CARET, IsBehindLast, IsLineLength, behind_last, mark_place, line_start, line_length, line_end, mark_end, columns, place_text}
 
 back_within : (test : ℕ → Bool) (s : List ℕ) (n : ℕ) → behind_last test s n ≤ n
 unfolding behind_last
@@ -33,33 +23,40 @@ back_within test s (suc n) =
     let ih = back_within test s n in
     whether (test (get_or s n 0)) (λ e. rw e (omega arith)) (λ e. rw e (omega arith))
 
--- a loop that goes back from n is at i
-pub record Backs (test : ℕ → Bool) (s : List ℕ) (n i : ℕ) : Type 0 where
-  pub within : i ≤ n
-  pub same : behind_last test s i ≡ behind_last test s n
+-- the place behind the last byte that passes, from what is known of each byte
+behind_is : (test : ℕ → Bool) (s : List ℕ) (n r : ℕ) → r ≤ n → (0 < r → test (get_or s (r - 1) 0) ≡ true) → ((k : ℕ) → r ≤ k → k < n → test (get_or s k 0) ≡ false)
+    → r ≡ behind_last test s n
+unfolding behind_last
+behind_is test s zero r within passes others = omega arith
+behind_is test s (suc n) r within passes others =
+    whether (test (get_or s n 0))
+    (λ t. rw t (whether (leb r n) (λ u. absurd (true≢false (sym t ∙ others n (leb-true r n u) (omega arith)))) (λ u. omega (arith, leb-false r n u))))
+    (λ t.
+    rw t
+    (whether (leb r n) (λ u. behind_is test s n r (leb-true r n u) passes (λ k a b. others k a (omega arith)))
+    (λ u.
+    let last : r - 1 ≡ n = omega (arith, leb-false r n u) in
+    absurd (true≢false (sym (rw last at (passes (omega (arith, leb-false r n u)))) ∙ t)))))
 
-pub backs_start : {test : ℕ → Bool} {s : List ℕ} {n : ℕ} → Backs test s n n
-backs_start = record { within = omega arith; same = refl }
+pub behind_all : {test : ℕ → Bool} {s : List ℕ} {r : ℕ} → IsBehindLast test s r → r ≡ behind_last test s (length s)
+behind_all {test} {s} {r} b = behind_is test s (length s) r b.within b.passes b.others
 
-module _ {test : ℕ → Bool} {s : List ℕ} {n i : ℕ} (w : Backs test s n i) where
-  pub backs_on : 0 < i → test (get_or s (i - 1) 0) ≡ false → Backs test s n (i - 1)
-  backs_on h e = record { within = omega (arith, w.within); same = back_one test s i h e ∙ w.same }
-
-  pub backs_found : 0 < i → test (get_or s (i - 1) 0) ≡ true → i ≡ behind_last test s n
-  backs_found h e = back_found test s i h e ∙ w.same
-
-  pub backs_none : i ≤ 0 → i ≡ behind_last test s n
-  unfolding behind_last
-  backs_none h = let z : i ≡ 0 = omega arith in z ∙ rw z at w.same
+behind_taken : {test : ℕ → Bool} (s : List ℕ) (n : ℕ) {r : ℕ} → n ≤ length s → IsBehindLast test (take n s) r → r ≡ behind_last test s n
+behind_taken {test} s n {r} h b =
+    let long : length (take n s) ≡ n = length-take-le n s h in
+    let within : r ≤ n = omega (arith, b.within) in
+    behind_is test s n r within
+    (λ some. let inside : r - 1 < n = omega arith in rw (get_or-take n s (r - 1) 0 inside) at (b.passes some))
+    (λ k after before. rw (get_or-take n s k 0 before) at (b.others k after (omega arith)))
 
 -- the mark begins at the token found, or behind the last byte that is no blank
 pub mark_found : (rule : List ℕ) (first : ℕ) → first < length rule → first ≡ mark_place rule first
 unfolding mark_place
 mark_found rule first h = rw (lt-ltb _ _ h)
 
-pub mark_behind : (rule : List ℕ) (first : ℕ) {r : ℕ} → length rule ≤ first → r ≡ behind_last (λ b. ltb 0x20 b) rule (length rule) → r ≡ mark_place rule first
+pub mark_behind : (rule : List ℕ) (first : ℕ) {r : ℕ} → length rule ≤ first → IsBehindLast (λ b. ltb BLANK b) rule r → r ≡ mark_place rule first
 unfolding mark_place
-mark_behind rule first h e = rw (le-ltb _ _ h) e
+mark_behind rule first h b = rw (le-ltb _ _ h) (behind_all b)
 
 pub mark_within : (rule : List ℕ) (first : ℕ) → mark_place rule first ≤ length rule
 unfolding mark_place
@@ -67,18 +64,18 @@ mark_within rule first =
     whether (ltb first (length rule)) (λ t. rw t (omega (arith, ltb-true first (length rule) t)))
     (λ t. rw t (back_within (λ b. ltb 0x20 b) rule (length rule)))
 
-pub start_within : (s : List ℕ) (at : ℕ) → line_start s at ≤ at
+start_within : (s : List ℕ) (at : ℕ) → line_start s at ≤ at
 unfolding line_start
 start_within s at = back_within (λ b. eqb b LINE_FEED) s at
 
--- a line's length, byte by byte
-length_feed : (b : ℕ) (s : List ℕ) → b ≡ LINE_FEED → line_length (b ∷ s) ≡ 0
+-- a line's length, from what is known of each byte
+length_is : (s : List ℕ) (r : ℕ) → r ≤ length s → (r < length s → eqb (get_or s r 0) LINE_FEED ≡ true) → ((k : ℕ) → k < r → eqb (get_or s k 0) LINE_FEED ≡ false) → r ≡ line_length s
 unfolding line_length
-length_feed b s e = rw (eq-eqb b LINE_FEED e)
-
-length_other : (b : ℕ) (s : List ℕ) → (b ≡ LINE_FEED → ⊥) → line_length (b ∷ s) ≡ suc (line_length s)
-unfolding line_length
-length_other b s e = rw (ne_eqb b LINE_FEED e)
+length_is [] r within feed others = omega arith
+length_is (b ∷ s) zero within feed others = rw (feed (omega arith))
+length_is (b ∷ s) (suc r) within feed others =
+    let ih = length_is s r (omega arith) (λ h. feed (omega arith)) (λ k h. others (suc k) (omega arith)) in
+    rw (others 0 (omega arith)) (ap suc ih)
 
 length_within : (s : List ℕ) → line_length s ≤ length s
 unfolding line_length
@@ -91,52 +88,25 @@ pub end_within : (s : List ℕ) (at : ℕ) → at ≤ length s → (at ≤ line_
 unfolding line_end
 end_within s at h = (omega arith, omega (arith, length_within (drop at s), length-drop at s))
 
--- a loop for the end of the line that holds `at` is at i
-pub record Ends (s : List ℕ) (at i : ℕ) : Type 0 where
-  pub within : i ≤ length s
-  pub stop : i + line_length (drop i s) ≡ line_end s at
-
-pub ends_start : {s : List ℕ} {at : ℕ} → at ≤ length s → Ends s at at
-unfolding line_end
-ends_start h = record { within = h; stop = refl }
-
-module _ {s : List ℕ} {at i : ℕ} (w : Ends s at i) where
-  pub ends_on : i < length s → (get_or s i 0 ≡ LINE_FEED → ⊥) → Ends s at (i + 1)
-  ends_on h e =
-      let z : line_length (drop i s) ≡ suc (line_length (drop (i + 1) s)) = rw (from s i h) (length_other _ _ e) in
-      record { within = omega arith; stop = omega (arith, w.stop) }
-
-  pub ends_found : i < length s → get_or s i 0 ≡ LINE_FEED → i ≡ line_end s at
-  ends_found h e =
-      let z : line_length (drop i s) ≡ 0 = rw (from s i h) (length_feed _ _ e) in
-      omega (arith, w.stop)
-
-  pub ends_none : length s ≤ i → i ≡ line_end s at
-  unfolding line_length
-  ends_none h =
-      let z : line_length (drop i s) ≡ 0 = rw (drop_of_length-le s h) refl in
-      omega (arith, w.stop)
-
 -- a place found: its line lies around it
-module _ (rule : List ℕ) (first : ℕ) {mark start stop : ℕ} (m : mark ≡ mark_place rule first) (s : start ≡ line_start rule mark) (t : stop ≡ line_end rule mark) where
+module _ (rule : List ℕ) (first : ℕ) {mark start n : ℕ} (m : mark ≡ mark_place rule first) (s : IsBehindLast (λ b. eqb b LINE_FEED) (take mark rule) start) (t : IsLineLength (drop mark rule) n) where
   pub mark_inside : mark ≤ length rule
   mark_inside = omega (arith, m, mark_within rule first)
 
-  pub start_before : start ≤ stop
-  start_before = omega (arith, s, t, start_within rule mark, end_within rule mark mark_inside)
+  start_is : start ≡ line_start rule mark
+  unfolding line_start
+  start_is = behind_taken rule mark mark_inside s
 
-  pub stop_inside : stop ≤ length rule
-  stop_inside = omega (arith, t, end_within rule mark mark_inside)
+  stop_is : mark + n ≡ line_end rule mark
+  unfolding line_end
+  stop_is = ap (λ (k : ℕ). mark + k) (length_is (drop mark rule) n t.within t.feed t.others)
 
-  pub marks_inside : (end : ℕ) {past : ℕ} → past ≡ mark_end rule first end stop → past ≤ length rule
-  unfolding mark_end
-  marks_inside end e =
-      whether (ltb first (length rule)) (λ u. omega (arith, rw u at e, stop_inside))
-      (λ u. omega (arith, rw u at e))
+  pub stop_inside : mark + n ≤ length rule
+  stop_inside = omega (arith, t.within, length-drop mark rule, mark_inside)
 
-  -- its two lines appended
-  pub place_appended : (end : ℕ) {past at next last : ℕ} {out between after : List ℕ} → past ≡ mark_end rule first end stop → Appends (line (indented (shown (bytes_between rule start stop)))) out at between next
-      → Appends (line (indented (columns BLANK (bytes_between rule start mark) ++ ascii "^" ++ columns CARET (bytes_between rule (mark + 1) past)))) between next after last
-      → Appends (place_text rule first end) out at after last
+  -- its two lines written
+  pub place_wrote : (end : ℕ) {past : ℕ} {before between after : Writer} → past ≡ mark_end rule first end (mark + n) → Wrote (line (indented (shown (bytes_between rule start (mark + n))))) before between
+      → Wrote (line (indented (columns BLANK (bytes_between rule start mark) ++ ascii "^" ++ columns CARET (bytes_between rule (mark + 1) past)))) between after
+      → Wrote (place_text rule first end) before after
   unfolding place_text
-  place_appended end e p q = rw (← m, ← s, ← t, ← e) (appends_then p q)
+  place_wrote end e p q = rw (← m, ← start_is, ← stop_is, ← e) (wrote_then p q)

@@ -1,5 +1,5 @@
 -- The place of an error in a rule: its line, and a mark under the token found. Assumes nothing: these are definitions.
-use Rattle.std.specs.Prelude.{ℕ, zero, suc, ◌+◌, min, Bool, cond, ◌&&◌, List, [], ◌∷◌, ◌++◌, eqb, leb, ltb, length, drop, get_or}
+use Rattle.std.specs.Prelude.{ℕ, zero, suc, ◌+◌, ◌-◌, ◌≤◌, ◌<◌, ◌≡◌, min, Bool, true, false, cond, ◌&&◌, List, [], ◌∷◌, ◌++◌, eqb, leb, ltb, length, drop, get_or}
 use Rattle.syntax.specs.Text.{ascii, bytes_between}
 use Rattle.texts.specs.Text.{BLANK, TAB, each, shown, indented, line}
 
@@ -13,6 +13,12 @@ CARET = 0x5e
 unfoldable pub behind_last : (ℕ → Bool) → List ℕ → ℕ → ℕ
 behind_last test s zero = 0
 behind_last test s (suc n) = cond (test (get_or s n 0)) (suc n) (behind_last test s n)
+
+-- the same of a whole text, byte by byte
+pub record IsBehindLast (test : ℕ → Bool) (s : List ℕ) (at : ℕ) : Type 0 where
+  pub within : at ≤ length s
+  pub passes : 0 < at → test (get_or s (at - 1) 0) ≡ true
+  pub others : (k : ℕ) → at ≤ k → k < length s → test (get_or s k 0) ≡ false
 
 -- where the mark begins: at the token found; at the end of text behind the last byte that is neither blank nor control character
 unfoldable pub mark_place : (rule : List ℕ) (first : ℕ) → ℕ
@@ -28,6 +34,12 @@ line_start s at = behind_last (λ b. eqb b LINE_FEED) s at
 unfoldable pub line_length : List ℕ → ℕ
 line_length [] = 0
 line_length (b ∷ s) = cond (eqb b LINE_FEED) 0 (suc (line_length s))
+
+-- the same, byte by byte
+pub record IsLineLength (s : List ℕ) (n : ℕ) : Type 0 where
+  pub within : n ≤ length s
+  pub feed : n < length s → eqb (get_or s n 0) LINE_FEED ≡ true
+  pub others : (k : ℕ) → k < n → eqb (get_or s k 0) LINE_FEED ≡ false
 
 unfoldable pub line_end : List ℕ → ℕ → ℕ
 unfolding line_length

@@ -1,110 +1,106 @@
-// Texts appended to a lent place, one after the other: each writer gives the place past what it wrote. Where the lent place ends, a text
-// is cut.
+// Texts appended to a lent place, one after the other. Where the lent place ends, a text is cut.
 #![tactic(auto)]
 
 pub mod place;
 
-ghost use Rattle.std.specs.Prelude.{◌≡◌, [], ◌∷◌, ◌++◌};
-ghost use Rattle.texts.specs.Append.{Appends};
-ghost use Rattle.texts.specs.Text.{number_text, shown_byte, shown};
+ghost use Rattle.std.specs.Prelude.{◌≡◌, [], ◌∷◌, ◌++◌, ◌≤◌, length, map, take};
 ghost use Rattle.texts.specs.Items.{item};
+ghost use Rattle.texts.specs.Text.{number_text, shown_byte, shown};
 
-// The control character that stands above the letters.
-const DELETE: u8 = 0x7f;
+// A lent place of bytes, and the number of them that are written.
+#[derive(Drop)]
+pub struct Writer<'a> {
+    out: &'a mut [u8],
+    at: usize,
+    ghost within: { at ≤ length out.now },
+}
 
-// Copies a piece to `at`.
-pub fn append(piece: &[u8], out: &mut [u8], at: usize) -> usize
-    ensures { Appends piece.now out.old at out.new result }
-{
-    let mut next = at;
-    let mut i = 0;
-    while i < piece.len() {
-        next = append_byte(piece[i], out, next);
-        i += 1;
+impl<'a> Writer<'a> {
+    ghost use Rattle.texts.specs.Append.{Wrote};
+
+    // A writer at the front of a place.
+    pub fn new(out: &'a mut [u8]) -> Writer<'a>
+        ensures same_reference { result.out.ghost_name ≡ out.entry.ghost_name }
+        ensures same_bytes { result.out.now ≡ out.old }
+        ensures empty { result.at ≡ 0 }
+    {
+        Writer { out, at: 0 }
     }
-    next
-}
 
-// A text that is not the program's own: its control characters become blanks, so that it stays on its line.
-pub fn write_shown(text: &[u8], out: &mut [u8], at: usize) -> usize
-    ensures { Appends (shown text.now) out.old at out.new result }
-{
-    let mut next = at;
-    let mut i = 0;
-    while i < text.len() {
-        next = append_byte(shown_byte(text[i]), out, next);
-        i += 1;
+    // What is written.
+    pub fn written(&self) -> &[u8]
+        ensures { result.now ≡ take self.now.at self.now.out.now }
+    {
+        &self.out[..self.at]
     }
-    next
-}
 
-// A number in decimal digits.
-pub fn write_number(n: u64, out: &mut [u8], at: usize) -> usize
-    ensures { Appends (number_text n) out.old at out.new result }
-{
-    if n < 10 {
-        return append_byte(b'0' + n as u8, out, at);
+    // Copies a piece.
+    pub fn append(&mut self, piece: &[u8])
+        ensures { Wrote piece.now self.old self.new }
+    {
+        let n = piece.len().min(self.out.len() - self.at);
+        self.out[self.at..self.at + n].copy_from_slice(&piece[..n]);
+        self.at += n;
     }
-    let last = write_number(n / 10, out, at);
-    append_byte(b'0' + (n % 10) as u8, out, last)
-}
 
-// A number between two texts.
-pub fn write_numbered(before: &[u8], n: u64, after: &[u8], out: &mut [u8], at: usize) -> usize
-    ensures { Appends (before.now ++ number_text n ++ after.now) out.old at out.new result }
-{
-    let number = append(before, out, at);
-    let rest = write_number(n, out, number);
-    append(after, out, rest)
-}
-
-// The n-th of the items that bars part, from 0; `?` where there are fewer.
-pub fn write_item(items: &[u8], n: u32, out: &mut [u8], at: usize) -> usize
-    ensures { Appends (item n items.now) out.old at out.new result }
-{
-    let mut next = at;
-    let mut skip = n;
-    let mut i = 0;
-    while i < items.len() {
-        let b = items[i];
-        i += 1;
-        if b == b'|' {
-            if skip == 0 {
-                return next;
-            }
-            skip -= 1;
-        } else if skip == 0 {
-            next = append_byte(b, out, next);
+    // A text that is not the program's own: its control characters become blanks, so that it stays on its line.
+    pub fn write_shown(&mut self, text: &[u8])
+        ensures { Wrote (shown text.now) self.old self.new }
+    {
+        for &b in text {
+            self.append_byte(shown_byte(b));
         }
     }
-    if skip == 0 {
-        return next;
+
+    // A number in decimal digits. std's formatting answers a `Result`, which a writer that can't fail would have to drop.
+    pub fn write_number(&mut self, n: u64)
+        ensures { Wrote (number_text n) self.old self.new }
+    {
+        if 10 <= n {
+            self.write_number(n / 10);
+        }
+        self.append_byte(b'0' + (n % 10) as u8);
     }
-    append_byte(b'?', out, next)
+
+    // A number between two texts.
+    #[tactic(auto, using(crate::proofs::AppendLaws::appended_then))]
+    pub fn write_numbered(&mut self, before: &[u8], n: u64, after: &[u8])
+        ensures { Wrote (before.now ++ number_text n ++ after.now) self.old self.new }
+    {
+        self.append(before);
+        self.write_number(n);
+        self.append(after);
+    }
+
+    // The n-th of some items, from 0; `?` where there are fewer.
+    #[tactic(auto, unfolding(crate::specs::Items::item))]
+    pub fn write_item(&mut self, items: &[&[u8]], n: u32)
+        ensures { Wrote (item n (map (λ text. text.now) items.now)) self.old self.new }
+    {
+        match items.get(n as usize) {
+            Some(text) => self.append(text),
+            None => self.append(b"?"),
+        }
+    }
+
+    // Puts a byte; past the end, nothing.
+    #[tactic(auto, unfolding(crate::specs::Append::appended))]
+    pub(crate) fn append_byte(&mut self, b: u8)
+        ensures { Wrote (b ∷ []) self.old self.new }
+    {
+        if self.at < self.out.len() {
+            self.out[self.at] = b;
+            self.at += 1;
+        }
+    }
 }
 
 fn shown_byte(b: u8) -> u8
     ensures { result ≡ shown_byte b }
 {
-    if b == b'\t' {
-        return b;
+    if b.is_ascii_control() && b != b'\t' {
+        b' '
+    } else {
+        b
     }
-    if b < b' ' {
-        return b' ';
-    }
-    if b == DELETE {
-        return b' ';
-    }
-    b
-}
-
-// Puts a byte at `at`; past the end, nothing.
-pub(crate) fn append_byte(b: u8, out: &mut [u8], at: usize) -> usize
-    ensures { Appends (b ∷ []) out.old at out.new result }
-{
-    if at < out.len() {
-        out[at] = b;
-        return at + 1;
-    }
-    at
 }

@@ -1,23 +1,29 @@
 // The place of an error in a rule: its line, and a mark under the token found.
-ghost use Rattle.std.specs.Prelude.{◌≡◌, ◌++◌, ◌+◌, ◌≤◌, length};
-ghost use Rattle.texts.specs.Append.{Appends};
+ghost use Rattle.std.specs.Prelude.{◌≡◌, ◌++◌, ◌+◌, ◌≤◌, length, eqb, ltb};
+ghost use Rattle.texts.specs.Append.{Wrote};
 ghost use Rattle.syntax.specs.Text.{ascii, bytes_between};
 ghost use Rattle.texts.specs.Text.{BLANK, shown, indented, line};
-ghost use Rattle.texts.specs.Place.{CARET, mark_place, line_start, line_end, mark_end, column, columns, place_text};
+ghost use Rattle.texts.specs.Place.{LINE_FEED, CARET, IsBehindLast, IsLineLength, mark_place, mark_end, column, columns, place_text};
 
-use crate::{append, append_byte, write_shown};
+use crate::Writer;
+use syntax::text;
 
 // The line of the rule that holds byte `first`, and below it blanks up to there and a `^` under each character of the token found, as
 // far as that line has it. At the end of text one mark stands behind the last character that is no blank.
-pub fn write_place(rule: &[u8], first: u32, end: u32, out: &mut [u8], at: usize) -> usize
-    ensures { Appends (place_text rule.now first end) out.old at out.new result }
+pub fn write_place(rule: &[u8], first: u32, end: u32, out: &mut Writer<'_>)
+    ensures { Wrote (place_text rule.now first end) out.old out.new }
 {
     let mark = mark_place(rule, first as usize);
-    let start = line_start(rule, mark);
-    let stop = line_end(rule, mark);
-    let below = write_line(&rule[start..stop], out, at);
+    let (before, rest) = rule.split_at(mark);
+    let start = line_start(before);
+    let stop = mark + line_len(rest);
     let past = mark_end(rule, first as usize, end as usize, stop);
-    write_mark(rule, start, mark, past, out, below)
+    write_line(text::part(rule, start, stop), out);
+    write_mark(
+        text::part(rule, start, mark),
+        text::part(rule, mark + 1, past),
+        out,
+    );
 }
 
 // Where the mark begins.
@@ -25,115 +31,83 @@ fn mark_place(rule: &[u8], first: usize) -> usize
     ensures { result ≡ mark_place rule.now first }
 {
     if first < rule.len() {
-        return first;
+        first
+    } else {
+        text_end(rule)
     }
-    let mut end = rule.len();
-    while 0 < end {
-        if b' ' < rule[end - 1] {
-            return end;
-        }
-        end -= 1;
-    }
-    end
 }
 
-// Where the line begins that holds a place.
-fn line_start(rule: &[u8], at: usize) -> usize
-    requires { at ≤ length rule.now }
-    ensures { result ≡ line_start rule.now at }
+// The place behind the last byte that is neither blank nor control character.
+fn text_end(rule: &[u8]) -> usize
+    ensures { IsBehindLast (λ b. ltb BLANK b) rule.now result }
 {
-    let mut start = at;
-    while 0 < start {
-        if rule[start - 1] == b'\n' {
-            return start;
-        }
-        start -= 1;
-    }
-    start
+    rule.iter()
+        .rposition(|b| b' ' < *b)
+        .map_or(0, |last| last + 1)
 }
 
-// Where it ends.
-fn line_end(rule: &[u8], at: usize) -> usize
-    requires { at ≤ length rule.now }
-    ensures { result ≡ line_end rule.now at }
+// Where the line begins that the text before a place ends in.
+fn line_start(before: &[u8]) -> usize
+    ensures { IsBehindLast (λ b. eqb b LINE_FEED) before.now result }
 {
-    let mut end = at;
-    while end < rule.len() {
-        if rule[end] == b'\n' {
-            return end;
-        }
-        end += 1;
-    }
-    end
+    before
+        .iter()
+        .rposition(|b| *b == b'\n')
+        .map_or(0, |feed| feed + 1)
+}
+
+// How long the first line of a text is.
+fn line_len(text: &[u8]) -> usize
+    ensures { IsLineLength text.now result }
+{
+    text.iter().position(|b| *b == b'\n').unwrap_or(text.len())
 }
 
 // Where the marks end: with the token, or with its line; at the end of text there is no token.
+#[tactic(auto, unfolding(crate::specs::Place::mark_end))]
 fn mark_end(rule: &[u8], first: usize, end: usize, stop: usize) -> usize
     ensures { result ≡ mark_end rule.now first end stop }
 {
-    if rule.len() <= first {
-        return 0;
-    }
-    if end < stop {
-        return end;
-    }
-    stop
+    if first < rule.len() { end.min(stop) } else { 0 }
 }
 
 // A line of the rule, set in.
-fn write_line(text: &[u8], out: &mut [u8], at: usize) -> usize
-    ensures { Appends (line (indented (shown text.now))) out.old at out.new result }
+fn write_line(text: &[u8], out: &mut Writer<'_>)
+    ensures { Wrote (line (indented (shown text.now))) out.old out.new }
 {
-    let first = append(b"  ", out, at);
-    let last = write_shown(text, out, first);
-    append(b"\n", out, last)
+    out.append(b"  ");
+    out.write_shown(text);
+    out.append(b"\n");
 }
 
-// The line below it: blanks under the bytes from `start` to `mark`, and marks from there to `end`.
-fn write_mark(
-    rule: &[u8],
-    start: usize,
-    mark: usize,
-    end: usize,
-    out: &mut [u8],
-    at: usize,
-) -> usize
-    requires { (mark ≤ length rule.now) × (end ≤ length rule.now) }
-    ensures { Appends (line (indented (columns BLANK (bytes_between rule.now start mark) ++ ascii "^" ++ columns CARET (bytes_between rule.now (mark + 1) end)))) out.old at out.new result }
+// The line below it: blanks under the bytes before the mark, a mark, and marks under the bytes behind it.
+fn write_mark(before: &[u8], behind: &[u8], out: &mut Writer<'_>)
+    ensures { Wrote (line (indented (columns BLANK before.now ++ ascii "^" ++ columns CARET behind.now))) out.old out.new }
 {
-    let first = append(b"  ", out, at);
-    let caret = write_columns(rule, start, mark, b' ', out, first);
-    let rest = append(b"^", out, caret);
-    let last = write_columns(rule, mark + 1, end, b'^', out, rest);
-    append(b"\n", out, last)
+    out.append(b"  ");
+    write_columns(before, b' ', out);
+    out.append(b"^");
+    write_columns(behind, b'^', out);
+    out.append(b"\n");
 }
 
-// What stands under the bytes of the rule from one place to another.
-fn write_columns(rule: &[u8], from: usize, end: usize, mark: u8, out: &mut [u8], at: usize) -> usize
-    requires { end ≤ length rule.now }
-    ensures { Appends (columns mark (bytes_between rule.now from end)) out.old at out.new result }
+// What stands under the bytes of a text.
+fn write_columns(text: &[u8], mark: u8, out: &mut Writer<'_>)
+    ensures { Wrote (columns mark text.now) out.old out.new }
 {
-    let mut next = at;
-    let mut i = from;
-    while i < end {
-        next = write_column(rule[i], mark, out, next);
-        i += 1;
+    for &b in text {
+        write_column(b, mark, out);
     }
-    next
 }
 
 // What stands under a byte.
-fn write_column(b: u8, mark: u8, out: &mut [u8], at: usize) -> usize
-    ensures { Appends (column mark b) out.old at out.new result }
+#[tactic(auto, using(crate::proofs::AppendLaws::appended_none), unfolding(crate::specs::Place::column))]
+fn write_column(b: u8, mark: u8, out: &mut Writer<'_>)
+    ensures { Wrote (column mark b) out.old out.new }
 {
-    if b == b'\t' {
-        return append_byte(b, out, at);
+    match b {
+        b'\t' => out.append_byte(b),
+        0x80..=0xbf => {}
+        _ => out.append_byte(mark),
     }
-    if b < 0x80 {
-        return append_byte(mark, out, at);
-    }
-    if b < 0xc0 {
-        return at;
-    }
-    append_byte(mark, out, at)
 }

@@ -1,66 +1,76 @@
--- The last call of a tree, found row by row, and the text made of its parts. Assumes nothing.
-use mathlib.Core.Path.{◌≡◌, refl, sym, ap, ◌∙◌, subst}
-use mathlib.Core.Bool.{true, false}
-use mathlib.Core.List.{List, [], ◌∷◌, ◌++◌}
-use Prim.Native.Nat.{ℕ, ◌+◌, ◌*◌, ◌/◌, ◌≤◌, ◌<◌}
+-- The last call of a tree, looked for from the last row on, and the text made of its parts. Assumes nothing.
+use mathlib.Core.Path.{◌≡◌, refl, sym, ap, ◌∙◌}
+use mathlib.Core.Bool.{true, false, cond}
+use mathlib.Core.List.{List, [], ◌∷◌, ◌++◌, append_assoc}
+use Prim.Native.Nat.{ℕ, zero, suc, ◌+◌, ◌*◌, ◌/◌, ◌-◌, ◌≤◌, ◌<◌}
 use native.Mathlib.Omega.{arith}
-use lib.ListN.{length, get_or, drop, get_or-eq_default}
-use borrow.Author.Tests.{eq-eqb, ne_eqb}
-use Rattle.syntax.specs.Kind.{IDENT, DOT_CALL, CALL_ARGS}
+use lib.ListN.{length, get_or, drop, length-drop}
+use Rattle.std.specs.declared.option.Option.{Option}
+use Rattle.std.specs.declared.option.Option.TheVariants.{None, Some}
+use Rattle.syntax.specs.Kind.{IDENT, CALL_ARGS}
 use Rattle.syntax.specs.Text.{ascii, same, bytes_between}
+use Rattle.syntax.proofs.BoolLaws.{whether}
+use Rattle.syntax.proofs.TextLaws.{same_eq}
 use Rattle.matching.specs.declared.search.Found.{Found}
-use Rattle.texts.specs.Append.{Appends}
-use Rattle.texts.proofs.AppendLaws.{appends_none}
 use Rattle.predicate.specs.Truth.{first_text}
-use Rattle.predicate.specs.Rows.{ROW, kind_at, level_at, children_at, of_kind, first_row}
-use Rattle.predicate.proofs.RowLaws.{drop_row, few}
-use Rattle.witness.specs.Witness.{CALL_LEVEL, last_from, last_call, later_call, text_in, args_text, by_word, witness_text}
+use Rattle.predicate.specs.Rows.{ROW, level_at, children_at, forest_from, of_kind, first_row}
+use Rattle.predicate.proofs.RowLaws.{drop_row, few, short_forest}
+use Rattle.witness.specs.Witness.{is_call, last_from, last_call, text_in, args_text, by_word, call_text, text_of, witness_text}
 
--- the rows before the i-th are looked at
-pub record Looked (tree : List ℕ) (found i : ℕ) : Type 0 where
-  pub rest : last_from (ROW * i) found (drop (ROW * i) tree) ≡ last_call tree
+-- the last call among the rows from the i-th on, if one is there, and else the one found before
+abbrev after : List ℕ → ℕ → Option ℕ → Option ℕ
+after tree i found = last_from (ROW * i) found (drop (ROW * i) tree)
 
-pub looked_none : (tree : List ℕ) → Looked tree (length tree) 0
+after_one : (tree : List ℕ) (i : ℕ) (found : Option ℕ) → i < length tree / ROW → after tree i found ≡ after tree (i + 1) (cond (is_call tree (ROW * i)) (Some (ROW * i)) found)
+unfolding last_from
+after_one tree i found h =
+    let place : ROW * (i + 1) ≡ ROW * i + ROW = omega arith in
+    ap (last_from (ROW * i) found) (drop_row tree (ROW * i) (omega arith))
+    ∙ sym (λ k. last_from (place k) (cond (is_call tree (ROW * i)) (Some (ROW * i)) found) (drop (place k) tree))
+
+short : (at : ℕ) (found : Option ℕ) (rows : List ℕ) → length rows < ROW → last_from at found rows ≡ found
+unfolding last_from
+short at found [] h = refl
+short at found (k ∷ []) h = refl
+short at found (k ∷ m ∷ []) h = refl
+short at found (k ∷ m ∷ a ∷ []) h = refl
+short at found (k ∷ m ∷ a ∷ e ∷ rows) h = absurd (omega arith)
+
+-- the rows before the i-th have a last call or none, and what is behind them decides
+reach : (tree : List ℕ) (i : ℕ) → i ≤ length tree / ROW → (found : Option ℕ) × (after tree i found ≡ last_call tree)
 unfolding last_call
-looked_none tree = record { rest = refl }
+reach tree zero h = (None, refl)
+reach tree (suc i) h =
+    let r = reach tree i (omega arith) in
+    let one : i + 1 ≡ suc i = omega arith in
+    (cond (is_call tree (ROW * i)) (Some (ROW * i)) r.0, rw one at (sym (after_one tree i r.0 (omega arith))) ∙ r.1)
 
-module _ {tree : List ℕ} {found i : ℕ} (l : Looked tree found i) where
-  pub looked_more : {r : ℕ} → i < length tree / ROW → r ≡ later_call tree (ROW * i) found → Looked tree r (i + 1)
-  unfolding last_from
-  looked_more {r} h e =
-      let place : ROW * (i + 1) ≡ ROW * i + ROW = omega arith in
-      record {
-        rest =
-            (λ k. last_from (place k) (e k) (drop (place k) tree))
-            ∙ sym (ap (last_from (ROW * i) found) (drop_row tree (ROW * i) (omega arith)))
-            ∙ l.rest;
-      }
+-- no row from the i-th on is a call
+pub record Past (tree : List ℕ) (i : ℕ) : Type 0 where
+  pub within : i ≤ length tree / ROW
+  pub rest : (found : Option ℕ) → after tree i found ≡ found
 
-  short : (at : ℕ) (rows : List ℕ) → length rows < ROW → found ≡ last_from at found rows
-  unfolding last_from
-  short at [] h = refl
-  short at (k ∷ []) h = refl
-  short at (k ∷ m ∷ []) h = refl
-  short at (k ∷ m ∷ a ∷ []) h = refl
-  short at (k ∷ m ∷ a ∷ e ∷ rows) h = absurd (omega arith)
+pub past_start : (tree : List ℕ) → Past tree (length tree / ROW)
+past_start tree = let i = length tree / ROW in record { within = omega arith; rest = λ found. short (ROW * i) found (drop (ROW * i) tree) (few tree (ROW * i) (omega arith)) }
 
-  pub looked_all : length tree / ROW ≤ i → found ≡ last_call tree
-  looked_all h = short (ROW * i) (drop (ROW * i) tree) (few tree (ROW * i) (omega arith)) ∙ l.rest
+-- the row before them
+module _ {tree : List ℕ} {i : ℕ} (p : Past tree i) (some : 0 < i) where
+  one_back : (found : Option ℕ) → after tree (i - 1) found ≡ cond (is_call tree (ROW * (i - 1))) (Some (ROW * (i - 1))) found
+  one_back found =
+      let next : i - 1 + 1 ≡ i = omega arith in
+      rw next at (after_one tree (i - 1) found (omega (arith, p.within))) ∙ p.rest (cond (is_call tree (ROW * (i - 1))) (Some (ROW * (i - 1))) found)
 
--- a number of a row that the table does not have is 0
-pub number_missing : (tree : List ℕ) (at : ℕ) → length tree ≤ at → 0 ≡ get_or tree at 0
-number_missing tree at h = sym (get_or-eq_default tree 0 h)
+  pub past_more : is_call tree (ROW * (i - 1)) ≡ false → Past tree (i - 1)
+  past_more e = record { within = omega (arith, p.within); rest = λ found. rw e at (one_back found) }
 
--- a call's row, and one that is none
-module _ (tree : List ℕ) (at found : ℕ) where
-  pub later_elsewhere : {m : ℕ} → m ≡ level_at tree at → (m ≡ CALL_LEVEL → ⊥) → found ≡ later_call tree at found
-  later_elsewhere e h = sym (rw (ne_eqb (level_at tree at) CALL_LEVEL (λ d. h (e ∙ d))))
+  pub past_found : is_call tree (ROW * (i - 1)) ≡ true → Some (ROW * (i - 1)) ≡ last_call tree
+  past_found e =
+      let r = reach tree (i - 1) (omega (arith, p.within)) in
+      sym (rw e at (one_back r.0)) ∙ r.1
 
-  pub later_other : {m k : ℕ} → m ≡ level_at tree at → m ≡ CALL_LEVEL → k ≡ kind_at tree at → (k ≡ DOT_CALL → ⊥) → found ≡ later_call tree at found
-  later_other e l f h = sym (rw (eq-eqb (level_at tree at) CALL_LEVEL (sym e ∙ l), ne_eqb (kind_at tree at) DOT_CALL (λ d. h (f ∙ d))))
-
-  pub later_call_lem : {m k : ℕ} → m ≡ level_at tree at → m ≡ CALL_LEVEL → k ≡ kind_at tree at → k ≡ DOT_CALL → at ≡ later_call tree at found
-  later_call_lem e l f h = sym (rw (eq-eqb (level_at tree at) CALL_LEVEL (sym e ∙ l), eq-eqb (kind_at tree at) DOT_CALL (sym f ∙ h)))
+pub past_none : {tree : List ℕ} {i : ℕ} → Past tree i → i ≤ 0 → None ≡ last_call tree
+unfolding last_call
+past_none {tree} {i} p h = let z : i ≡ 0 = omega arith in sym (rw z at (p.rest None))
 
 -- what stands behind a method, by the row found
 module _ (rule tree : List ℕ) (call : ℕ) {found : Found} (e : found ≡ first_row (of_kind CALL_ARGS) tree (level_at tree call + 1) (call + ROW)) where
@@ -72,26 +82,37 @@ module _ (rule tree : List ℕ) (call : ℕ) {found : Found} (e : found ≡ firs
   unfolding args_text
   args_at h f g = (λ i. bytes_between rule (f i) (g i)) ∙ sym (ap (text_in rule tree) (sym e ∙ h))
 
--- the text by the word of the last call
-module _ (word before args : List ℕ) {text out after : List ℕ} {at next : ℕ} where
-  pub all_appends : same word (ascii "all") ≡ true → Appends text out at after next → text ≡ before ++ (ascii ".where(not " ++ (args ++ ascii ")")) → Appends (by_word word before args) out at after next
+-- the text by the word of a call
+module _ (word before args : List ℕ) where
+  pub all_is : word ≡ ascii "all" → by_word word before args ≡ before ++ ascii ".where(not " ++ args ++ ascii ")"
   unfolding by_word
-  all_appends e h t = rw (e, ← t) h
+  all_is e = rw e (sym (simp append_assoc))
 
-  pub none_appends : same word (ascii "all") ≡ false → same word (ascii "none") ≡ true → Appends text out at after next → text ≡ before ++ (ascii ".where" ++ args) → Appends (by_word word before args) out at after next
+  pub none_is : word ≡ ascii "none" → by_word word before args ≡ before ++ ascii ".where" ++ args
   unfolding by_word
-  none_appends e f h t = rw (e, f, ← t) h
+  none_is e = rw e (sym (append_assoc before (ascii ".where") args))
 
-pub other_appends : (word before args : List ℕ) {out : List ℕ} {at : ℕ} → same word (ascii "all") ≡ false → same word (ascii "none") ≡ false → Appends (by_word word before args) out at out at
-unfolding by_word
-other_appends word before args e f = rw (e, f) appends_none
+  other : (text : List ℕ) → (word ≡ text → ⊥) → same word text ≡ false
+  other text h = whether (same word text) (λ t. absurd (h (same_eq word text t))) (λ f. f)
 
--- the whole text, by its three parts
-pub witness_appends : (rule tree : List ℕ) {word before args : List ℕ} {call : ℕ} {out after : List ℕ} {at next : ℕ} → call ≡ last_call tree
-    → word ≡ first_text IDENT (children_at rule tree call) → before ≡ bytes_between rule 0 (get_or tree (call + 2) 0) → args ≡ args_text rule tree call
-    → Appends (by_word word before args) out at after next → Appends (witness_text rule tree) out at after next
+  pub other_is : (word ≡ ascii "all" → ⊥) → (word ≡ ascii "none" → ⊥) → by_word word before args ≡ []
+  unfolding by_word
+  other_is f g = rw (other (ascii "all") f, other (ascii "none") g)
+
+-- the whole text, by its parts
+pub call_is : (rule tree : List ℕ) {word before args : List ℕ} (call : ℕ) → word ≡ first_text IDENT (children_at rule tree call)
+    → before ≡ bytes_between rule 0 (get_or tree (call + 2) 0) → args ≡ args_text rule tree call → by_word word before args ≡ call_text rule tree call
+unfolding call_text
+call_is rule tree call w b a = λ i. by_word (w i) (b i) (a i)
+
+pub witness_is : (rule tree : List ℕ) {found : Option ℕ} → found ≡ last_call tree → text_of rule tree found ≡ witness_text rule tree
 unfolding witness_text
-witness_appends rule tree {call = call} {out} {after} {at} {next} c w b a h =
-    subst (λ (text : List ℕ). Appends text out at after next)
-    ((λ i. by_word (w i) (b i) (a i))
-    ∙ ap (λ (call : ℕ). by_word (first_text IDENT (children_at rule tree call)) (bytes_between rule 0 (get_or tree (call + 2) 0)) (args_text rule tree call)) c) h
+witness_is rule tree e = ap (text_of rule tree) e
+
+-- a call past the table, where no row is, would have no text either
+pub past_table : (rule tree : List ℕ) → call_text rule tree (length tree) ≡ []
+unfolding call_text by_word first_text forest_from
+past_table rule tree =
+    let place = length tree + ROW in
+    let few : length (drop place tree) < ROW = omega (arith, length-drop place tree) in
+    rw (short_forest rule (level_at tree (length tree) + 1) (drop place tree) few)

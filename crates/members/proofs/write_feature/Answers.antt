@@ -1,8 +1,8 @@
 -- `write_feature` appends a feature's component, name, kind and direction. Assumes nothing.
-use Rattle.texts.proofs.AppendLaws.{appends_then}
+use Rattle.texts.proofs.AppendLaws.{wrote_then}
 use Rattle.members.specs.Member.{feature_text}
 use Rattle.members.proofs.write_feature.Goals as goal
 
 pub returns : goal.returns
 unfolding feature_text
-returns c = appends_then (appends_then (appends_then c.write_numbered-name.ensures (rw (c.string.ensures, c.field-string.ensures) at c.write_shown-port.ensures)) c.write_port-end.ensures) c.append.ensures
+returns c = wrote_then (wrote_then (wrote_then (rw c.from.ensures at c.write_numbered.ensures) (rw (c.string.ensures, c.field-name.ensures) at c.write_shown.ensures)) c.write_port.ensures) c.append.ensures

@@ -1,20 +1,14 @@
--- `shown_byte` gives `shown_byte`, test by test. Assumes nothing.
-use borrow.Author.Tests.{eq-eqb, ne_eqb, lt-ltb, le-ltb}
-use Rattle.texts.specs.Text.{TAB, shown_byte}
+-- `shown_byte` makes control characters blanks, but for the tab. Assumes nothing.
+use Rattle.std.proofs.Common.{arith}
+use Rattle.std.proofs.lemmas.Bool.Decides.{nat_tests}
+use Rattle.texts.specs.Text.{shown_byte}
 use Rattle.texts.proofs.shown_byte.Goals as goal
+use Rattle.texts.proofs.shown_byte.Goals.{else-is_ascii_control-via-then-is_ascii_control+else-b-ne9, else-is_ascii_control-via-else-is_ascii_control}
 
-pub returns-then-b-eq9 : goal.returns-then-b-eq9
+pub returns-then-b-ne9 : goal.returns-then-b-ne9
 unfolding shown_byte
-returns-then-b-eq9 c = rw (eq-eqb c.args.b TAB c.if-b-eq9.true)
+returns-then-b-ne9 c = grind (arith, nat_tests)
 
-pub returns-then-b-lt32 : goal.returns-then-b-lt32
+pub returns-else-is_ascii_control : goal.returns-else-is_ascii_control
 unfolding shown_byte
-returns-then-b-lt32 c = rw (ne_eqb _ _ c.if-b-eq9.false, lt-ltb _ _ c.if-b-lt32.true)
-
-pub returns-then-b-eq-DELETE : goal.returns-then-b-eq-DELETE
-unfolding shown_byte
-returns-then-b-eq-DELETE c = rw (ne_eqb _ _ c.if-b-eq9.false, le-ltb _ _ c.if-b-lt32.false, eq-eqb _ _ c.if-b-eq-DELETE.true)
-
-pub returns : goal.returns
-unfolding shown_byte
-returns c = rw (ne_eqb _ _ c.if-b-eq9.false, le-ltb _ _ c.if-b-lt32.false, ne_eqb _ _ c.if-b-eq-DELETE.false)
+returns-else-is_ascii_control c = grind (arith, nat_tests)

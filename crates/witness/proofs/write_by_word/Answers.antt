@@ -1,14 +1,22 @@
 -- `write_by_word` appends piece after piece. Assumes nothing.
-use Rattle.witness.proofs.WitnessLaws.{all_appends, none_appends, other_appends}
-use Rattle.texts.proofs.AppendLaws.{appends_then}
-use mathlib.Core.Path.{refl, sym, ◌∙◌}
+use Rattle.std.proofs.Common.{rules, ◌≡◌}
+use Rattle.syntax.specs.Text.{ascii}
+use Rattle.texts.proofs.AppendLaws.{wrote_then, wrote_none}
+use Rattle.witness.proofs.WitnessLaws.{all_is, none_is, other_is}
 use Rattle.witness.proofs.write_by_word.Goals as goal
 
-pub returns-then-same : goal.returns-then-same
-returns-then-same c = all_appends c.args.word.now c.args.before.now c.args.args.now (sym c.same.ensures ∙ c.if-same.true) (appends_then c.append-call.ensures (appends_then c.append-predicate.ensures (appends_then c.append-end.ensures c.append.ensures))) refl
+pub returns-then-eq : goal.returns-then-eq
+returns-then-eq c =
+    let e : c.args.word.now ≡ ascii "all" = search rules in
+    rw (all_is c.args.word.now c.args.before.now c.args.args.now e) (wrote_then (wrote_then (wrote_then c.append.ensures c.append-then-eq.ensures) c.append-then-eq-2.ensures) c.append-then-eq-3.ensures)
 
-pub returns-then-same-2 : goal.returns-then-same-2
-returns-then-same-2 c = none_appends c.args.word.now c.args.before.now c.args.args.now (sym c.same.ensures ∙ c.if-same.false) (sym c.same-2.ensures ∙ c.if-same-2.true) (appends_then c.append-call-then-same-2.ensures (appends_then c.append-predicate-then-same-2.ensures c.append-then-same-2.ensures)) refl
+pub returns-then-eq-2 : goal.returns-then-eq-2
+returns-then-eq-2 c =
+    let e : c.args.word.now ≡ ascii "none" = search rules in
+    rw (none_is c.args.word.now c.args.before.now c.args.args.now e) (wrote_then (wrote_then c.append-then-eq-2-2.ensures c.append-then-eq-2-3.ensures) c.append-then-eq-2-4.ensures)
 
-pub returns : goal.returns
-returns c = other_appends c.args.word.now c.args.before.now c.args.args.now (sym c.same.ensures ∙ c.if-same.false) (sym c.same-2.ensures ∙ c.if-same-2.false)
+pub returns-else-eq-2 : goal.returns-else-eq-2
+returns-else-eq-2 c =
+    let e : c.args.word.now ≡ ascii "all" → ⊥ = search rules in
+    let f : c.args.word.now ≡ ascii "none" → ⊥ = search rules in
+    rw (other_is c.args.word.now c.args.before.now c.args.args.now e f) wrote_none

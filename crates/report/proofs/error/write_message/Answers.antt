@@ -5,13 +5,13 @@ use Rattle.report.proofs.ErrorLaws.{fits, message_shown, message_long}
 use Rattle.report.proofs.error.write_message.Goals as goal
 
 pub slice_bounds-space-end : goal.slice_bounds-space-end
-slice_bounds-space-end c = (fits c.write_message.ensures c.in-Written.is).within
+slice_bounds-space-end c = (fits c.write_message.ensures c.in-Some.is).within
 
 pub slice_bounds-write_shown-end : goal.slice_bounds-write_shown-end
-slice_bounds-write_shown-end c = sym (length-take-le _ _ (fits c.write_message.ensures c.in-Written.is).within)
+slice_bounds-write_shown-end c = sym (length-take-le _ _ (fits c.write_message.ensures c.in-Some.is).within)
 
-pub returns-in-Written : goal.returns-in-Written
-returns-in-Written c = message_shown c.args.rule.now c.args.form c.args.expected c.args.first c.args.end refl c.write_message.ensures c.in-Written.is c.write_shown.ensures
+pub returns-in-Some : goal.returns-in-Some
+returns-in-Some c = message_shown c.args.rule.now c.args.row.form c.args.row.expected c.args.row.first c.args.row.end refl c.write_message.ensures c.in-Some.is c.write_shown.ensures
 
-pub returns-in-NoRoom : goal.returns-in-NoRoom
-returns-in-NoRoom c = message_long c.args.rule.now c.args.form c.args.expected c.args.first c.args.end refl c.write_message.ensures c.in-NoRoom.is c.append.ensures
+pub returns-in-None : goal.returns-in-None
+returns-in-None c = message_long c.args.rule.now c.args.row.form c.args.row.expected c.args.row.first c.args.row.end refl c.write_message.ensures c.in-None.is c.append.ensures

@@ -1,6 +1,6 @@
 -- `write_mark` appends five texts. Assumes nothing.
-use Rattle.texts.proofs.AppendLaws.{appends_then}
+use Rattle.texts.proofs.AppendLaws.{wrote_then}
 use Rattle.texts.proofs.place.write_mark.Goals as goal
 
 pub returns : goal.returns
-returns c = appends_then (appends_then (appends_then (appends_then c.append-first.ensures c.write_columns-caret.ensures) c.append-rest.ensures) c.write_columns-last.ensures) c.append.ensures
+returns c = wrote_then (wrote_then (wrote_then (wrote_then c.append.ensures c.write_columns.ensures) c.append-2.ensures) c.write_columns-2.ensures) c.append-3.ensures
