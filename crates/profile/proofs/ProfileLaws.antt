@@ -17,24 +17,23 @@ use Rattle.instance.proofs.InstanceLaws.{connected_with_owner}
 use Rattle.predicate.specs.declared.atom.Member.{Member}
 use Rattle.predicate.specs.declared.atom.Member.TheVariants.{Component, Feature, Diagnostic}
 use Rattle.predicate.specs.Truth.{field_of, connected, has, compares, message_contains, Sort, binary, unary, paren, ident, call, containing, compare, other, sort_of, settle}
-use Rattle.profile.specs.declared.Profile.{Profile}
-use Rattle.profile.specs.declared.Profile.TheVariants.{Number, Unknown}
+use Rattle.std.specs.Prelude.{Option, None, Some}
 use Rattle.profile.specs.Profile.{CATEGORIES, FEATURE_KINDS, DIRECTIONS, SEVERITIES, FIRST_OF_FEATURES, FIRST_OF_DIAGNOSTICS, PROFILES, WIRING, WIRING_OF_FEATURES, CATEGORY, KIND, DIRECTION, holds, held_part, numbered, of_component, of_feature, of_diagnostic, wired_in, component_profile, owned_profile, profile_of, wiring_held, asks_wiring, asks_more, asks_part, asks_of_feature, asks_field}
 
 -- the profile of a diagnostic always holds its severity
-pub diagnostic_profile : (image : List ℕ) (held d : ℕ) {r : Profile} → r ≡ of_diagnostic (severity image d) → r ≡ profile_of image held (Diagnostic d)
+pub diagnostic_profile : (image : List ℕ) (held d : ℕ) {r : Option ℕ} → r ≡ of_diagnostic (severity image d) → r ≡ profile_of image held (Diagnostic d)
 unfolding profile_of
 diagnostic_profile image held d h = h
 
 -- that of a feature by its owner's
-pub feature_owned : (image : List ℕ) (held c f : ℕ) {owner r : Profile} → owner ≡ profile_of image held (Component c) → r ≡ owned_profile image held owner f
+pub feature_owned : (image : List ℕ) (held c f : ℕ) {owner r : Option ℕ} → owner ≡ profile_of image held (Component c) → r ≡ owned_profile image held owner f
     → r ≡ profile_of image held (Feature c f)
 unfolding profile_of
-feature_owned image held c f e h = h ∙ ap (λ (o : Profile). owned_profile image held o f) e
+feature_owned image held c f e h = h ∙ ap (λ (o : Option ℕ). owned_profile image held o f) e
 
 -- ---- what a number says of the fields
 
-told : (b : Bool) (n k : ℕ) → numbered b n ≡ Number k → (b ≡ true) × (n ≡ k)
+told : (b : Bool) (n k : ℕ) → numbered b n ≡ Some k → (b ≡ true) × (n ≡ k)
 told true n k h = (refl, cc)
 told false n k h =
     let z : ◌≡◌ {A = ℕ} 0 1 = cc in
@@ -45,23 +44,23 @@ record ComponentIs (category : ℕ) (connected : Bool) (k : ℕ) : Type 0 where
   small : category < CATEGORIES
   is : 2 * category + cond connected 1 0 ≡ k
 
-component_is : (category : ℕ) (connected : Bool) (k : ℕ) → of_component category connected ≡ Number k → ComponentIs category connected k
+component_is : (category : ℕ) (connected : Bool) (k : ℕ) → of_component category connected ≡ Some k → ComponentIs category connected k
 unfolding of_component
 component_is category connected k h =
     let t = told (ltb category CATEGORIES) (2 * category + cond connected 1 0) k h in
     record { small = ltb-true category CATEGORIES t.0; is = t.1 }
 
-record FeatureIs (owner : Profile) (kind direction k : ℕ) : Type 0 where
+record FeatureIs (owner : Option ℕ) (kind direction k : ℕ) : Type 0 where
   number : ℕ
-  owner_is : owner ≡ Number number
+  owner_is : owner ≡ Some number
   small : number < FIRST_OF_FEATURES
   few_kinds : kind < FEATURE_KINDS
   few_directions : direction < DIRECTIONS
   is : FIRST_OF_FEATURES + ((number * FEATURE_KINDS + kind) * DIRECTIONS + direction) ≡ k
 
-feature_is_lem : (owner : Profile) (kind direction k : ℕ) → of_feature owner kind direction ≡ Number k → FeatureIs owner kind direction k
+feature_is_lem : (owner : Option ℕ) (kind direction k : ℕ) → of_feature owner kind direction ≡ Some k → FeatureIs owner kind direction k
 unfolding of_feature
-feature_is_lem (Number n) kind direction k h =
+feature_is_lem (Some n) kind direction k h =
     let t = told (ltb n FIRST_OF_FEATURES && (ltb kind FEATURE_KINDS && ltb direction DIRECTIONS)) (FIRST_OF_FEATURES + ((n * FEATURE_KINDS + kind) * DIRECTIONS + direction)) k h in
     let a = both (ltb n FIRST_OF_FEATURES) (ltb kind FEATURE_KINDS && ltb direction DIRECTIONS) t.0 in
     let b = both (ltb kind FEATURE_KINDS) (ltb direction DIRECTIONS) a.1 in
@@ -73,7 +72,7 @@ feature_is_lem (Number n) kind direction k h =
       few_directions = ltb-true direction DIRECTIONS b.1;
       is = t.1;
     }
-feature_is_lem Unknown kind direction k h =
+feature_is_lem None kind direction k h =
     let z : ◌≡◌ {A = ℕ} 0 1 = cc in
     absurd (omega arith)
 
@@ -81,7 +80,7 @@ record DiagnosticIs (severity k : ℕ) : Type 0 where
   small : severity < SEVERITIES
   is : FIRST_OF_DIAGNOSTICS + severity ≡ k
 
-diagnostic_is : (severity k : ℕ) → of_diagnostic severity ≡ Number k → DiagnosticIs severity k
+diagnostic_is : (severity k : ℕ) → of_diagnostic severity ≡ Some k → DiagnosticIs severity k
 unfolding of_diagnostic
 diagnostic_is severity k h =
     let t = told (ltb severity SEVERITIES) (FIRST_OF_DIAGNOSTICS + severity) k h in
@@ -103,7 +102,7 @@ kind_held image held f = held_part held KIND (feature_kind image f)
 abbrev direction_held : List ℕ → ℕ → ℕ → ℕ
 direction_held image held f = held_part held DIRECTION (direction image f)
 
-in_range : (image : List ℕ) (held : ℕ) (m : Member) (k : ℕ) → profile_of image held m ≡ Number k → InRange m k
+in_range : (image : List ℕ) (held : ℕ) (m : Member) (k : ℕ) → profile_of image held m ≡ Some k → InRange m k
 unfolding profile_of component_profile owned_profile
 in_range image held (Component c) k h =
     let i = component_is (category_held image held c) (wired_in image held c) k h in
@@ -116,7 +115,7 @@ in_range image held (Diagnostic d) k h =
     (omega (arith, i.is), omega (arith, i.small, i.is))
 
 -- all are below how many there are
-pub profile_small : (image : List ℕ) (held : ℕ) (m : Member) (k : ℕ) → profile_of image held m ≡ Number k → k < PROFILES
+pub profile_small : (image : List ℕ) (held : ℕ) (m : Member) (k : ℕ) → profile_of image held m ≡ Some k → k < PROFILES
 profile_small image held (Component c) k h = omega (arith, in_range image held (Component c) k h)
 profile_small image held (Feature c f) k h = omega (arith, (in_range image held (Feature c f) k h).1)
 profile_small image held (Diagnostic d) k h = (in_range image held (Diagnostic d) k h).1
@@ -134,7 +133,7 @@ record SameOwner (image : List ℕ) (held c d : ℕ) : Type 0 where
   sort : category_held image held c ≡ category_held image held d
   wired : wired_in image held c ≡ wired_in image held d
 
-same_owner : (image : List ℕ) (held c d k : ℕ) → component_profile image held c ≡ Number k → component_profile image held d ≡ Number k → SameOwner image held c d
+same_owner : (image : List ℕ) (held c d k : ℕ) → component_profile image held c ≡ Some k → component_profile image held d ≡ Some k → SameOwner image held c d
 unfolding component_profile
 same_owner image held c d k h g =
     let i = component_is (category_held image held c) (wired_in image held c) k h in
@@ -147,7 +146,7 @@ same_owner image held c d k h g =
     }
 
 module _ (image : List ℕ) (held : ℕ) where
-  pub same_profile : (m n : Member) (k : ℕ) → profile_of image held m ≡ Number k → profile_of image held n ≡ Number k → Alike image held m n
+  pub same_profile : (m n : Member) (k : ℕ) → profile_of image held m ≡ Some k → profile_of image held n ≡ Some k → Alike image held m n
   unfolding profile_of owned_profile
   same_profile (Component c) (Component d) k h g =
       let o = same_owner image held c d k h g in
@@ -156,7 +155,7 @@ module _ (image : List ℕ) (held : ℕ) where
       let i = feature_is_lem (component_profile image held c) (kind_held image held f) (direction_held image held f) k h in
       let j = feature_is_lem (component_profile image held d) (kind_held image held e) (direction_held image held e) k g in
       let n : j.number ≡ i.number = omega (arith, i.is, j.is) in
-      let o = same_owner image held c d i.number i.owner_is (j.owner_is ∙ ap Number n) in
+      let o = same_owner image held c d i.number i.owner_is (j.owner_is ∙ ap Some n) in
       features {c = c} {f = f} {d = d} {g = e} o.sort o.wired (omega (arith, i.is, j.is)) (omega (arith, i.is, j.is))
   same_profile (Diagnostic c) (Diagnostic d) k h g =
       diagnostics {c = c} {d = d} (omega (arith, (diagnostic_is (severity image c) k h).is, (diagnostic_is (severity image d) k g).is))

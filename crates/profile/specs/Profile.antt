@@ -1,6 +1,6 @@
 -- Members that are alike: the profile of a member, which is all of it that most predicates ask for, and which nodes of a predicate ask for
 -- more. Assumes nothing: these are definitions.
-use Rattle.std.specs.Prelude.{ℕ, ◌+◌, ◌*◌, ◌/◌, ◌%◌, Bool, true, false, not, ◌&&◌, ◌||◌, cond, List, eqb, ltb}
+use Rattle.std.specs.Prelude.{ℕ, ◌+◌, ◌*◌, ◌/◌, ◌%◌, Bool, true, false, not, ◌&&◌, ◌||◌, cond, List, eqb, ltb, Option, None, Some}
 use Rattle.syntax.specs.Kind.{CALL_EXPR, IDENT_EXPR, CONTAINS_EXPR}
 use Rattle.syntax.specs.Text.{ascii, same}
 use Rattle.board.specs.Image.{category, feature_kind, direction, severity}
@@ -8,8 +8,6 @@ pub use Rattle.board.specs.Check.{CATEGORIES, FEATURE_KINDS, DIRECTIONS, SEVERIT
 use Rattle.instance.specs.Instance.{component_connected}
 use Rattle.predicate.specs.declared.atom.Member.{Member}
 use Rattle.predicate.specs.declared.atom.Member.TheVariants.{Component, Feature, Diagnostic}
-use Rattle.profile.specs.declared.Profile.{Profile}
-use Rattle.profile.specs.declared.Profile.TheVariants.{Number, Unknown}
 
 -- the first profile of a feature, after two for each category; the first of a diagnostic, after one for each of a component, each kind and
 -- each direction; how many there are in all
@@ -23,23 +21,23 @@ abbrev pub PROFILES : ℕ
 PROFILES = 1151
 
 -- a number where the fields have such values
-abbrev pub numbered : Bool → ℕ → Profile
-numbered true n = Number n
-numbered false n = Unknown
+abbrev pub numbered : Bool → ℕ → Option ℕ
+numbered true n = Some n
+numbered false n = None
 
 -- the profile of a component: its category, and whether it is connected
-unfoldable pub of_component : ℕ → Bool → Profile
+unfoldable pub of_component : ℕ → Bool → Option ℕ
 of_component category connected = numbered (ltb category CATEGORIES) (2 * category + cond connected 1 0)
 
 -- of a feature: the profile of its owner, its kind and its direction
-unfoldable pub of_feature : Profile → ℕ → ℕ → Profile
-of_feature (Number k) kind direction =
+unfoldable pub of_feature : Option ℕ → ℕ → ℕ → Option ℕ
+of_feature (Some k) kind direction =
     numbered (ltb k FIRST_OF_FEATURES && (ltb kind FEATURE_KINDS && ltb direction DIRECTIONS))
     (FIRST_OF_FEATURES + ((k * FEATURE_KINDS + kind) * DIRECTIONS + direction))
-of_feature Unknown kind direction = Unknown
+of_feature None kind direction = None
 
 -- of a diagnostic: its severity
-unfoldable pub of_diagnostic : ℕ → Profile
+unfoldable pub of_diagnostic : ℕ → Option ℕ
 of_diagnostic severity = numbered (ltb severity SEVERITIES) (FIRST_OF_DIAGNOSTICS + severity)
 
 -- what profiles hold of components and features, as a sum of these: whether a component is connected; by that, whether its features are; a
@@ -71,15 +69,15 @@ held_part held part field = cond (holds held part) field 0
 unfoldable pub wired_in : List ℕ → ℕ → ℕ → Bool
 wired_in image held c = holds held WIRING && component_connected image c
 
-unfoldable pub component_profile : List ℕ → ℕ → ℕ → Profile
+unfoldable pub component_profile : List ℕ → ℕ → ℕ → Option ℕ
 unfolding of_component wired_in held_part
 component_profile image held c = of_component (held_part held CATEGORY (category image c)) (wired_in image held c)
 
-unfoldable pub owned_profile : List ℕ → ℕ → Profile → ℕ → Profile
+unfoldable pub owned_profile : List ℕ → ℕ → Option ℕ → ℕ → Option ℕ
 unfolding of_feature held_part
 owned_profile image held owner f = of_feature owner (held_part held KIND (feature_kind image f)) (held_part held DIRECTION (direction image f))
 
-unfoldable pub profile_of : List ℕ → ℕ → Member → Profile
+unfoldable pub profile_of : List ℕ → ℕ → Member → Option ℕ
 unfolding component_profile owned_profile of_diagnostic
 profile_of image held (Component c) = component_profile image held c
 profile_of image held (Feature c f) = owned_profile image held (component_profile image held c) f

@@ -10,7 +10,7 @@ use board::image;
 use board::image::Section;
 use instance;
 use predicate::atom::Member;
-use syntax::{kind, text};
+use syntax::kind;
 
 // The first profiles of features and of diagnostics, after those of components, and how many there are in all.
 pub const FIRST_OF_FEATURES: usize = 28;
@@ -19,15 +19,9 @@ pub const FIRST_OF_DIAGNOSTICS: usize = 1148;
 
 pub const PROFILES: usize = 1151;
 
-// The profile of a member; unknown where one of its fields has no such value.
-#[derive(Clone, Copy)]
-pub enum Profile {
-    Number(usize),
-    Unknown,
-}
-
 // What profiles hold of components and features, as a sum of these: whether a component is connected; by that, whether its features are;
-// a component's category; a feature's kind and direction.
+// a component's category; a feature's kind and direction. They are a sum since who evaluates keeps them in one byte of a lent table: a struct
+// would be made anew from that byte for each member.
 pub const WIRING: u8 = 1;
 
 pub const WIRING_OF_FEATURES: u8 = 2;
@@ -39,6 +33,7 @@ pub const KIND: u8 = 8;
 pub const DIRECTION: u8 = 16;
 
 // Whether a part is in the sum.
+#[tactic(auto, unfolding(crate::specs::Profile::holds))]
 fn holds(held: u8, part: u8) -> bool
     requires { 0 < part }
     ensures { result ≡ holds held part }
@@ -46,8 +41,9 @@ fn holds(held: u8, part: u8) -> bool
     held / part % 2 == 1
 }
 
-// The profile of a member of a board, with what is held.
-pub fn profile_of(image: &[u8], held: u8, member: Member) -> Profile
+// The profile of a member of a board, with what is held; none where one of its fields has no such value.
+#[tactic(auto, unfolding(crate::specs::Profile::profile_of))]
+pub fn profile_of(image: &[u8], held: u8, member: Member) -> Option<usize>
     ensures { result ≡ profile_of image.now held member }
 {
     match member {
@@ -58,7 +54,8 @@ pub fn profile_of(image: &[u8], held: u8, member: Member) -> Profile
 }
 
 // That of a component.
-pub fn component_profile(image: &[u8], held: u8, component: u32) -> Profile
+#[tactic(auto, unfolding(crate::specs::Profile::profile_of, crate::specs::Profile::component_profile))]
+pub fn component_profile(image: &[u8], held: u8, component: u32) -> Option<usize>
     ensures { result ≡ profile_of image.now held (Member.Component component) }
 {
     let category = held_field(
@@ -73,7 +70,7 @@ pub fn component_profile(image: &[u8], held: u8, component: u32) -> Profile
 }
 
 // That of a feature, by its owner's.
-pub fn feature_profile(image: &[u8], held: u8, component: u32, feature: u32) -> Profile
+pub fn feature_profile(image: &[u8], held: u8, component: u32, feature: u32) -> Option<usize>
     ensures { result ≡ profile_of image.now held (Member.Feature component feature) }
 {
     let owner = component_profile(image, held, component);
@@ -81,7 +78,8 @@ pub fn feature_profile(image: &[u8], held: u8, component: u32, feature: u32) -> 
 }
 
 // The same where its owner's is at hand.
-pub fn owned_profile(image: &[u8], held: u8, owner: Profile, feature: u32) -> Profile
+#[tactic(auto, unfolding(crate::specs::Profile::owned_profile))]
+pub fn owned_profile(image: &[u8], held: u8, owner: Option<usize>, feature: u32) -> Option<usize>
     ensures { result ≡ owned_profile image.now held owner feature }
 {
     let kind = held_field(
@@ -104,78 +102,71 @@ pub fn owned_profile(image: &[u8], held: u8, owner: Profile, feature: u32) -> Pr
 }
 
 // A number of a record where this part is held, else 0.
+#[tactic(auto, unfolding(crate::specs::Profile::held_part))]
 fn held_field(image: &[u8], held: u8, part: u8, section: Section, index: u32, number: u32) -> u32
     requires { 0 < part }
     ensures { result ≡ held_part held part (field image.now section index number) }
 {
     if holds(held, part) {
-        return image::field(image, section, index, number);
+        image::field(image, section, index, number)
+    } else {
+        0
     }
-    0
 }
 
 // Whether a component is connected, where that is held.
+#[tactic(auto, unfolding(crate::specs::Profile::wired_in))]
 fn is_wired(image: &[u8], held: u8, component: u32) -> bool
     ensures { result ≡ wired_in image.now held component }
 {
-    if holds(held, WIRING) {
-        return instance::component_connected(image, component);
-    }
-    false
+    holds(held, WIRING) && instance::component_connected(image, component)
 }
 
 // That of a diagnostic, which always holds its severity.
-pub fn diagnostic_profile(image: &[u8], diagnostic: u32) -> Profile
+pub fn diagnostic_profile(image: &[u8], diagnostic: u32) -> Option<usize>
     ensures { result ≡ of_diagnostic (severity image.now diagnostic) }
 {
     of_diagnostic(image::field(image, Section::Diagnostics, diagnostic, image::SEVERITY))
 }
 
 // The profile by a component's category and whether it is connected.
-fn of_component(category: u32, connected: bool) -> Profile
+#[tactic(auto, unfolding(crate::specs::Profile::of_component))]
+fn of_component(category: u32, connected: bool) -> Option<usize>
     ensures { result ≡ of_component category connected }
 {
     if board::CATEGORIES <= category {
-        return Profile::Unknown;
+        return None;
     }
-    if connected {
-        return Profile::Number(2 * (category as usize) + 1);
-    }
-    Profile::Number(2 * (category as usize))
+    Some(2 * category as usize + usize::from(connected))
 }
 
 // By the profile of a feature's owner, its kind and its direction.
-fn of_feature(owner: Profile, kind: u32, direction: u32) -> Profile
+#[tactic(auto, unfolding(crate::specs::Profile::of_feature))]
+fn of_feature(owner: Option<usize>, kind: u32, direction: u32) -> Option<usize>
     ensures { result ≡ of_feature owner kind direction }
 {
-    let Profile::Number(k) = owner else {
-        return Profile::Unknown;
-    };
-    if FIRST_OF_FEATURES <= k {
-        return Profile::Unknown;
+    let k = owner?;
+    if FIRST_OF_FEATURES <= k || board::FEATURE_KINDS <= kind || board::DIRECTIONS <= direction {
+        return None;
     }
-    if board::FEATURE_KINDS <= kind {
-        return Profile::Unknown;
-    }
-    if board::DIRECTIONS <= direction {
-        return Profile::Unknown;
-    }
-    let kinds = k * (board::FEATURE_KINDS as usize) + kind as usize;
-    Profile::Number(FIRST_OF_FEATURES + (kinds * (board::DIRECTIONS as usize) + direction as usize))
+    let kinds = k * board::FEATURE_KINDS as usize + kind as usize;
+    Some(FIRST_OF_FEATURES + (kinds * board::DIRECTIONS as usize + direction as usize))
 }
 
 // By a diagnostic's severity.
-fn of_diagnostic(severity: u32) -> Profile
+#[tactic(auto, unfolding(crate::specs::Profile::of_diagnostic))]
+fn of_diagnostic(severity: u32) -> Option<usize>
     ensures { result ≡ of_diagnostic severity }
 {
     if board::SEVERITIES <= severity {
-        return Profile::Unknown;
+        return None;
     }
-    Profile::Number(FIRST_OF_DIAGNOSTICS + severity as usize)
+    Some(FIRST_OF_DIAGNOSTICS + severity as usize)
 }
 
 // Whether a node of a kind that compares no field asks for more than the profile of a member: `has` of a component and of a feature,
 // `connected` where that is not held, `message.contains` of a diagnostic.
+#[tactic(auto, unfolding(crate::specs::Profile::asks_more))]
 pub fn asks_more(member: Member, held: u8, kind: u32) -> bool
     ensures { result ≡ asks_more member held kind }
 {
@@ -187,32 +178,27 @@ pub fn asks_more(member: Member, held: u8, kind: u32) -> bool
 }
 
 // Whether it is `has`, or `connected` where that is not held.
+#[tactic(auto, unfolding(crate::specs::Profile::asks_wiring))]
 fn asks_wiring(held: u8, features: bool, kind: u32) -> bool
     ensures { result ≡ asks_wiring held features kind }
 {
-    if kind == kind::CALL_EXPR {
-        return true;
+    match kind {
+        kind::CALL_EXPR => true,
+        kind::IDENT_EXPR => !wiring_held(held, features),
+        _ => false,
     }
-    if kind == kind::IDENT_EXPR {
-        return !wiring_held(held, features);
-    }
-    false
 }
 
 // Whether `connected` is held of components, or of features.
+#[tactic(auto, unfolding(crate::specs::Profile::wiring_held))]
 fn wiring_held(held: u8, features: bool) -> bool
     ensures { result ≡ wiring_held held features }
 {
-    if holds(held, WIRING) {
-        if features {
-            return holds(held, WIRING_OF_FEATURES);
-        }
-        return true;
-    }
-    false
+    holds(held, WIRING) && (!features || holds(held, WIRING_OF_FEATURES))
 }
 
 // Whether a node that compares a field asks for more: for one that the member has and that is not held.
+#[tactic(auto, unfolding(crate::specs::Profile::asks_field))]
 pub fn asks_field(member: Member, held: u8, field: &[u8]) -> bool
     ensures { result ≡ asks_field member held field.now }
 {
@@ -224,25 +210,20 @@ pub fn asks_field(member: Member, held: u8, field: &[u8]) -> bool
 }
 
 // Of a feature, whose category is its owner's.
+#[tactic(auto, unfolding(crate::specs::Profile::asks_of_feature))]
 fn asks_of_feature(held: u8, field: &[u8]) -> bool
     ensures { result ≡ asks_of_feature held field.now }
 {
-    if asks_part(held, KIND, field, b"kind") {
-        return true;
-    }
-    if asks_part(held, DIRECTION, field, b"direction") {
-        return true;
-    }
-    asks_part(held, CATEGORY, field, b"category")
+    asks_part(held, KIND, field, b"kind")
+        || asks_part(held, DIRECTION, field, b"direction")
+        || asks_part(held, CATEGORY, field, b"category")
 }
 
 // Whether a field is this one, and it is not held.
+#[tactic(auto, using(matching::proofs::WordLaws::pointwise_same), unfolding(crate::specs::Profile::asks_part))]
 fn asks_part(held: u8, part: u8, field: &[u8], name: &[u8]) -> bool
     requires { 0 < part }
     ensures { result ≡ asks_part held part field.now name.now }
 {
-    if holds(held, part) {
-        return false;
-    }
-    text::same(field, name)
+    !holds(held, part) && field == name
 }
