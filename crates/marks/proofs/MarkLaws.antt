@@ -8,14 +8,13 @@ use native.Mathlib.Nat.{sub-zero}
 use native.Mathlib.Numerals.{add-one}
 use native.Mathlib.Omega.{arith}
 use borrow.Author.Tests.{eq-eqb, ne_eqb, lt-ltb, le-ltb, eqb-true, eqb-false, ltb-true, ltb-false, not-true, not-false}
-use borrow.Author.Count.{below_more}
 use lib.Dec.{eqb, ltb}
 use lib.ListN.{length, get_or, take, drop, set, replicate, length-set, length-drop, length-replicate, get_or-replicate}
 use lib.Seq.{take_all, set_out, get_or-set_same, get_or-set_other, ext_get_or}
 use Rattle.syntax.specs.Text.{ascii, same}
 use Rattle.syntax.proofs.BoolLaws.{whether}
 use Rattle.board.specs.Image.{text, component_count, property_count, property_component, property_set, property_name}
-use Rattle.matching.specs.declared.search.Found.{Found}
+use Rattle.std.specs.Prelude.{Option, None, Some}
 use Rattle.matching.specs.Search.{find, set_before, name_after, property_set_of, property_name_of}
 use Rattle.instance.specs.Instance.{some, is_property, has_property, has_feature}
 use Rattle.marks.specs.Marks.{mark_of, is_named, property_marks, marked, marks_of, feature_mark, feature_marks, featured, mark_by}
@@ -42,31 +41,6 @@ unfolding marks_of
 marks_at image value n c h =
     marks_from image (property_set_of value) (property_name_of value) 0 n c h
     ∙ ap (λ (c : ℕ). mark_of (has_property image c (property_set_of value) (property_name_of value))) (omega arith)
-
--- ---- marks set to 0
-
--- those up to a place are 0
-pub record Clearing (before marks : List ℕ) (i : ℕ) : Type 0 where
-  pub within : i ≤ length before
-  pub long : length marks ≡ length before
-  pub clear : (c : ℕ) → c < i → get_or marks c 0 ≡ 0
-
-pub clearing_start : (before : List ℕ) → Clearing before before 0
-clearing_start before = record { within = omega arith; long = refl; clear = λ c h. absurd (omega arith) }
-
-module _ {before marks : List ℕ} {i : ℕ} (p : Clearing before marks i) where
-  pub clearing_on : i < length marks → Clearing before (set marks i 0) (i + 1)
-  clearing_on h =
-      record {
-        within = omega (arith, p.long);
-        long = length-set marks i 0 ∙ p.long;
-        clear = below_more _ i (λ c l. get_or-set_other marks i c 0 0 (λ e. omega arith) ∙ p.clear c l) (get_or-set_same marks i 0 0 h);
-      }
-
-  pub clearing_end : length marks ≤ i → marks ≡ replicate (length before) 0
-  clearing_end h =
-      ext_get_or 0 marks (replicate (length before) 0) (p.long ∙ sym (length-replicate (length before) 0))
-      (λ c l. p.clear c (omega arith) ∙ sym (get_or-replicate (length before) c 0 0 (omega (arith, p.long))))
 
 -- ---- properties looked at
 
@@ -176,14 +150,14 @@ module _ (image set_name name : List ℕ) (property : ℕ) (marks : List ℕ) {r
 -- ---- a text, parted where `::` was found, whole where it was not
 
 module _ (image value : List ℕ) (n : ℕ) where
-  by_found : {f : Found} → find (ascii "::") value ≡ f → property_marks image (set_before f value) (name_after f value) 0 n ≡ marks_of image value n
+  by_found : {f : Option ℕ} → find (ascii "::") value ≡ f → property_marks image (set_before f value) (name_after f value) 0 n ≡ marks_of image value n
   unfolding marks_of property_set_of property_name_of
-  by_found e = sym (ap (λ (f : Found). property_marks image (set_before f value) (name_after f value) 0 n) e)
+  by_found e = sym (ap (λ (f : Option ℕ). property_marks image (set_before f value) (name_after f value) 0 n) e)
 
-  pub marks_whole : find (ascii "::") value ≡ Found.Absent → property_marks image [] value 0 n ≡ marks_of image value n
+  pub marks_whole : find (ascii "::") value ≡ None → property_marks image [] value 0 n ≡ marks_of image value n
   marks_whole e = by_found e
 
-  pub marks_parted : {at : ℕ} → find (ascii "::") value ≡ Found.At at
+  pub marks_parted : {at : ℕ} → find (ascii "::") value ≡ Some at
       → property_marks image (take at value) (take (length value - (at + 2)) (drop (at + 2) value)) 0 n ≡ marks_of image value n
   marks_parted {at} e =
       ap (λ (name : List ℕ). property_marks image (take at value) name 0 n) (take_all (length value - (at + 2)) (drop (at + 2) value) (omega (arith, length-drop (at + 2) value)))

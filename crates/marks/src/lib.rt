@@ -2,7 +2,7 @@
 // `instance::has_property` takes one for each component. Any image, text and slice of marks is taken.
 #![tactic(auto)]
 
-ghost use Rattle.std.specs.Prelude.{◌≡◌, length, replicate};
+ghost use Rattle.std.specs.Prelude.{◌≡◌, length};
 ghost use Rattle.board.specs.Image.{component_count};
 ghost use Rattle.marks.specs.Marks.{is_named, property_marks, marked, marks_of, featured, feature_marks};
 
@@ -10,8 +10,6 @@ use board::image;
 use board::image::Section;
 use instance;
 use matching::search;
-use matching::search::Found;
-use syntax::text;
 
 // The mark of a component that has the property, and of another that has the feature.
 const OF_PROPERTY: u8 = 1;
@@ -22,13 +20,10 @@ const OF_FEATURE: u8 = 2;
 pub fn mark_properties(image: &[u8], value: &[u8], marks: &mut [u8])
     ensures { marks.new ≡ marks_of image.now value.now (length marks.old) }
 {
-    let found = search::find(value, b"::");
-    let Found::At(at) = found else {
-        mark_named(image, b"", value, marks);
-        return;
-    };
-    let past = at + 2;
-    mark_named(image, &value[..at], &value[past..], marks);
+    match search::find(value, b"::") {
+        Some(at) => mark_named(image, &value[..at], &value[at + 2..], marks),
+        None => mark_named(image, b"", value, marks),
+    }
 }
 
 // Marks the components that have no mark yet and have a feature of this name.
@@ -36,10 +31,8 @@ pub fn mark_features(image: &[u8], name: &[u8], marks: &mut [u8])
     ensures { marks.new ≡ feature_marks image.now name.now (component_count image.now) 0 marks.old }
 {
     let count = image::record_count(image, Section::Components);
-    let mut component = 0;
-    while component < count {
+    for component in 0..count {
         mark_feature(image, name, component, marks);
-        component += 1;
     }
 }
 
@@ -63,23 +56,10 @@ fn mark_feature(image: &[u8], name: &[u8], component: u32, marks: &mut [u8])
 fn mark_named(image: &[u8], set: &[u8], name: &[u8], marks: &mut [u8])
     ensures { marks.new ≡ property_marks image.now set.now name.now 0 (length marks.old) }
 {
-    clear(marks);
+    marks.fill(0);
     let count = image::record_count(image, Section::Properties);
-    let mut n = 0;
-    while n < count {
+    for n in 0..count {
         mark_owner(image, set, name, n, marks);
-        n += 1;
-    }
-}
-
-// Sets all marks to 0.
-fn clear(marks: &mut [u8])
-    ensures { marks.new ≡ replicate (length marks.old) 0 }
-{
-    let mut i = 0;
-    while i < marks.len() {
-        marks[i] = 0;
-        i += 1;
     }
 }
 
@@ -102,13 +82,14 @@ fn mark_owner(image: &[u8], set: &[u8], name: &[u8], property: u32, marks: &mut 
 }
 
 // Whether a property is of this set and name.
+#[tactic(auto, using(matching::proofs::WordLaws::pointwise_same), unfolding(crate::specs::Marks::is_named))]
 fn is_named(image: &[u8], set: &[u8], name: &[u8], property: u32) -> bool
     ensures { result ≡ is_named image.now set.now name.now property }
 {
     let set_number = image::field(image, Section::Properties, property, image::PROPERTY_SET);
-    if !text::same(image::string(image, set_number), set) {
+    if image::string(image, set_number) != set {
         return false;
     }
     let name_number = image::field(image, Section::Properties, property, image::PROPERTY_NAME);
-    text::same(image::string(image, name_number), name)
+    image::string(image, name_number) == name
 }

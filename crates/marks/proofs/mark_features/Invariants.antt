@@ -1,10 +1,6 @@
 -- `mark_features` gives `feature_marks`, component by component. Assumes nothing.
-use Prim.Native.Nat.{◌-◌}
 use Rattle.marks.proofs.MarkLaws.{Featuring}
 use Rattle.marks.proofs.mark_features.Given as goal
 
 abbrev pub invariant-loop-component : goal.invariant-loop-component
 invariant-loop-component l = Featuring l.image l.name l.initial.marks l.count l.component l.marks
-
-abbrev pub decreases-loop-component : goal.decreases-loop-component
-decreases-loop-component l = l.count - l.component

@@ -1,11 +1,7 @@
 -- `mark_named` gives `property_marks`: all marks are cleared, then properties are looked at one by one. Assumes nothing.
-use Prim.Native.Nat.{◌-◌}
 use lib.ListN.{length}
 use Rattle.marks.proofs.MarkLaws.{Marking}
 use Rattle.marks.proofs.mark_named.Given as goal
 
 abbrev pub invariant-loop-n : goal.invariant-loop-n
 invariant-loop-n l = Marking l.image l.set l.name (length l.initial.marks) l.count l.n l.marks
-
-abbrev pub decreases-loop-n : goal.decreases-loop-n
-decreases-loop-n l = l.count - l.n
