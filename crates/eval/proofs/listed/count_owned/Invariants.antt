@@ -5,6 +5,3 @@ use Rattle.eval.proofs.listed.count_owned.Given as goal
 
 abbrev pub invariant-loop-component : goal.invariant-loop-component
 invariant-loop-component l = Counting l.image l.component l.count l.features
-
-abbrev pub decreases-loop-component : goal.decreases-loop-component
-decreases-loop-component l = l.count - l.component

@@ -7,6 +7,3 @@ use Rattle.eval.proofs.listed.list_owned.Given as goal
 abbrev pub invariant-loop-component : goal.invariant-loop-component
 invariant-loop-component l =
     Listing (every_feature l.image) 0 l.initial.collection (features_from l.image l.component l.count) l.row l.collection
-
-abbrev pub decreases-loop-component : goal.decreases-loop-component
-decreases-loop-component l = l.count - l.component

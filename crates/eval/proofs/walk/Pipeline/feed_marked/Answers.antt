@@ -1,0 +1,11 @@
+-- `feed_marked` makes marks, and sends every component with the memo's front that holds them. Assumes nothing.
+use mathlib.Core.Path.{sym}
+use native.Mathlib.Omega.{arith}
+use lib.ListN.{length-set}
+use Rattle.eval.proofs.MemoLaws.{front_length, notes_front}
+use Rattle.eval.proofs.SentLaws.{begun, ended}
+use Rattle.eval.specs.Listed.{every_component}
+use Rattle.eval.proofs.walk.Pipeline.feed_marked.Goals as goal
+
+pub feed_each_component-requires : goal.feed_each_component-requires
+feed_each_component-requires c = begun c.new-walk.ensures every_component c.requires (notes_front c.make_marks-rows.ensures _ _ c.held.ensures)
