@@ -1,9 +1,9 @@
 -- The calls of a pipeline, from the rows of the tree to a table of their own. Assumes nothing.
-use mathlib.Core.Path.{◌≡◌, refl, sym, ap, ap₂, ◌∙◌, subst}
+use mathlib.Core.Path.{◌≡◌, refl, sym, ap, ◌∙◌, subst}
 use mathlib.Core.Bool.{Bool, true, false, ◌&&◌}
 use mathlib.Core.List.{List, [], ◌∷◌, ◌++◌, map, append_assoc, append-nil}
 use Rattle.std.proofs.lemmas.List.{map-append, take_more_set}
-use Prim.Native.Nat.{ℕ, zero, suc, ◌+◌, ◌*◌, ◌≤◌, ◌<◌}
+use Prim.Native.Nat.{ℕ, ◌+◌, ◌≤◌, ◌<◌}
 use native.Mathlib.Omega.{arith}
 use lib.Dec.{eqb, leb}
 use lib.ListN.{length, take, set, length-set}
@@ -17,7 +17,7 @@ use Rattle.predicate.specs.Rows.{ROW, kind_at, level_at, text_at, forest_from, c
 use Rattle.predicate.specs.Eval.{FoundAt, FoundNowhere}
 use Rattle.predicate.proofs.ForestLaws.{forest_below, forest_token, forest_node, forest_ends, children_none, found_level, found_kind, Ignores, ignored_none, ignored_found}
 use Rattle.predicate.proofs.NodeLaws.{row_found, row_absent}
-use Rattle.meaning.specs.Calls.{Call, method_number}
+use Rattle.meaning.specs.Calls.{Call}
 use Rattle.meaning.specs.Pipeline.{method_of, args_of, call_of, calls_of}
 use Rattle.calls.proofs.TableLaws.{method_at_lem}
 use Rattle.eval.specs.declared.ready.Call.{Call as PlacedCall}

@@ -20,7 +20,7 @@ use Rattle.predicate.specs.declared.atom.Member.TheVariants.{Component, Feature,
 use Rattle.meaning.specs.Value.{row_of, rows_of}
 use Rattle.meaning.specs.Calls.{Method, Where, All, Any, None, Count, Features, Diagnostics, Call, method_number, keep, kept, up_from, true_for, features_of}
 use Rattle.meaning.specs.Walk.{is_quantifier, is_last, arrivals, last_call, test_in, how_many}
-use Rattle.meaning.proofs.WalkLaws.{up_to, arrivals_none, arrive_end, arrive_kept, arrive_dropped, arrive_passed, arrive_component, arrive_feature, arrive_diagnostic, arrive_last, last_here, last_later, how_many_append, how_many_most, rows_append, rows_length, up_all, features_made, made_turn, made_over, kept_turn, kept_skip, kept_over}
+use Rattle.meaning.proofs.WalkLaws.{up_to, arrive_end, arrive_kept, arrive_dropped, arrive_passed, arrive_component, arrive_feature, arrive_diagnostic, arrive_last, last_here, last_later, how_many_append, how_many_most, rows_append, rows_length, up_all, features_made, made_turn, made_over, kept_turn, kept_skip, kept_over}
 use Rattle.predicate.specs.Truth.{truth}
 use Rattle.predicate.specs.Rows.{children_at}
 use Rattle.calls.specs.Table.{method_at}

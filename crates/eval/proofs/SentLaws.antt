@@ -24,7 +24,7 @@ use Rattle.eval.specs.declared.walk.Walk.{Walk}
 use Rattle.eval.specs.Ready.{nth, CallAt, IsCall}
 use Rattle.eval.specs.Marked.{held_in}
 use Rattle.eval.specs.Memo.{args_of, Placed, Asked, Noted}
-use Rattle.eval.specs.Feed.{State, state_of, begin, fed, counted, decided_in, Fits, Stands}
+use Rattle.eval.specs.Feed.{State, state_of, fed, counted, decided_in, Fits, Stands}
 use Rattle.eval.specs.Walk.{calls_at, last_of, NotesOf, state_in, SendsAll, SentAll, Begins, SameWalk, Sending, Sent, Arriving, Takes, Moved, Stays, Asking, AskedOf}
 use Rattle.eval.specs.Step.{after, StepIs, Steps}
 use Rattle.eval.proofs.StepLaws.{step_room}

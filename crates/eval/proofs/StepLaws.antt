@@ -1,20 +1,14 @@
 -- What the notes tell of a member on its way through the calls, call by call. Assumes nothing.
 use mathlib.Core.Path.{◌≡◌, refl, sym, ap, ◌∙◌, subst}
-use mathlib.Core.Bool.{Bool, true, false, ◌&&◌, cond, true≢false, false≢true}
+use mathlib.Core.Bool.{Bool, true, false, ◌&&◌, cond, false≢true}
 use mathlib.Core.List.{List, [], ◌∷◌}
 use Prim.Native.Nat.{ℕ, ◌+◌, ◌*◌, ◌≤◌, ◌<◌}
-use native.Mathlib.Nat.{add-zero}
 use native.Mathlib.Omega.{arith}
-use lib.Dec.{eqb}
-use lib.ListN.{length, get_or}
-use lib.Seq.{sets}
-use borrow.Author.Tests.{eqb-true, eqb-false}
-use Rattle.syntax.proofs.BoolLaws.{whether}
+use lib.ListN.{length}
 use Rattle.board.specs.Check.{COLLECTION_ROW}
 use Rattle.predicate.specs.declared.atom.Member.{Member}
 use Rattle.predicate.specs.Truth.{truth}
 use Rattle.predicate.specs.Rows.{children_at}
-use Rattle.meaning.specs.Value.{row_of}
 use Rattle.meaning.specs.Calls.{Method, Where, Count, Features, Call, method_number}
 use Rattle.meaning.specs.Walk.{is_quantifier, is_last}
 use Rattle.calls.specs.Table.{method_at}

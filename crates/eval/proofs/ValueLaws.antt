@@ -23,7 +23,6 @@ use Rattle.calls.specs.Answer.{boolean_of, answer_of}
 use Rattle.calls.specs.Table.{method_at, kind_at}
 use Rattle.calls.proofs.TableLaws.{method_at_lem, kind_at_lem}
 use Rattle.eval.specs.declared.walk.Tally.{Tally}
-use Rattle.eval.specs.Ready.{LAST_KIND}
 use Rattle.eval.specs.Pipeline.{OperatorAt, Gives, Judges}
 use Rattle.eval.proofs.CallLaws.{ignored_past}
 

@@ -1,18 +1,15 @@
 -- Members sent through calls one after the other, and what is kept of those that arrive: how many, how many of them pass the last call's
 -- test, and, where the calls come to a collection, their rows. Assumes nothing: these are definitions.
-use Rattle.std.specs.Prelude.{ℕ, ◌+◌, ◌*◌, ◌≤◌, List, [], Bool, true, false, cond, ◌&&◌, ◌≡◌, ltb, length, get_or}
+use Rattle.std.specs.Prelude.{ℕ, ◌+◌, ◌*◌, ◌≤◌, List, [], Bool, true, false, cond, ◌≡◌, ltb, length, get_or}
 use Rattle.std.proofs.Math.Option.{Option, none, some}
 use Rattle.std.proofs.lemmas.List.Edits.{sets}
 use Rattle.syntax.specs.Text.{same}
 use Rattle.board.specs.Image.{text}
 use Rattle.board.specs.Check.{COLLECTION_ROW}
 use Rattle.predicate.specs.declared.atom.Member.{Member}
-use Rattle.predicate.specs.Truth.{truth}
-use Rattle.predicate.specs.Rows.{children_at}
 use Rattle.meaning.specs.Value.{rows_of, with_members}
 use Rattle.meaning.specs.Calls.{Method, Where, All, Any, None, Count, Features, Diagnostics, Call}
 use Rattle.meaning.specs.Walk.{is_quantifier, arrivals, last_call, test_in, how_many}
-use Rattle.calls.specs.Table.{method_at}
 use Rattle.eval.specs.declared.walk.Tally.{Tally}
 
 -- how far members were sent: how many arrived, how many of those passed, and the collection table

@@ -4,7 +4,6 @@ use Rattle.eval.specs.Listed.{every_component}
 use Rattle.meaning.proofs.WalkLaws.{up_to}
 use Rattle.predicate.specs.declared.atom.Member.TheVariants.{Component}
 use mathlib.Core.List.{map}
-use Prim.Native.Nat.{◌-◌, ◌≤◌}
 use Rattle.eval.proofs.listed.list_components.Given as goal
 
 abbrev pub invariant-loop-component : goal.invariant-loop-component

@@ -4,7 +4,6 @@ use Rattle.meaning.proofs.WalkLaws.{up_to}
 use Rattle.meaning.specs.Calls.{features_of}
 use Rattle.predicate.specs.declared.atom.Member.TheVariants.{Feature}
 use mathlib.Core.List.{map}
-use Prim.Native.Nat.{◌-◌}
 use Rattle.eval.proofs.listed.list_features.Given as goal
 
 abbrev pub invariant-loop-feature : goal.invariant-loop-feature

@@ -1,6 +1,5 @@
 -- `eval_pipeline` sends the members of what was planned, and gives what is settled. Assumes nothing.
 use Rattle.eval.proofs.PipelineLaws.{calls_room, last_decides, refuses, pipeline_given}
-use Rattle.eval.proofs.PlanLaws.{calls_taken}
 use Rattle.eval.specs.Ready.{Plans}
 use native.Mathlib.Omega.{arith}
 use mathlib.Core.Path.{subst}

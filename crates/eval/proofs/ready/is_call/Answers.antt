@@ -2,7 +2,6 @@
 use Rattle.predicate.proofs.RowLaws.{passes_elsewhere, passes_here}
 use Rattle.predicate.specs.Rows.{of_kind}
 use Rattle.syntax.specs.Kind.{DOT_CALL}
-use native.Mathlib.Omega.{arith}
 use borrow.Author.Tests.{ne_eqb}
 use mathlib.Core.Path.{refl, ◌∙◌}
 use Rattle.eval.proofs.ready.is_call.Goals as goal

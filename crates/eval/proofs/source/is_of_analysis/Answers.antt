@@ -1,5 +1,5 @@
 -- `is_of_analysis` compares the text of the analysis' string with the name, or takes what is known of it. Assumes nothing.
-use mathlib.Core.Path.{refl, sym, ap, subst, ◌∙◌}
+use mathlib.Core.Path.{refl, sym, subst, ◌∙◌}
 use native.Mathlib.Omega.{arith}
 use lib.ListN.{set}
 use Prim.Native.Nat.{ℕ, ◌+◌, ◌*◌, ◌%◌}

@@ -3,7 +3,6 @@ use Rattle.eval.proofs.FeedLaws.{stands_fed}
 use Rattle.eval.proofs.ListedLaws.{listed_room, listed_all, counted_all, tallied, is_call}
 use Rattle.meaning.specs.Calls.{Count, Features}
 use Rattle.eval.specs.Ready.{CallAt}
-use native.Mathlib.Omega.{arith}
 use mathlib.Core.Path.{subst, ◌∙◌}
 use Rattle.eval.proofs.walk.Pipeline.feed_components.Goals as goal
 

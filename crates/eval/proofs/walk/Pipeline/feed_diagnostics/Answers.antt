@@ -1,6 +1,6 @@
 -- `feed_diagnostics` sends every diagnostic of the analysis with a memo of zeros. Assumes nothing.
 use Rattle.eval.proofs.MemoLaws.{notes_none}
-use Rattle.eval.proofs.SentLaws.{begun, ended}
+use Rattle.eval.proofs.SentLaws.{begun}
 use Rattle.eval.specs.Memo.{PLAIN}
 use Rattle.eval.specs.Walk.{every_of_analysis}
 use native.Mathlib.Omega.{arith}

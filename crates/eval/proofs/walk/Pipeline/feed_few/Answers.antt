@@ -1,6 +1,6 @@
 -- `feed_few` sends every component with a memo that has no room. Assumes nothing.
 use Rattle.eval.proofs.MemoLaws.{notes_none}
-use Rattle.eval.proofs.SentLaws.{begun, ended}
+use Rattle.eval.proofs.SentLaws.{begun}
 use Rattle.eval.specs.Listed.{every_component}
 use native.Mathlib.Omega.{arith}
 use Rattle.eval.proofs.walk.Pipeline.feed_few.Goals as goal

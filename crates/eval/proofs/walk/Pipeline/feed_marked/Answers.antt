@@ -1,9 +1,6 @@
 -- `feed_marked` makes marks, and sends every component with the memo's front that holds them. Assumes nothing.
-use mathlib.Core.Path.{sym}
-use native.Mathlib.Omega.{arith}
-use lib.ListN.{length-set}
-use Rattle.eval.proofs.MemoLaws.{front_length, notes_front}
-use Rattle.eval.proofs.SentLaws.{begun, ended}
+use Rattle.eval.proofs.MemoLaws.{notes_front}
+use Rattle.eval.proofs.SentLaws.{begun}
 use Rattle.eval.specs.Listed.{every_component}
 use Rattle.eval.proofs.walk.Pipeline.feed_marked.Goals as goal
 

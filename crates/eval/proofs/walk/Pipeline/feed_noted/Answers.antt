@@ -1,6 +1,6 @@
 -- `feed_noted` sends every component: without notes, with marks, or with a memo of zeros whose first byte says what profiles hold. Assumes nothing.
 use Rattle.eval.proofs.MemoLaws.{notes_plain}
-use Rattle.eval.proofs.SentLaws.{begun, ended}
+use Rattle.eval.proofs.SentLaws.{begun}
 use Rattle.eval.specs.Listed.{every_component}
 use Rattle.eval.proofs.walk.Pipeline.feed_noted.Goals as goal
 

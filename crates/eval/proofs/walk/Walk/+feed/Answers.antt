@@ -1,7 +1,7 @@
 -- A member through the calls from a place on, by itself or by its features: the calls left fall around the cycle. Assumes nothing.
 use Rattle.eval.proofs.FeedLaws.{turn, over}
 use Rattle.eval.proofs.ListedLaws.{features_are}
-use Rattle.eval.proofs.SentLaws.{same_calls, here, going_profile, end_takes, end_listed, asking, kept_sending, kept_sent, dropped_sent, owned_sending, owned_sent, owned_none, passed_sending, passed_sent, arriving, step_takes, step_sent, going_start, going_first, going_on, going_stop, going_end}
+use Rattle.eval.proofs.SentLaws.{same_calls, here, going_profile, end_takes, end_listed, kept_sending, kept_sent, dropped_sent, owned_sending, owned_sent, owned_none, passed_sending, passed_sent, arriving, step_takes, step_sent, going_start, going_first, going_on, going_stop, going_end}
 use Rattle.predicate.specs.declared.atom.Member.TheVariants.{Feature}
 use Rattle.profile.proofs.ProfileLaws.{feature_owned}
 use native.Mathlib.Omega.{arith}

@@ -1,5 +1,4 @@
 -- `arrive` counts, and asks the predicate of a quantifier. Assumes nothing.
-use mathlib.Core.Path.{sym}
 use Rattle.eval.proofs.SentLaws.{arrive_counted, arrive_asked}
 use Rattle.eval.proofs.walk.Walk.arrive.Goals as goal
 

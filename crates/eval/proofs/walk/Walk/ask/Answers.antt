@@ -1,5 +1,5 @@
 -- `ask` gives the truth of the predicate, and what is noted stays true. Assumes nothing.
-use Rattle.eval.proofs.MemoLaws.{asked_known, asked_noted}
+use Rattle.eval.proofs.MemoLaws.{asked_known}
 use Rattle.eval.proofs.SentLaws.{asked_here, asked_there}
 use Rattle.eval.proofs.walk.Walk.ask.Goals as goal
 

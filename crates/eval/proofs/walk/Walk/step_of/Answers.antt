@@ -1,9 +1,8 @@
 -- `step_of` goes on over `diagnostics` and each `where` that is noted as true, and tells what the first other call makes of a member. Assumes
 -- nothing.
-use Rattle.eval.specs.Memo.{note_in, known}
+use Rattle.eval.specs.Memo.{known}
 use Rattle.eval.proofs.StepLaws.{passing_on, passing_over, step_dropped, step_count, step_quantified, step_listed}
 use native.Mathlib.Omega.{arith}
-use mathlib.Core.Bool.{Bool}
 use mathlib.Core.Path.{ap, ◌∙◌}
 use Rattle.eval.proofs.walk.Walk.step_of.Goals as goal
 use Rattle.eval.proofs.walk.Walk.step_of.Goals.{in-0+in_ok-told-in-0+else-not-branch, in_default+else-this-lt4}
