@@ -1,12 +1,12 @@
--- The calls of a pipeline, from the rows of the tree to rows of their own. Assumes nothing.
-use mathlib.Core.Path.{◌≡◌, refl, sym, ap, ap₂, ◌∙◌, subst}
+-- The calls of a pipeline, from the rows of the tree to a table of their own. Assumes nothing.
+use mathlib.Core.Path.{◌≡◌, refl, sym, ap, ◌∙◌, subst}
 use mathlib.Core.Bool.{Bool, true, false, ◌&&◌}
-use mathlib.Core.List.{List, [], ◌∷◌, ◌++◌, append_assoc, append-nil}
-use Prim.Native.Nat.{ℕ, zero, suc, ◌+◌, ◌*◌, ◌≤◌}
+use mathlib.Core.List.{List, [], ◌∷◌, ◌++◌, map, append_assoc, append-nil}
+use Rattle.std.proofs.lemmas.List.{map-append, take_more_set}
+use Prim.Native.Nat.{ℕ, ◌+◌, ◌≤◌, ◌<◌}
 use native.Mathlib.Omega.{arith}
 use lib.Dec.{eqb, leb}
-use lib.ListN.{length, take, drop, length-append, length-take}
-use lib.Seq.{sets-eq, length-sets, take-append_seam}
+use lib.ListN.{length, take, set, length-set}
 use borrow.Author.Tests.{eqb-true, eqb-false, leb-true, leb-false, lt-leb}
 use Rattle.syntax.specs.Kind.{IDENT, ROOT, DOT_CALL, CALL_ARGS}
 use Rattle.syntax.proofs.BoolLaws.{whether, both}
@@ -17,10 +17,11 @@ use Rattle.predicate.specs.Rows.{ROW, kind_at, level_at, text_at, forest_from, c
 use Rattle.predicate.specs.Eval.{FoundAt, FoundNowhere}
 use Rattle.predicate.proofs.ForestLaws.{forest_below, forest_token, forest_node, forest_ends, children_none, found_level, found_kind, Ignores, ignored_none, ignored_found}
 use Rattle.predicate.proofs.NodeLaws.{row_found, row_absent}
-use Rattle.meaning.specs.Calls.{Method, Where, All, Any, None, Count, Features, Diagnostics, Call, method_number}
+use Rattle.meaning.specs.Calls.{Call}
 use Rattle.meaning.specs.Pipeline.{method_of, args_of, call_of, calls_of}
 use Rattle.calls.proofs.TableLaws.{method_at_lem}
-use Rattle.eval.specs.Ready.{CALL_ROW, call_in, calls_in, place_or, args_place, call_row, Puts, CallsFit, Putting, PutsRow, Holds}
+use Rattle.eval.specs.declared.ready.Call.{Call as PlacedCall}
+use Rattle.eval.specs.Ready.{call_in, calls_in, place_or, args_place, call_row, CallsFit, Putting, PutsRow, Holds}
 
 -- ---- the call that a row of the tree opens
 
@@ -61,30 +62,9 @@ args_placed rule tree row = go (first_row (of_kind CALL_ARGS) tree (level_at tre
     go (Found.At at) e = sym (args_found rule tree (level_at tree row + 1) (row + ROW) at (row_found e))
     go Found.Absent e = sym (args_none rule tree (level_at tree row + 1) (row + ROW) (row_absent e))
 
--- and its place fits a number of 32 bits where the tree's length does
-pub args_small : (tree : List ℕ) (row : ℕ) → args_place tree row ≤ length tree
-unfolding args_place
-args_small tree row = go (first_row (of_kind CALL_ARGS) tree (level_at tree row + 1) (row + ROW)) refl
-  where
-    go : (f : Found) → first_row (of_kind CALL_ARGS) tree (level_at tree row + 1) (row + ROW) ≡ f → place_or (length tree) f ≤ length tree
-    go (Found.At at) e = let found : FoundAt (of_kind CALL_ARGS) tree (level_at tree row + 1) (row + ROW) at = row_found e in omega (arith, found.whole)
-    go Found.Absent e = omega arith
-
--- the row of a call stands for the call
-call_row_lem : (rule tree : List ℕ) (row : ℕ) → calls_in rule tree (call_row rule tree row) ≡ call_of (children_at rule tree row) ∷ []
-unfolding calls_in
-call_row_lem rule tree row =
-    ap (λ (c : Call). c ∷ [])
-    (λ i. record { method = method_at_lem (method_of (first_text IDENT (children_at rule tree row))) i; args = args_placed rule tree row i })
-
-pub method_small : (m : Method) {n : ℕ} → n ≡ method_number m → n ≤ method_number Diagnostics
-method_small Where e = omega arith
-method_small All e = omega arith
-method_small Any e = omega arith
-method_small None e = omega arith
-method_small Count e = omega arith
-method_small Features e = omega arith
-method_small Diagnostics e = omega arith
+-- it stands for the call
+call_row_lem : (rule tree : List ℕ) (row : ℕ) → call_in rule tree (call_row rule tree row) ≡ call_of (children_at rule tree row)
+call_row_lem rule tree row = λ i. record { method = method_at_lem (method_of (first_text IDENT (children_at rule tree row))) i; args = args_placed rule tree row i }
 
 -- ---- what ignores rows that fail a test, by the first row of the tree
 
@@ -130,18 +110,15 @@ module _ (rule tree : List ℕ) (level row : ℕ) (h : row + ROW ≤ length tree
       → calls_of (forest_from rule tree level row) ≡ calls_of (forest_from rule tree level (row + ROW))
   calls_past l p = ignored_past calls_ignores rule tree level row h l p
 
--- ---- rows of calls, one behind the other
+-- ---- calls, one behind the other
 
-pub calls_append : (rule tree : List ℕ) (k : ℕ) (xs ys : List ℕ) → length xs ≡ CALL_ROW * k → calls_in rule tree (xs ++ ys) ≡ calls_in rule tree xs ++ calls_in rule tree ys
+-- one is written behind the first ones
+pub calls_set : (rule tree : List ℕ) (count : ℕ) (rows : List PlacedCall) (call : PlacedCall) → count < length rows
+    → calls_in rule tree (take (count + 1) (set rows count call)) ≡ calls_in rule tree (take count rows) ++ (call_in rule tree call ∷ [])
 unfolding calls_in
-calls_append rule tree zero [] ys e = refl
-calls_append rule tree (suc k) [] ys e = absurd (omega arith)
-calls_append rule tree k (a ∷ []) ys e = absurd (omega arith)
-calls_append rule tree zero (a ∷ b ∷ xs) ys e = absurd (omega arith)
-calls_append rule tree (suc k) (a ∷ b ∷ xs) ys e =
-    ap (λ (cs : List Call). call_in rule tree a b ∷ cs) (calls_append rule tree k xs ys (omega (arith, e)))
+calls_set rule tree count rows call h = ap (map (call_in rule tree)) (take_more_set rows count call h) ∙ map-append (call_in rule tree) (take count rows) (call ∷ [])
 
-module _ (rule tree : List ℕ) (level row count : ℕ) {before : List ℕ} (h : row + ROW ≤ length tree) (f : CallsFit rule tree level row before count) where
+module _ (rule tree : List ℕ) (level row count : ℕ) {before : List PlacedCall} (h : row + ROW ≤ length tree) (f : CallsFit rule tree level row before count) where
   -- the row opens no call
   pub puts_none : level ≤ level_at tree row → row_passes (of_kind DOT_CALL) tree level row ≡ false → PutsRow rule tree level row before count before count
   puts_none l p =
@@ -149,9 +126,9 @@ module _ (rule tree : List ℕ) (level row count : ℕ) {before : List ℕ} (h :
       record {
         long = refl;
         further = λ all q. record {
-          fit = record { room = subst (λ (cs : List Call). CALL_ROW * (count + length cs) ≤ length before) e f.room };
+          fit = record { room = subst (λ (cs : List Call). count + length cs ≤ length before) e f.room };
           number = subst (λ (cs : List Call). count + length cs ≡ length all) e q.number;
-          calls = subst (λ (cs : List Call). calls_in rule tree (take (CALL_ROW * count) before) ++ cs ≡ all) e q.calls;
+          calls = subst (λ (cs : List Call). calls_in rule tree (take count before) ++ cs ≡ all) e q.calls;
         };
       }
 
@@ -160,51 +137,41 @@ module _ (rule tree : List ℕ) (level row count : ℕ) {before : List ℕ} (h :
     opens : calls_of (forest_from rule tree level row) ≡ call_of (children_at rule tree row) ∷ calls_of (forest_from rule tree level (row + ROW))
     opens = calls_here rule tree level row h p
 
-    pub puts_room : CALL_ROW * (count + 1) ≤ length before
-    puts_room = omega (arith, subst (λ (cs : List Call). CALL_ROW * (count + length cs) ≤ length before) opens f.room)
+    pub puts_room : count < length before
+    puts_room = omega (arith, subst (λ (cs : List Call). count + length cs ≤ length before) opens f.room)
 
-    pub puts_one : {after : List ℕ} → Puts rule tree row count before after → PutsRow rule tree level row before count after (count + 1)
-    puts_one {after} w =
+    pub puts_one : {call : PlacedCall} → call ≡ call_row rule tree row → PutsRow rule tree level row before count (set before count call) (count + 1)
+    puts_one {call} e =
         record {
           long = long;
           further = λ all q. record {
-            fit = record { room = omega (arith, long, subst (λ (cs : List Call). CALL_ROW * (count + length cs) ≤ length before) opens f.room) };
+            fit = record { room = omega (arith, long, subst (λ (cs : List Call). count + length cs ≤ length before) opens f.room) };
             number = omega (arith, q.number, ap length opens);
             calls =
                 ap (λ (cs : List Call). cs ++ calls_of (forest_from rule tree level (row + ROW))) rows
-                ∙ append_assoc (calls_in rule tree (take (CALL_ROW * count) before)) (call_of (children_at rule tree row) ∷ []) (calls_of (forest_from rule tree level (row + ROW)))
-                ∙ ap (λ (cs : List Call). calls_in rule tree (take (CALL_ROW * count) before) ++ cs) (sym opens)
+                ∙ append_assoc (calls_in rule tree (take count before)) (call_of (children_at rule tree row) ∷ []) (calls_of (forest_from rule tree level (row + ROW)))
+                ∙ ap (λ (cs : List Call). calls_in rule tree (take count before) ++ cs) (sym opens)
                 ∙ q.calls;
           };
         }
       where
-        long : length after ≡ length before
-        long = ap length w.rows ∙ length-sets before (CALL_ROW * count) (call_row rule tree row)
+        long : length (set before count call) ≡ length before
+        long = length-set before count call
 
-        front : length (take (CALL_ROW * count) before) ≡ CALL_ROW * count
-        front = length-take (CALL_ROW * count) before ∙ omega (arith, puts_room)
-
-        taken : take (CALL_ROW * (count + 1)) after ≡ take (CALL_ROW * count) before ++ call_row rule tree row
-        taken =
-            let n : CALL_ROW * (count + 1) ≡ length (take (CALL_ROW * count) before ++ call_row rule tree row) = omega (arith, front, length-append (take (CALL_ROW * count) before) (call_row rule tree row)) in
-            ap₂ take n (w.rows ∙ sets-eq (call_row rule tree row) before (CALL_ROW * count) (omega (arith, puts_room)))
-            ∙ take-append_seam (take (CALL_ROW * count) before ++ call_row rule tree row) (drop (CALL_ROW * count + length (call_row rule tree row)) before)
-
-        rows : calls_in rule tree (take (CALL_ROW * (count + 1)) after) ≡ calls_in rule tree (take (CALL_ROW * count) before) ++ (call_of (children_at rule tree row) ∷ [])
+        rows : calls_in rule tree (take (count + 1) (set before count call)) ≡ calls_in rule tree (take count before) ++ (call_of (children_at rule tree row) ∷ [])
         rows =
-            ap (calls_in rule tree) taken
-            ∙ calls_append rule tree count (take (CALL_ROW * count) before) (call_row rule tree row) front
-            ∙ ap (λ (cs : List Call). calls_in rule tree (take (CALL_ROW * count) before) ++ cs) (call_row_lem rule tree row)
+            calls_set rule tree count before call puts_room
+            ∙ ap (λ (c : Call). calls_in rule tree (take count before) ++ (c ∷ [])) (ap (call_in rule tree) e ∙ call_row_lem rule tree row)
 
 -- ---- all calls of a pipeline
 
-pub record Walking (rule tree : List ℕ) (at level row : ℕ) (before rows : List ℕ) (count : ℕ) : Type 0 where
+pub record Walking (rule tree : List ℕ) (at level row : ℕ) (before rows : List PlacedCall) (count : ℕ) : Type 0 where
   pub within : row ≤ length tree
   pub long : length rows ≡ length before
   pub putting : Putting rule tree (calls_of (children_at rule tree at)) (level + 1) row rows count
 
-pub walking_start : (rule tree : List ℕ) (at level : ℕ) (rows : List ℕ) → at + ROW ≤ length tree → level ≡ level_at tree at
-    → CALL_ROW * length (calls_of (children_at rule tree at)) ≤ length rows → Walking rule tree at level (at + ROW) rows rows 0
+pub walking_start : (rule tree : List ℕ) (at level : ℕ) (rows : List PlacedCall) → at + ROW ≤ length tree → level ≡ level_at tree at
+    → length (calls_of (children_at rule tree at)) ≤ length rows → Walking rule tree at level (at + ROW) rows rows 0
 unfolding calls_in
 walking_start rule tree at level rows h e r =
     subst (λ (l : ℕ). Walking rule tree at l (at + ROW) rows rows 0) (sym e)
@@ -214,8 +181,8 @@ walking_start rule tree at level rows h e r =
       putting = record { fit = record { room = omega (arith, r) }; number = omega arith; calls = refl };
     })
 
-module _ {rule tree : List ℕ} {at level row : ℕ} {before rows : List ℕ} {count : ℕ} (w : Walking rule tree at level row before rows count) where
-  pub walking_on : {after : List ℕ} {r : ℕ} → row + ROW ≤ length tree → PutsRow rule tree (level + 1) row rows count after r → Walking rule tree at level (row + ROW) before after r
+module _ {rule tree : List ℕ} {at level row : ℕ} {before rows : List PlacedCall} {count : ℕ} (w : Walking rule tree at level row before rows count) where
+  pub walking_on : {after : List PlacedCall} {r : ℕ} → row + ROW ≤ length tree → PutsRow rule tree (level + 1) row rows count after r → Walking rule tree at level (row + ROW) before after r
   walking_on h p = record { within = h; long = p.long ∙ w.long; putting = p.further (calls_of (children_at rule tree at)) w.putting }
 
   pub walking_end : is_below tree level row ≡ false → Holds rule tree at rows count
@@ -224,6 +191,6 @@ module _ {rule tree : List ℕ} {at level row : ℕ} {before rows : List ℕ} {c
       let none : calls_of (forest_from rule tree (level + 1) row) ≡ [] = ap calls_of (forest_ends rule tree level row b) in
       record {
         number = omega (arith, subst (λ (cs : List Call). count + length cs ≡ length (calls_of (children_at rule tree at))) none w.putting.number);
-        room = omega (arith, subst (λ (cs : List Call). CALL_ROW * (count + length cs) ≤ length rows) none w.putting.fit.room);
-        calls = sym (append-nil _) ∙ subst (λ (cs : List Call). calls_in rule tree (take (CALL_ROW * count) rows) ++ cs ≡ calls_of (children_at rule tree at)) none w.putting.calls;
+        room = omega (arith, subst (λ (cs : List Call). count + length cs ≤ length rows) none w.putting.fit.room);
+        calls = sym (append-nil _) ∙ subst (λ (cs : List Call). calls_in rule tree (take count rows) ++ cs ≡ calls_of (children_at rule tree at)) none w.putting.calls;
       }

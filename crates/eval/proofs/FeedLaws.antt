@@ -6,7 +6,7 @@ use mathlib.Core.Option.{Option, none, some}
 use Prim.Native.Nat.{ℕ, ◌+◌, ◌*◌, ◌≤◌, ◌<◌}
 use native.Mathlib.Nat.{add-zero}
 use native.Mathlib.Omega.{arith}
-use lib.ListN.{length, get_or, length-append}
+use lib.ListN.{length, length-append}
 use lib.Seq.{sets, length-sets}
 use lib.Dec.{eqb}
 use borrow.Author.Tests.{ltb-true, lt-ltb, ne_eqb}
@@ -20,14 +20,14 @@ use Rattle.predicate.specs.declared.atom.Member.TheVariants.{Component, Feature,
 use Rattle.meaning.specs.Value.{row_of, rows_of}
 use Rattle.meaning.specs.Calls.{Method, Where, All, Any, None, Count, Features, Diagnostics, Call, method_number, keep, kept, up_from, true_for, features_of}
 use Rattle.meaning.specs.Walk.{is_quantifier, is_last, arrivals, last_call, test_in, how_many}
-use Rattle.meaning.proofs.WalkLaws.{up_to, arrivals_none, arrive_end, arrive_kept, arrive_dropped, arrive_passed, arrive_component, arrive_feature, arrive_diagnostic, arrive_last, last_here, last_later, how_many_append, how_many_most, rows_append, rows_length, up_all, features_made, made_turn, made_over, kept_turn, kept_skip, kept_over}
+use Rattle.meaning.proofs.WalkLaws.{up_to, arrive_end, arrive_kept, arrive_dropped, arrive_passed, arrive_component, arrive_feature, arrive_diagnostic, arrive_last, last_here, last_later, how_many_append, how_many_most, rows_append, rows_length, up_all, features_made, made_turn, made_over, kept_turn, kept_skip, kept_over}
 use Rattle.predicate.specs.Truth.{truth}
 use Rattle.predicate.specs.Rows.{children_at}
 use Rattle.calls.specs.Table.{method_at}
-use Rattle.eval.specs.declared.walk.Tally.{Tally}
-use Rattle.eval.specs.Ready.{CALL_ROW, call_in, calls_from}
-use Rattle.eval.specs.Feed.{State, state_of, listed, arrive, fed, decided, Fits, Stands, Arrives}
-use Rattle.eval.proofs.ReadyLaws.{calls_at, calls_over, method_is, method_past, last_between, quantifier_of, count_no_quantifier}
+use Rattle.eval.specs.declared.ready.Call.{Call as PlacedCall}
+use Rattle.eval.specs.Ready.{call_in, nth, calls_from}
+use Rattle.eval.specs.Feed.{State, listed, arrive, fed, decided, Fits, Stands}
+use Rattle.eval.proofs.ReadyLaws.{calls_at, calls_over, method_is, method_past, last_between}
 
 -- a state by its parts
 abbrev pub state : (arrived passed : ℕ) → List ℕ → State
@@ -90,15 +90,6 @@ unfolding fed
 fed_parts {image} {calls} {members} {first} {others} s p =
     ap (λ (ms : List Member). arrive image (last_call calls) ms s) p.arrivals
     ∙ arrive_append image (last_call calls) (arrivals image calls first) (arrivals image calls others) s
-
--- the table keeps its length
-fed_length : (image : List ℕ) (calls : List Call) (members : List Member) (s : State) → length (fed image calls members s).table ≡ length s.table
-unfolding fed arrive
-fed_length image calls members s = length-sets s.table (COLLECTION_ROW * s.arrived) (rows_of (listed (last_call calls) (arrivals image calls members)))
-
-pub same_length : {last : Method} (image : List ℕ) (calls : List Call) (members : List Member) (s : State) {t : State} → Stands last t (fed image calls members s)
-    → length t.table ≡ length s.table
-same_length image calls members s w = ap length w.table ∙ fed_length image calls members s
 
 -- ---- one member at a call
 
@@ -205,9 +196,9 @@ module _ (arrived passed : ℕ) where
   pub decided_at : (n : ℕ) (last : Method) {b : Bool} → n ≡ method_number last → b ≡ decided last arrived passed → b ≡ decided (method_at n) arrived passed
   decided_at n last e h = h ∙ ap (λ (m : Method). decided m arrived passed) (sym (method_is n last e))
 
-  pub decided_other : (n : ℕ) → ((Unit {0} × (n ≡ 1 → ⊥)) × (n ≡ 2 → ⊥)) × (n ≡ 3 → ⊥) → false ≡ decided (method_at n) arrived passed
+  pub decided_other : (n : ℕ) → (n ≡ 1 → ⊥) → (n ≡ 2 → ⊥) → (n ≡ 3 → ⊥) → false ≡ decided (method_at n) arrived passed
   unfolding method_at
-  decided_other n h = whether (eqb n 0) (λ e. rw e refl) (λ e. rw (e, ne_eqb n 1 h.0.0.1, ne_eqb n 2 h.0.1, ne_eqb n 3 h.1) rest)
+  decided_other n a b c = whether (eqb n 0) (λ e. rw e refl) (λ e. rw (e, ne_eqb n 1 a, ne_eqb n 2 b, ne_eqb n 3 c) rest)
     where
       rest : false ≡ decided (cond (eqb n 4) Count (cond (eqb n 5) Features Diagnostics)) arrived passed
       rest = whether (eqb n 4) (λ e. rw e refl) (λ e. rw e (whether (eqb n 5) (λ d. rw d refl) (λ d. rw d refl)))
@@ -287,14 +278,13 @@ module _ {last : Method} {image : List ℕ} {calls : List Call} {all : List Memb
         stands_then w
         (stands_is (stands_on (fits_others q p.fits) (w.done d)) (sym (fed_parts s q) ∙ p.same))
 
+  -- some are passed over
+  pub feeding_skip : {others : List Member} → Alike image calls rest calls others → Feeding last image calls all start others s
+  feeding_skip a = record { same = fed_alike s a ∙ p.same; fits = fits_alike a p.fits }
+
   -- none is left
   pub feeding_end : Lost image calls rest → Stands last s (fed image calls all start)
   feeding_end l = stands_equal p.fits.fewer (fed_lost s l ∙ p.same)
-
-  -- the table keeps its length
-  pub feeding_length : length s.table ≡ length start.table
-  feeding_length =
-      sym (fed_length image calls rest s) ∙ ap (λ (s : State). length s.table) p.same ∙ fed_length image calls all start
 
 -- the members in their turn: made of the numbers from one up to an end
 module _ (image : List ℕ) (calls : List Call) (make : ℕ → Member) (first end : ℕ) where
@@ -315,30 +305,15 @@ features_start {last} image calls c s first end f e h =
 
 -- and of those the ones that pass a test
 module _ (image : List ℕ) (calls : List Call) (passes : Member → Bool) (make : ℕ → Member) (first end : ℕ) where
-  turn_kept : first < end → Parts image calls (kept passes (map make (up_to first end))) (kept passes (make first ∷ [])) (kept passes (map make (up_to (first + 1) end)))
-  unfolding kept
-  turn_kept h =
-      whether (passes (make first))
-      (λ t. record { arrivals = kept_turn image calls passes make first end h t ∙ rw t refl })
-      (λ t. record { arrivals = kept_skip image calls passes make first end h t ∙ rw (t, arrivals_none image calls) refl })
-
   pub over_kept : end ≤ first → Lost image calls (kept passes (map make (up_to first end)))
   over_kept h = record { arrivals = kept_over image calls passes make first end h }
 
-  -- by what was found of the first
-  pub turn_asked : {b : Bool} → b ≡ passes (make first) → first < end
-      → Parts image calls (kept passes (map make (up_to first end))) (keep b (make first) []) (kept passes (map make (up_to (first + 1) end)))
-  unfolding kept
-  turn_asked e h =
-      subst (λ (b : Bool). Parts image calls (kept passes (map make (up_to first end))) (keep b (make first) []) (kept passes (map make (up_to (first + 1) end)))) (sym e)
-      (turn_kept h)
+  -- the first is one of them, or is passed over
+  pub turn_kept : passes (make first) ≡ true → first < end → Parts image calls (kept passes (map make (up_to first end))) (make first ∷ []) (kept passes (map make (up_to (first + 1) end)))
+  turn_kept t h = record { arrivals = kept_turn image calls passes make first end h t }
 
--- one that is kept, and one that is not
-pub keep_one : (image : List ℕ) (calls : List Call) {b : Bool} (m : Member) → b ≡ true → Alike image calls (keep b m []) calls (m ∷ [])
-keep_one image calls m t = record { arrivals = rw t refl; last = refl }
-
-pub keep_none : (image : List ℕ) (calls : List Call) {b : Bool} (m : Member) → b ≡ false → Lost image calls (keep b m [])
-keep_none image calls m t = record { arrivals = rw t (arrivals_none image calls) }
+  pub turn_skipped : passes (make first) ≡ false → first < end → Alike image calls (kept passes (map make (up_to first end))) calls (kept passes (map make (up_to (first + 1) end)))
+  turn_skipped t h = record { arrivals = kept_skip image calls passes make first end h t; last = refl }
 
 -- all that are made of the numbers up to a count
 pub all_start : {last : Method} (image : List ℕ) (calls : List Call) (of : List ℕ → List Member) (s : State) (n count : ℕ) → count ≡ n
@@ -346,41 +321,25 @@ pub all_start : {last : Method} (image : List ℕ) (calls : List Call) (of : Lis
 all_start {last} image calls of s n count e h =
     subst (λ (rest : List Member). Feeding last image calls (of (up_from 0 n)) s rest s) (ap of (up_all n ∙ ap (up_to 0) (sym e))) (feeding_start h)
 
--- ---- a member at the last call
+-- ---- one member at a call of the table
 
-module _ (rule image tree : List ℕ) (method args : ℕ) (m : Member) (t : Tally) where
-  abbrev asked : Bool
-  asked = truth image m (children_at rule tree args)
-
-  pub arrives_counted : method ≡ method_number Count → Arrives rule image tree method args m t (record { arrived = t.arrived + 1; passed = t.passed })
-  arrives_counted e = record { arrived = refl; passed = sym (rw (count_no_quantifier method e) (add-zero t.passed)) }
-
-  module _ (l : is_last (method_at method) ≡ true) (h : method ≡ method_number Count → ⊥) where
-    pub arrives_true : asked ≡ true → Arrives rule image tree method args m t (record { arrived = t.arrived + 1; passed = t.passed + 1 })
-    arrives_true e = record { arrived = refl; passed = sym (rw (quantifier_of method l h, e)) }
-
-    pub arrives_false : asked ≡ false → Arrives rule image tree method args m t (record { arrived = t.arrived + 1; passed = t.passed })
-    arrives_false e = record { arrived = refl; passed = sym (rw (quantifier_of method l h, e) (add-zero t.passed)) }
-
--- ---- one member at the row of a call
-
-module _ (rule image tree rows : List ℕ) (i : ℕ) where
-  -- the calls from this row on, and from the next
+module _ (rule image tree : List ℕ) (rows : List PlacedCall) (i : ℕ) where
+  -- the calls from this one on, and from the next
   abbrev calls : List Call
-  calls = calls_from rule tree rows (CALL_ROW * i)
+  calls = calls_from rule tree rows i
 
   abbrev later : List Call
-  later = calls_from rule tree rows (CALL_ROW * (i + 1))
+  later = calls_from rule tree rows (i + 1)
 
   abbrev method : ℕ
-  method = get_or rows (CALL_ROW * i) 0
+  method = (nth rows i).method
 
   abbrev args : ℕ
-  args = get_or rows (CALL_ROW * i + 1) 0
+  args = (nth rows i).args
 
-  module _ (h : CALL_ROW * i + CALL_ROW ≤ length rows) where
+  module _ (h : i < length rows) where
     abbrev call : Call
-    call = call_in rule tree method args
+    call = call_in rule tree (nth rows i)
 
     here : (P : List Call → Type 0) → P (call ∷ later) → P calls
     here P p = subst P (sym (calls_at rule tree rows i h)) p
@@ -407,12 +366,11 @@ module _ (rule image tree rows : List ℕ) (i : ℕ) where
     pub here_last : (method ≡ method_number Where → ⊥) → (method ≡ method_number Features → ⊥) → method ≤ method_number Features → is_last (method_at method) ≡ true
     here_last w f l = last_between method w f l
 
-    pub here_arrives : (m : Member) (t r : Tally) (table : List ℕ) → is_last (method_at method) ≡ true → Arrives rule image tree method args m t r
-        → state_of r table ≡ fed image calls (m ∷ []) (state_of t table)
-    here_arrives m t r table l a =
-        state_is a.arrived a.passed refl
-        ∙ here (λ cs. state (t.arrived + 1) (t.passed + cond (is_quantifier (method_at method) && truth image m (children_at rule tree args)) 1 0) table ≡ fed image cs (m ∷ []) (state_of t table))
-        (fed_last image call later m (state_of t table) (is_quantifier (method_at method) && truth image m (children_at rule tree args)) l refl)
+    pub here_arrives : (m : Member) (s : State) → is_last (method_at method) ≡ true
+        → state (s.arrived + 1) (s.passed + cond (is_quantifier (method_at method) && truth image m (children_at rule tree args)) 1 0) s.table ≡ fed image calls (m ∷ []) s
+    here_arrives m s l =
+        here (λ cs. state (s.arrived + 1) (s.passed + cond (is_quantifier (method_at method) && truth image m (children_at rule tree args)) 1 0) s.table ≡ fed image cs (m ∷ []) s)
+        (fed_last image call later m s (is_quantifier (method_at method) && truth image m (children_at rule tree args)) l refl)
 
     -- it arrives, and there is room for it
     pub here_one : (m : Member) → is_last (method_at method) ≡ true → arrivals image calls (m ∷ []) ≡ m ∷ []
@@ -421,8 +379,8 @@ module _ (rule image tree rows : List ℕ) (i : ℕ) where
     pub here_room : {last : Method} (m : Member) (s : State) → is_last (method_at method) ≡ true → Fits last image calls (m ∷ []) s → COLLECTION_ROW * (s.arrived + 1) ≤ length s.table
     here_room m s l f = fits_one (here_one m l) f
 
-  -- no row is left
-  module _ (h : length rows < CALL_ROW * i + CALL_ROW) where
+  -- no call is left
+  module _ (h : length rows ≤ i) where
     over_end : (P : List Call → Type 0) → P [] → P calls
     over_end P p = subst P (sym (calls_over rule tree rows i h)) p
 
@@ -432,8 +390,8 @@ module _ (rule image tree rows : List ℕ) (i : ℕ) where
     pub end_room : {last : Method} (m : Member) (s : State) → Fits last image calls (m ∷ []) s → COLLECTION_ROW * (s.arrived + 1) ≤ length s.table
     end_room m s f = fits_one (end_one m) f
 
-    pub end_put : (m : Member) (t : Tally) (table : List ℕ) {after : List ℕ} → after ≡ sets table (COLLECTION_ROW * t.arrived) (row_of m)
-        → state_of (record { arrived = t.arrived + 1; passed = t.passed }) after ≡ fed image calls (m ∷ []) (state_of t table)
-    end_put m t table e =
+    pub end_put : (m : Member) (s : State) {after : List ℕ} → after ≡ sets s.table (COLLECTION_ROW * s.arrived) (row_of m)
+        → state (s.arrived + 1) s.passed after ≡ fed image calls (m ∷ []) s
+    end_put m s e =
         state_is refl refl e
-        ∙ over_end (λ cs. state (t.arrived + 1) t.passed (sets table (COLLECTION_ROW * t.arrived) (row_of m)) ≡ fed image cs (m ∷ []) (state_of t table)) (fed_end image m (state_of t table))
+        ∙ over_end (λ cs. state (s.arrived + 1) s.passed (sets s.table (COLLECTION_ROW * s.arrived) (row_of m)) ≡ fed image cs (m ∷ []) s) (fed_end image m s)

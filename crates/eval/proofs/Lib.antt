@@ -14,3 +14,4 @@ pub mod MemoLaws
 pub mod HeldLaws
 pub mod AnalysisLaws
 pub mod StepLaws
+pub mod SentLaws

@@ -5,7 +5,7 @@ use mathlib.Core.List.{List, [], ◌∷◌, ◌++◌, map, append-nil}
 use Prim.Native.Nat.{ℕ, zero, suc, ◌+◌, ◌-◌, ◌*◌, ◌≤◌, ◌<◌}
 use native.Mathlib.Nat.{zero-add}
 use native.Mathlib.Omega.{arith}
-use lib.ListN.{length, get_or, length-append}
+use lib.ListN.{length, length-append}
 use lib.Seq.{sets, length-sets}
 use Rattle.syntax.proofs.TableLaws.{sets_append}
 use Rattle.board.specs.Check.{COLLECTION_ROW}
@@ -17,8 +17,11 @@ use Rattle.meaning.specs.Value.{row_of, rows_of}
 use Rattle.meaning.specs.Calls.{Method, Count, Features, Call, kept, up_from, features_of, fan_out, method_number}
 use Rattle.meaning.specs.Walk.{arrivals, arrive_by, last_call, how_many}
 use Rattle.meaning.proofs.WalkLaws.{up_to, up_turn, up_over, up_all, features_made, rows_append, rows_length}
-use Rattle.eval.specs.Ready.{CALL_ROW, call_in, calls_from}
-use Rattle.eval.specs.Feed.{begin, arrive, fed, Fits}
+use Rattle.eval.specs.declared.ready.Call.{Call as PlacedCall}
+use Rattle.eval.specs.declared.walk.Tally.{Tally}
+use Rattle.std.specs.Prelude.{Option, Some}
+use Rattle.eval.specs.Ready.{call_in, nth, CallAt, IsCall, calls_from}
+use Rattle.eval.specs.Feed.{state_of, begin, arrive, fed, Fits}
 use Rattle.eval.specs.Listed.{every_component, every_feature, Lists}
 use Rattle.eval.proofs.ReadyLaws.{calls_at, calls_over, method_is}
 use Rattle.eval.proofs.FeedLaws.{state, state_is}
@@ -160,64 +163,74 @@ fed_owned : (image : List ℕ) (call : Call) (calls : List Call) (ms : List Memb
 unfolding fed last_call
 fed_owned image call calls ms table e = sym (rw (arrive_owned image call calls ms e, e))
 
--- by the rows of the calls
-module _ (rule image tree rows : List ℕ) where
+-- nobody passed
+pub tallied : {t : Tally} {n : ℕ} (table : List ℕ) → t ≡ record { arrived = n; passed = 0 } → state_of t table ≡ state n 0 table
+tallied table e = ap (λ (t : Tally). state_of t table) e
+
+-- a call that was found
+pub is_call : {calls : List PlacedCall} {i : ℕ} {found : Option PlacedCall} {call : PlacedCall} (m : Method) → CallAt calls i found → found ≡ Some call
+    → call.method ≡ method_number m → IsCall calls i m
+is_call {calls} {i} m at e h =
+    let here = subst (CallAt calls i) e at in
+    record { there = here.0; is = ap (λ (c : PlacedCall). c.method) (sym here.1) ∙ h }
+
+-- by the calls of the table
+module _ (rule image tree : List ℕ) (rows : List PlacedCall) where
   abbrev call_at : ℕ → Call
-  call_at i = call_in rule tree (get_or rows (CALL_ROW * i) 0) (get_or rows (CALL_ROW * i + 1) 0)
+  call_at i = call_in rule tree (nth rows i)
 
   abbrev from : ℕ → List Call
-  from i = calls_from rule tree rows (CALL_ROW * i)
+  from i = calls_from rule tree rows i
 
   -- no call
-  module _ (h : length rows < CALL_ROW) where
-    pub listed_room : {last : Method} {table : List ℕ} → Fits last image (calls_from rule tree rows 0) (every_component image) (begin table) → COLLECTION_ROW * length (every_component image) ≤ length table
+  module _ (h : length rows ≤ 0) where
+    pub listed_room : {last : Method} {table : List ℕ} → Fits last image (from 0) (every_component image) (begin table) → COLLECTION_ROW * length (every_component image) ≤ length table
     unfolding arrivals
     listed_room {last} {table} f =
         let n = ap (λ (calls : List Call). length (arrivals image calls (every_component image))) (calls_over rule tree rows 0 h) in
         omega (arith, f.room, n)
 
-    pub listed_all : {before after : List ℕ} {r : ℕ} → Lists (every_component image) 0 before after r → state r 0 after ≡ fed image (calls_from rule tree rows 0) (every_component image) (begin before)
+    pub listed_all : {before after : List ℕ} {r : ℕ} → Lists (every_component image) 0 before after r → state r 0 after ≡ fed image (from 0) (every_component image) (begin before)
     listed_all {before} w = fed_listed image (every_component image) w ∙ ap (λ (calls : List Call). fed image calls (every_component image) (begin before)) (sym (calls_over rule tree rows 0 h))
 
-  module _ (h : CALL_ROW ≤ length rows) where
-    -- `count` first
-    pub counted_all : {n : ℕ} (table : List ℕ) → get_or rows 0 0 ≡ method_number Count → n ≡ component_count image → state n 0 table ≡ fed image (calls_from rule tree rows 0) (every_component image) (begin table)
-    counted_all table e c =
-        state_is (c ∙ sym (made_number Component 0 (component_count image))) refl refl
-        ∙ fed_counted image (call_at 0) (from 1) (every_component image) table (method_is (get_or rows 0 0) Count e)
-        ∙ ap (λ (calls : List Call). fed image calls (every_component image) (begin table)) (sym (calls_at rule tree rows 0 h))
+  -- `count` first
+  pub counted_all : {n : ℕ} (table : List ℕ) → IsCall rows 0 Count → n ≡ component_count image → state n 0 table ≡ fed image (from 0) (every_component image) (begin table)
+  counted_all table c e =
+      state_is (e ∙ sym (made_number Component 0 (component_count image))) refl refl
+      ∙ fed_counted image (call_at 0) (from 1) (every_component image) table (method_is (nth rows 0).method Count c.is)
+      ∙ ap (λ (calls : List Call). fed image calls (every_component image) (begin table)) (sym (calls_at rule tree rows 0 c.there))
 
-    -- `features` first
-    module _ (e : get_or rows 0 0 ≡ method_number Features) where
-      owned : (table : List ℕ) → fed image (from 1) (every_feature image) (begin table) ≡ fed image (calls_from rule tree rows 0) (every_component image) (begin table)
-      owned table =
-          fed_owned image (call_at 0) (from 1) (every_component image) table (method_is (get_or rows 0 0) Features e)
-          ∙ ap (λ (calls : List Call). fed image calls (every_component image) (begin table)) (sym (calls_at rule tree rows 0 h))
+  -- `features` first
+  module _ (f : IsCall rows 0 Features) where
+    owned : (table : List ℕ) → fed image (from 1) (every_feature image) (begin table) ≡ fed image (from 0) (every_component image) (begin table)
+    owned table =
+        fed_owned image (call_at 0) (from 1) (every_component image) table (method_is (nth rows 0).method Features f.is)
+        ∙ ap (λ (calls : List Call). fed image calls (every_component image) (begin table)) (sym (calls_at rule tree rows 0 f.there))
 
-      owned_arrivals : arrivals image (calls_from rule tree rows 0) (every_component image) ≡ arrivals image (from 1) (every_feature image)
-      owned_arrivals =
-          ap (λ (calls : List Call). arrivals image calls (every_component image)) (calls_at rule tree rows 0 h)
-          ∙ arrive_owned image (call_at 0) (from 1) (every_component image) (method_is (get_or rows 0 0) Features e)
+    owned_arrivals : arrivals image (from 0) (every_component image) ≡ arrivals image (from 1) (every_feature image)
+    owned_arrivals =
+        ap (λ (calls : List Call). arrivals image calls (every_component image)) (calls_at rule tree rows 0 f.there)
+        ∙ arrive_owned image (call_at 0) (from 1) (every_component image) (method_is (nth rows 0).method Features f.is)
 
-      -- and no other call
-      module _ (o : length rows < 2 * CALL_ROW) where
-        pub owned_room : {last : Method} {table : List ℕ} → Fits last image (calls_from rule tree rows 0) (every_component image) (begin table) → COLLECTION_ROW * length (every_feature image) ≤ length table
-        unfolding arrivals
-        owned_room {last} {table} f =
-            let n = ap length (owned_arrivals ∙ ap (λ (calls : List Call). arrivals image calls (every_feature image)) (calls_over rule tree rows 1 o)) in
-            omega (arith, f.room, n)
+    -- and no other call
+    module _ (o : length rows ≤ 1) where
+      pub owned_room : {last : Method} {table : List ℕ} → Fits last image (from 0) (every_component image) (begin table) → COLLECTION_ROW * length (every_feature image) ≤ length table
+      unfolding arrivals
+      owned_room {last} {table} f =
+          let n = ap length (owned_arrivals ∙ ap (λ (calls : List Call). arrivals image calls (every_feature image)) (calls_over rule tree rows 1 o)) in
+          omega (arith, f.room, n)
 
-        pub owned_listed : {before after : List ℕ} {r : ℕ} → Lists (every_feature image) 0 before after r → state r 0 after ≡ fed image (calls_from rule tree rows 0) (every_component image) (begin before)
-        owned_listed {before} w =
-            fed_listed image (every_feature image) w
-            ∙ ap (λ (calls : List Call). fed image calls (every_feature image) (begin before)) (sym (calls_over rule tree rows 1 o))
-            ∙ owned before
+      pub owned_listed : {before after : List ℕ} {r : ℕ} → Lists (every_feature image) 0 before after r → state r 0 after ≡ fed image (from 0) (every_component image) (begin before)
+      owned_listed {before} w =
+          fed_listed image (every_feature image) w
+          ∙ ap (λ (calls : List Call). fed image calls (every_feature image) (begin before)) (sym (calls_over rule tree rows 1 o))
+          ∙ owned before
 
-      -- and then `count`
-      pub owned_counted : {n : ℕ} (table : List ℕ) → 2 * CALL_ROW ≤ length rows → get_or rows CALL_ROW 0 ≡ method_number Count → n ≡ length (every_feature image)
-          → state n 0 table ≡ fed image (calls_from rule tree rows 0) (every_component image) (begin table)
-      owned_counted table l c n =
-          state_is n refl refl
-          ∙ fed_counted image (call_at 1) (from 2) (every_feature image) table (method_is (get_or rows CALL_ROW 0) Count c)
-          ∙ ap (λ (calls : List Call). fed image calls (every_feature image) (begin table)) (sym (calls_at rule tree rows 1 l))
-          ∙ owned table
+    -- and then `count`
+    pub owned_counted : {n : ℕ} (table : List ℕ) → IsCall rows 1 Count → n ≡ length (every_feature image)
+        → state n 0 table ≡ fed image (from 0) (every_component image) (begin table)
+    owned_counted table c n =
+        state_is n refl refl
+        ∙ fed_counted image (call_at 1) (from 2) (every_feature image) table (method_is (nth rows 1).method Count c.is)
+        ∙ ap (λ (calls : List Call). fed image calls (every_feature image) (begin table)) (sym (calls_at rule tree rows 1 c.there))
+        ∙ owned table

@@ -17,6 +17,7 @@ use Rattle.profile.specs.declared.Profile.{Profile}
 use Rattle.profile.specs.declared.Profile.TheVariants.{Number, Unknown}
 use Rattle.profile.specs.Profile.{PROFILES, WIRING_OF_FEATURES, holds, profile_of}
 use Rattle.profile.proofs.ProfileLaws.{profile_small}
+use Rattle.eval.specs.declared.ready.Call.{Call as PlacedCall}
 use Rattle.eval.specs.Marked.{NO_BITS, MARKS, PLACES, MEMO, bits_of, held_in, Marks, TellsBelow, Made}
 use Rattle.eval.specs.Memo.{NOTED_CALLS, WAY_NOTES, PLAIN, NO_PLACE, NOT_KNOWN, known, args_of, byte_of, place_by, plain_place, place_of, note_in, Notes, Placed, Asked, Noted, kept, made}
 use Rattle.eval.proofs.MarkedLaws.{alike_has, told_rows, bits_nowhere, Kept, kept_set, marks_kept, bits_kept, marks_none, made_length, made_marks}
@@ -131,7 +132,7 @@ unfolding holds
 nothing_held h = false≢true h
 
 -- its first byte says what profiles hold
-module _ {rule image tree memo : List ℕ} (calls : List ℕ) (v : ℕ) (marks : Marks rule image tree memo) (room : 0 < length memo) (few : length memo ≤ MEMO)
+module _ {rule image tree memo : List ℕ} (calls : List PlacedCall) (v : ℕ) (marks : Marks rule image tree memo) (room : 0 < length memo) (few : length memo ≤ MEMO)
     (clear : (x : ℕ) → x < MARKS → get_or memo x 0 ≡ 0) (h : holds v WIRING_OF_FEATURES ≡ true → owners_wired image ≡ true) where
   notes_begun : Notes rule image tree calls (set memo 0 v)
   notes_begun =
@@ -146,7 +147,7 @@ module _ {rule image tree memo : List ℕ} (calls : List ℕ) (v : ℕ) (marks :
       }
 
 -- one without marks
-module _ (rule image tree calls : List ℕ) where
+module _ (rule image tree : List ℕ) (calls : List PlacedCall) where
   blank_marks : (n : ℕ) → n ≤ PLAIN → Marks rule image tree (replicate n 0)
   blank_marks n h = marks_none rule image tree (replicate n 0) (omega (arith, length-replicate {A = ℕ} n 0))
 
@@ -171,7 +172,7 @@ module _ {rule image tree memo : List ℕ} {n : ℕ} (w : Made rule image tree m
   pub front_length : length (take (PLACES + n) (set memo 0 v)) ≡ PLACES + n
   front_length = ap length (take-set-lt (PLACES + n) memo 0 v (omega arith)) ∙ length-set (take (PLACES + n) memo) 0 v ∙ made_length w
 
-  pub notes_front : (calls : List ℕ) → (holds v WIRING_OF_FEATURES ≡ true → owners_wired image ≡ true) → Notes rule image tree calls (take (PLACES + n) (set memo 0 v))
+  pub notes_front : (calls : List PlacedCall) → (holds v WIRING_OF_FEATURES ≡ true → owners_wired image ≡ true) → Notes rule image tree calls (take (PLACES + n) (set memo 0 v))
   notes_front calls h =
       let long = made_length w in
       subst (Notes rule image tree calls) (sym (take-set-lt (PLACES + n) memo 0 v (omega arith)))
@@ -194,7 +195,7 @@ byte_says false true false e = absurd (omega arith)
 byte_says false false true e = absurd (omega arith)
 byte_says false false false e = (refl, refl)
 
-module _ {rule image tree calls memo : List ℕ} (n : Notes rule image tree calls memo) where
+module _ {rule image tree : List ℕ} {calls : List PlacedCall} {memo : List ℕ} (n : Notes rule image tree calls memo) where
   -- an answer that was noted
   pub asked_known : {i place x : ℕ} {m : Member} {r : Bool} → Placed image memo m place → x ≡ note_in memo i place → x ≡ known r → Asked rule image tree calls i m memo memo r
   asked_known {i} {r = r} p e f = record { value = sym (p.told rule tree calls n i r (sym e ∙ f)); notes = n; held = refl; long = refl }

@@ -3,11 +3,10 @@ use mathlib.Core.Path.{◌≡◌, refl, sym, ap, ap₂, ◌∙◌, subst}
 use mathlib.Core.Bool.{Bool, true, false, false≢true}
 use mathlib.Core.List.{List, [], ◌∷◌, ◌++◌}
 use mathlib.Core.Option.{Option, none, some}
-use Prim.Native.Nat.{ℕ, ◌+◌, ◌*◌, ◌≤◌}
+use Prim.Native.Nat.{ℕ, ◌+◌, ◌≤◌, ◌<◌}
 use native.Mathlib.Omega.{arith}
 use lib.Dec.{eqb}
-use lib.ListN.{length, take, drop, set, replicate, length-append, length-take, length-replicate}
-use lib.Seq.{sets, sets-eq, length-sets, take-append_seam}
+use lib.ListN.{length, take, set, replicate, length-take, length-replicate, length-set}
 use borrow.Author.Tests.{eq-eqb, ne_eqb, ltb-true}
 use Rattle.syntax.specs.Kind.{INT_LIT, DOT_CALL, COUNT_COMPARE_EXPR}
 use Rattle.syntax.specs.declared.refusal.Refusal.{Refusal}
@@ -37,12 +36,13 @@ use Rattle.calls.specs.Table.{method_at, kind_at}
 use Rattle.calls.proofs.CompareLaws.{against_for, against_integer}
 use Rattle.calls.proofs.TableLaws.{method_at_lem, kind_at_lem}
 use Rattle.eval.specs.declared.walk.Tally.{Tally}
-use Rattle.eval.specs.Ready.{CALL_ROW, call_in, calls_in, source_sort, source_members, LastMethod, Ready, Refuses}
+use Rattle.eval.specs.declared.ready.Call.{Call as PlacedCall}
+use Rattle.eval.specs.declared.ready.Plan.{Plan}
+use Rattle.eval.specs.Ready.{call_in, calls_in, source_sort, source_members, LastMethod, Ready, Refuses}
 use Rattle.eval.specs.Feed.{State, state_of, listed, decided, Decides, Stands, walked}
 use Rattle.eval.specs.Pipeline.{CALLS, FewCalls, Evaluates, Counts, OperatorAt, Gives}
 use Rattle.eval.proofs.ReadyLaws.{kind_number_lem, count_no_quantifier}
-use Rattle.eval.proofs.CallLaws.{calls_append}
-use Rattle.eval.proofs.TableLaws.{row_put}
+use Rattle.eval.proofs.CallLaws.{calls_set}
 use Rattle.eval.proofs.PlanLaws.{node_first, node_none, source_found}
 
 -- ---- the calls of a tree are few
@@ -55,7 +55,7 @@ calls_fewer (node k s f) =
     let h = calls_fewer f in
     whether (eqb k DOT_CALL) (λ q. rw (q, calls_of) (omega arith)) (λ q. rw (q, calls_of) (omega arith))
 
-pub calls_room : (rule tree rows : List ℕ) (at : ℕ) → FewCalls rule tree at → CALLS ≤ length rows → CALL_ROW * (length (calls_of (children_at rule tree at)) + 1) ≤ length rows
+pub calls_room : (rule tree : List ℕ) (rows : List PlacedCall) (at : ℕ) → FewCalls rule tree at → CALLS ≤ length rows → length (calls_of (children_at rule tree at)) < length rows
 calls_room rule tree rows at h r = omega (arith, calls_fewer (children_at rule tree at), h.few)
 
 -- so are those of the first node in it
@@ -97,7 +97,7 @@ listing Kind.Count last e method arrived passed members table = rw e.1 refl
 -- ---- a quantifier that is decided
 
 -- the last call decides nothing where rows are written, and `count` decides nothing at all
-pub last_decides : (rule tree : List ℕ) {rows : List ℕ} {n : ℕ} → LastMethod rows n → Decides (method_at n) (calls_in rule tree rows)
+pub last_decides : (rule tree : List ℕ) {rows : List PlacedCall} {n : ℕ} → LastMethod rows n → Decides (method_at n) (calls_in rule tree rows)
 unfolding last_method
 last_decides rule tree {rows} l =
     record { unlisted = λ q ms. go (last_call (calls_in rule tree rows)) (subst (λ (m : Method). is_quantifier m ≡ true) (l.method rule tree) q) ms }
@@ -147,45 +147,45 @@ refuses image {table = table} {r = r} f =
     record { outcome = ap answer_of (sym (f.refused image)); table = ap (λ (o : Outcome). collection_table o table) (sym (f.refused image)) }
 
 -- one that is ready, and the members that arrive
-module _ (rule image tree : List ℕ) (at : ℕ) {rows : List ℕ} {source count kind : ℕ} (p : Ready rule tree at rows source count kind) where
+module _ (rule image tree : List ℕ) (at : ℕ) {rows : List PlacedCall} {plan : Plan} (p : Ready rule tree at rows plan) where
   abbrev members : List Member
-  members = source_members image (tree_kind tree source) (children_at rule tree source)
+  members = source_members image (tree_kind tree plan.source) (children_at rule tree plan.source)
 
   abbrev calls : List Call
-  calls = calls_in rule tree (take (CALL_ROW * count) rows)
+  calls = calls_in rule tree (take plan.calls rows)
 
   abbrev came : List Member
   came = arrivals image calls members
 
-  plan_is : plan_of (sort_kind (source_sort (tree_kind tree source))) calls ≡ next (kind_at kind)
-  plan_is = ap (plan_of (sort_kind (source_sort (tree_kind tree source)))) p.holds.calls ∙ p.plan
+  plan_is : plan_of (sort_kind (source_sort (tree_kind tree plan.source))) calls ≡ next (kind_at plan.kind)
+  plan_is = ap (plan_of (sort_kind (source_sort (tree_kind tree plan.source)))) p.holds.calls ∙ p.comes
 
   pub pipeline_settled : eval_pipeline image (children_at rule tree at)
-      ≡ settled (kind_at kind) (last_method calls) (length came) (how_many (last_test image calls) came) came
+      ≡ settled (kind_at plan.kind) (last_method calls) (length came) (how_many (last_test image calls) came) came
   unfolding eval_pipeline
   pipeline_settled =
       ap₂ (calls_give image) (sym p.holds.calls) (source_found rule image tree at p.found)
-      ∙ calls_settled image calls (source_sort (tree_kind tree source)) members (kind_at kind) plan_is
+      ∙ calls_settled image calls (source_sort (tree_kind tree plan.source)) members (kind_at plan.kind) plan_is
 
-  ends : Ends (kind_at kind) (last_call calls)
-  ends = plan_ends calls (source_sort (tree_kind tree source)) (kind_at kind) plan_is
+  ends : Ends (kind_at plan.kind) (last_call calls)
+  ends = plan_ends calls (source_sort (tree_kind tree plan.source)) (kind_at plan.kind) plan_is
 
   abbrev passing : ℕ
   passing = how_many (last_test image calls) came
 
   module _ (t : Tally) (method : ℕ) (table after : List ℕ) (r : Value) (w : Stands (method_at method) (state_of t after) (walked image calls members table))
-      (m : LastMethod (take (CALL_ROW * count) rows) method) (g : Gives kind method t r) where
+      (m : LastMethod (take plan.calls rows) method) (g : Gives plan.kind method t r) where
     -- all members were sent
     given_whole : state_of t after ≡ walked image calls members table
-        → Answer.Given r ≡ answer_of (settled (kind_at kind) (last_method calls) (length came) passing came)
+        → Answer.Given r ≡ answer_of (settled (kind_at plan.kind) (last_method calls) (length came) passing came)
     unfolding walked last_test
     given_whole e =
         g.given came (sym (ap (λ (s : State). s.arrived) e))
-        ∙ λ i. answer_of (settled (kind_at kind) (m.method rule tree i) (e i).arrived (e i).passed came)
+        ∙ λ i. answer_of (settled (kind_at plan.kind) (m.method rule tree i) (e i).arrived (e i).passed came)
 
     -- or the quantifier was decided before
     given_decided : decided (method_at method) t.arrived t.passed ≡ true
-        → Answer.Given r ≡ answer_of (settled (kind_at kind) (last_method calls) (length came) passing came)
+        → Answer.Given r ≡ answer_of (settled (kind_at plan.kind) (last_method calls) (length came) passing came)
     unfolding walked last_test last_method settled
     given_decided d =
         g.given (replicate t.arrived (Component 0)) (length-replicate t.arrived (Component 0))
@@ -198,11 +198,11 @@ module _ (rule image tree : List ℕ) (at : ℕ) {rows : List ℕ} {source count
         first : decided (last_method calls) t.arrived t.passed ≡ true
         first = rw (m.method rule tree) at d
 
-        is : kind_at kind ≡ Kind.Boolean
-        is = decided_boolean (kind_at kind) (last_call calls) t.arrived t.passed ends first
+        is : kind_at plan.kind ≡ Kind.Boolean
+        is = decided_boolean (kind_at plan.kind) (last_call calls) t.arrived t.passed ends first
 
   pub pipeline_given : {t : Tally} {method : ℕ} {table after : List ℕ} {r : Value} → Stands (method_at method) (state_of t after) (walked image calls members table)
-      → LastMethod (take (CALL_ROW * count) rows) method → Gives kind method t r
+      → LastMethod (take plan.calls rows) method → Gives plan.kind method t r
       → Evaluates (eval_pipeline image (children_at rule tree at)) table after (Answer.Given r)
   unfolding walked
   pipeline_given {t} {method} {table} {after} {r} w m g =
@@ -212,7 +212,7 @@ module _ (rule image tree : List ℕ) (at : ℕ) {rows : List ℕ} {source count
             ∙ ap answer_of (sym pipeline_settled);
         table =
             w.table
-            ∙ listing (kind_at kind) (last_call calls) ends (last_method calls) (length came) passing came table
+            ∙ listing (kind_at plan.kind) (last_call calls) ends (last_method calls) (length came) passing came table
             ∙ ap (λ (o : Outcome). collection_table o table) (sym pipeline_settled);
       }
 
@@ -229,57 +229,41 @@ unfolding last_call
 count_lists [] call ms e = rw e refl
 count_lists (c ∷ calls) call ms e = whether (is_last c.method) (λ q. rw q refl) (λ q. rw q (count_lists calls call ms e))
 
-module _ (rule image tree : List ℕ) (source : ℕ) (rows : List ℕ) (count : ℕ) (h : CALL_ROW * (count + 1) ≤ length rows) where
-  -- the rows with that of `count` behind the first ones
-  abbrev counted : List ℕ
-  counted = set (set rows (CALL_ROW * count) (method_number Count)) (CALL_ROW * count + 1) 0
+module _ (rule image tree : List ℕ) (plan : Plan) (rows : List PlacedCall) (h : plan.calls < length rows) where
+  -- the call `count` behind the first ones
+  abbrev count_call : PlacedCall
+  count_call = record { method = method_number Count; args = 0 }
 
-  counted_is : counted ≡ sets rows (CALL_ROW * count) (method_number Count ∷ 0 ∷ [])
-  counted_is = row_put rows (CALL_ROW * count) (method_number Count) 0 refl refl
+  abbrev counted : List PlacedCall
+  counted = set rows plan.calls count_call
 
-  pub counted_length : length counted ≡ length rows
-  counted_length = ap length counted_is ∙ length-sets rows (CALL_ROW * count) (method_number Count ∷ 0 ∷ [])
-
-  pub counted_part : CALL_ROW * count + CALL_ROW ≡ length (take (CALL_ROW * count + CALL_ROW) counted)
-  counted_part = sym (length-take (CALL_ROW * count + CALL_ROW) counted ∙ omega (arith, counted_length, h))
-
-  front : length (take (CALL_ROW * count) rows) ≡ CALL_ROW * count
-  front = length-take (CALL_ROW * count) rows ∙ omega (arith, h)
-
-  counted_taken : take (CALL_ROW * count + CALL_ROW) counted ≡ take (CALL_ROW * count) rows ++ (method_number Count ∷ 0 ∷ [])
-  counted_taken =
-      let n : CALL_ROW * count + CALL_ROW ≡ length (take (CALL_ROW * count) rows ++ (method_number Count ∷ 0 ∷ [])) = omega (arith, front, length-append (take (CALL_ROW * count) rows) (method_number Count ∷ 0 ∷ [])) in
-      ap₂ take n (counted_is ∙ sets-eq (method_number Count ∷ 0 ∷ []) rows (CALL_ROW * count) (omega (arith, h)))
-      ∙ take-append_seam (take (CALL_ROW * count) rows ++ (method_number Count ∷ 0 ∷ [])) (drop (CALL_ROW * count + CALL_ROW) rows)
-
-  counted_calls : calls_in rule tree (take (CALL_ROW * count + CALL_ROW) counted) ≡ calls_in rule tree (take (CALL_ROW * count) rows) ++ (call_in rule tree (method_number Count) 0 ∷ [])
-  unfolding calls_in
-  counted_calls = ap (calls_in rule tree) counted_taken ∙ calls_append rule tree count (take (CALL_ROW * count) rows) (method_number Count ∷ 0 ∷ []) front
+  pub counted_part : plan.calls + 1 ≡ length (take (plan.calls + 1) counted)
+  counted_part = sym (length-take (plan.calls + 1) counted ∙ omega (arith, length-set rows plan.calls count_call, h))
 
   pub counts : {t : Tally} {table after : List ℕ}
-      → Stands (method_at (method_number Count)) (state_of t after) (walked image (calls_in rule tree (take (CALL_ROW * count + CALL_ROW) counted)) (source_members image (tree_kind tree source) (children_at rule tree source)) table)
-      → Counts rule image tree source rows count table after t.arrived
+      → Stands (method_at (method_number Count)) (state_of t after) (walked image (calls_in rule tree (take (plan.calls + 1) counted)) (source_members image (tree_kind tree plan.source) (children_at rule tree plan.source)) table)
+      → Counts rule image tree plan rows table after t.arrived
   unfolding walked
   counts {t} {table} {after} w =
       record {
         members =
             ap (λ (s : State). s.arrived) (w.same (ap (λ (m : Method). decided m t.arrived t.passed) (method_at_lem Count)))
-            ∙ ap (λ (cs : List Call). length (arrivals image cs ms)) counted_calls
+            ∙ ap (λ (cs : List Call). length (arrivals image cs ms)) (calls_set rule tree plan.calls rows count_call h)
             ∙ ap length (count_behind image first last ms (method_at_lem Count));
         table =
             w.table
-            ∙ ap (λ (cs : List Call). with_members (listed (last_call cs) (arrivals image cs ms)) table) counted_calls
+            ∙ ap (λ (cs : List Call). with_members (listed (last_call cs) (arrivals image cs ms)) table) (calls_set rule tree plan.calls rows count_call h)
             ∙ ap (λ (ms : List Member). with_members ms table) (count_lists first last (arrivals image (first ++ (last ∷ [])) ms) (method_at_lem Count));
       }
     where
       ms : List Member
-      ms = source_members image (tree_kind tree source) (children_at rule tree source)
+      ms = source_members image (tree_kind tree plan.source) (children_at rule tree plan.source)
 
       first : List Call
-      first = calls_in rule tree (take (CALL_ROW * count) rows)
+      first = calls_in rule tree (take plan.calls rows)
 
       last : Call
-      last = call_in rule tree (method_number Count) 0
+      last = call_in rule tree count_call
 
 -- ---- a comparison
 
@@ -336,8 +320,8 @@ module _ (rule image tree : List ℕ) (at : ℕ) where
     unfolding compared
     compare_refused {r} q = as_refused r (by_pipeline (q.refused image))
 
-    module _ {rows : List ℕ} {source count kind : ℕ} (p : Ready rule tree pipeline rows source count kind) where
-      pub compare_boolean : {table : List ℕ} → kind ≡ kind_number Kind.Boolean → Evaluates comparison table table (Answer.Refused ComparisonNotCountable)
+    module _ {rows : List PlacedCall} {plan : Plan} (p : Ready rule tree pipeline rows plan) where
+      pub compare_boolean : {table : List ℕ} → plan.kind ≡ kind_number Kind.Boolean → Evaluates comparison table table (Answer.Refused ComparisonNotCountable)
       unfolding settled
       compare_boolean e =
           as_refused ComparisonNotCountable
@@ -354,15 +338,15 @@ module _ (rule image tree : List ℕ) (at : ℕ) where
           passed = how_many (last_test image (calls rule image tree pipeline p)) (came rule image tree pipeline p)
 
       -- what else is countable
-      module _ (h : kind ≡ kind_number Kind.Boolean → ⊥) {digits : List ℕ} {integer : Integer} (d : digits ≡ first_text INT_LIT (children_at rule tree at)) (n : integer ≡ integer_for digits) where
-        countable : kind_at kind ≡ Kind.Boolean → ⊥
-        countable e = h (sym (kind_number_lem kind p.small) ∙ ap kind_number e)
+      module _ (h : plan.kind ≡ kind_number Kind.Boolean → ⊥) {digits : List ℕ} {integer : Integer} (d : digits ≡ first_text INT_LIT (children_at rule tree at)) (n : integer ≡ integer_for digits) where
+        countable : kind_at plan.kind ≡ Kind.Boolean → ⊥
+        countable e = h (sym (kind_number_lem plan.kind p.small) ∙ ap kind_number e)
 
         against_is : comparison ≡ against_for (operator_of (children_at rule tree at)) (length (came rule image tree pipeline p)) integer
         unfolding integer_of
         against_is =
             by_pipeline (pipeline_settled rule image tree pipeline p)
-            ∙ settled_compared (operator_of (children_at rule tree at)) (integer_of (children_at rule tree at)) (kind_at kind) _ _ (came rule image tree pipeline p) countable
+            ∙ settled_compared (operator_of (children_at rule tree at)) (integer_of (children_at rule tree at)) (kind_at plan.kind) _ _ (came rule image tree pipeline p) countable
             ∙ against_integer (operator_of (children_at rule tree at)) (length (came rule image tree pipeline p)) (first_text INT_LIT (children_at rule tree at))
             ∙ ap (against_for (operator_of (children_at rule tree at)) (length (came rule image tree pipeline p))) (sym (n ∙ ap integer_for d))
 
@@ -370,7 +354,7 @@ module _ (rule image tree : List ℕ) (at : ℕ) where
         compare_large e = as_refused IntegerTooLarge (against_is ∙ ap (against_for (operator_of (children_at rule tree at)) (length (came rule image tree pipeline p))) e)
 
         pub compare_given : {right operator left : ℕ} {table after : List ℕ} {b : Bool} → integer ≡ Integer.Fits right → OperatorAt tree at operator
-            → Counts rule image tree source rows count table after left → b ≡ operator_holds operator left right
+            → Counts rule image tree plan rows table after left → b ≡ operator_holds operator left right
             → Evaluates comparison table after (Answer.Given (Value.Bool b))
         compare_given {right} {operator} {left} {table} e o c b =
             record {

@@ -2,10 +2,11 @@
 use mathlib.Core.Path.{◌≡◌, refl, sym, ap, ◌∙◌, subst}
 use mathlib.Core.Bool.{false≢true}
 use mathlib.Core.List.{List, [], ◌∷◌}
-use Prim.Native.Nat.{ℕ, ◌+◌, ◌*◌, ◌≤◌}
+use Prim.Native.Nat.{ℕ, ◌+◌, ◌≤◌}
 use native.Mathlib.Omega.{arith}
 use lib.Dec.{eqb}
 use lib.ListN.{length, take, length-take}
+use Rattle.std.specs.Prelude.{Result, Ok, Err}
 use borrow.Author.Tests.{le-leb, leb-true}
 use Rattle.syntax.specs.Kind.{ROOT, IDENT_EXPR}
 use Rattle.syntax.specs.declared.refusal.Refusal.{Refusal}
@@ -22,8 +23,8 @@ use Rattle.meaning.specs.Value.{Sort, collection, refused, sort_kind}
 use Rattle.meaning.specs.Calls.{Call, call_gives, calls_give, kind_number}
 use Rattle.meaning.specs.Pipeline.{all_components, diagnostics_of, source_of, calls_of, eval_pipeline}
 use Rattle.meaning.proofs.WalkLaws.{calls_refused}
-use Rattle.calls.specs.declared.table.Next.{Next}
-use Rattle.eval.specs.Ready.{CALL_ROW, LAST_KIND, source_sort, source_members, KindAfter, Holds, Ready, Refuses}
+use Rattle.eval.specs.declared.ready.Call.{Call as PlacedCall}
+use Rattle.eval.specs.Ready.{LAST_KIND, source_sort, source_members, KindAfter, Holds, Ready, Refuses}
 use Rattle.eval.proofs.ReadyLaws.{kind_small, plan_refused, plan_kind}
 
 -- ---- the first node of a forest
@@ -85,9 +86,9 @@ module _ (rule tree : List ℕ) (at : ℕ) where
       → FoundAt of_node tree (level_at tree at + 1) (at + ROW) source
   source_at e h = row_found (sym e ∙ h)
 
-  module _ {rows : List ℕ} {source count : ℕ} (f : FoundAt of_node tree (level_at tree at + 1) (at + ROW) source) (h : Holds rule tree at rows count)
-      {number : ℕ} {given : Next} (n : number ≡ kind_number (sort_kind (source_sort (kind_at tree source)))) (a : KindAfter (take (CALL_ROW * count) rows) number given) where
-    pub planned_refused : {r : Refusal} → given ≡ Next.Refused r → Refuses rule tree at r
+  module _ {rows : List PlacedCall} {source count : ℕ} (f : FoundAt of_node tree (level_at tree at + 1) (at + ROW) source) (h : Holds rule tree at rows count)
+      {number : ℕ} {given : Result ℕ Refusal} (n : number ≡ kind_number (sort_kind (source_sort (kind_at tree source)))) (a : KindAfter (take count rows) number given) where
+    pub planned_refused : {r : Refusal} → given ≡ Err r → Refuses rule tree at r
     unfolding eval_pipeline
     planned_refused {r} e =
         record {
@@ -97,14 +98,14 @@ module _ (rule tree : List ℕ) (at : ℕ) where
               (plan_refused rule tree (sort_kind (source_sort (kind_at tree source))) (calls_of (children_at rule tree at)) a n h.calls e);
         }
 
-    pub planned_ready : {kind : ℕ} → given ≡ Next.Kind kind → Ready rule tree at rows source count kind
+    pub planned_ready : {kind : ℕ} → given ≡ Ok kind → Ready rule tree at rows (record { source = source; calls = count; kind = kind })
     planned_ready e =
         let p = plan_kind rule tree (sort_kind (source_sort (kind_at tree source))) (calls_of (children_at rule tree at)) a n h.calls e in
-        record { found = f; holds = h; small = p.1; plan = p.0 }
+        record { found = f; holds = h; small = p.1; comes = p.0 }
 
--- the part of the rows that the calls fill
-pub calls_taken : {rule tree : List ℕ} {at : ℕ} {rows : List ℕ} {count : ℕ} → Holds rule tree at rows count → CALL_ROW * count ≡ length (take (CALL_ROW * count) rows)
-calls_taken {rows = rows} {count = count} h = sym (length-take (CALL_ROW * count) rows ∙ omega (arith, h.room))
+-- the part of the table that the calls fill
+pub calls_taken : {rule tree : List ℕ} {at : ℕ} {rows : List PlacedCall} {count : ℕ} → Holds rule tree at rows count → count ≡ length (take count rows)
+calls_taken {rows = rows} {count = count} h = sym (length-take count rows ∙ omega (arith, h.room))
 
 -- the number of a source's kind is one of the table
 pub source_small : (s : Sort) {n : ℕ} → n ≡ kind_number (sort_kind s) → n ≤ LAST_KIND

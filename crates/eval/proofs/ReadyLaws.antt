@@ -1,11 +1,13 @@
--- Rows of calls, read one after the other. Assumes nothing.
+-- Calls, read back one after the other. Assumes nothing.
 use mathlib.Core.Path.{◌≡◌, refl, sym, ap, ap₂, ◌∙◌, subst}
-use mathlib.Core.Bool.{Bool, true, false, false≢true}
+use mathlib.Core.Bool.{true, false, false≢true}
 use mathlib.Core.List.{List, [], ◌∷◌}
-use Prim.Native.Nat.{ℕ, zero, suc, ◌+◌, ◌*◌, ◌≤◌, ◌<◌}
+use Prim.Native.Nat.{ℕ, zero, suc, ◌+◌, ◌≤◌, ◌<◌}
 use native.Mathlib.Omega.{arith}
 use lib.Dec.{eqb, leb}
-use lib.ListN.{length, get_or, drop, length-drop}
+use lib.ListN.{length, drop}
+use Rattle.std.specs.Prelude.{Result, Ok, Err}
+use Rattle.std.proofs.lemmas.List.{drop_all}
 use lib.Seq.{drop-cons}
 use borrow.Author.Tests.{ne_eqb, eqb-true, eqb-false, leb-true, le-leb, lt-leb}
 use Rattle.syntax.specs.declared.refusal.Refusal.{Refusal}
@@ -17,36 +19,21 @@ use Rattle.meaning.proofs.WalkLaws.{last_none, last_here, last_later}
 use Rattle.calls.specs.declared.table.Next.{Next}
 use Rattle.calls.specs.Table.{next_of, method_at, kind_at, next_for}
 use Rattle.calls.proofs.TableLaws.{method_at_lem, kind_at_lem}
-use Rattle.eval.specs.Ready.{CALL_ROW, LAST_KIND, call_in, calls_in, calls_from, KindAfter}
+use Rattle.eval.specs.declared.ready.Call.{Call as PlacedCall}
+use Rattle.eval.specs.Ready.{LAST_KIND, call_in, no_call, nth, calls_in, calls_from, result_of, KindAfter}
 
--- fewer numbers than a row are no call
-calls_short : (rule tree rows : List ℕ) → length rows < CALL_ROW → calls_in rule tree rows ≡ []
-unfolding calls_in
-calls_short rule tree [] h = refl
-calls_short rule tree (a ∷ []) h = refl
-calls_short rule tree (a ∷ b ∷ rows) h = absurd (omega arith)
-
--- the rows from a place on: the row there, and those after it
-row_at : (rows : List ℕ) (i : ℕ) → CALL_ROW * i + CALL_ROW ≤ length rows
-    → drop (CALL_ROW * i) rows ≡ get_or rows (CALL_ROW * i) 0 ∷ get_or rows (CALL_ROW * i + 1) 0 ∷ drop (CALL_ROW * (i + 1)) rows
-row_at rows i h =
-    one (CALL_ROW * i) (CALL_ROW * i + 1) (omega arith) (omega arith)
-    ∙ ap (λ (r : List ℕ). get_or rows (CALL_ROW * i) 0 ∷ r) (one (CALL_ROW * i + 1) (CALL_ROW * (i + 1)) (omega arith) (omega arith))
-  where
-    one : (a b : ℕ) → suc a ≡ b → a < length rows → drop a rows ≡ get_or rows a 0 ∷ drop b rows
-    one a b e l = drop-cons rows a 0 l ∙ ap (λ (n : ℕ). get_or rows a 0 ∷ drop n rows) e
-
-module _ (rule tree rows : List ℕ) (i : ℕ) where
-  pub calls_at : CALL_ROW * i + CALL_ROW ≤ length rows
-      → calls_from rule tree rows (CALL_ROW * i) ≡ call_in rule tree (get_or rows (CALL_ROW * i) 0) (get_or rows (CALL_ROW * i + 1) 0) ∷ calls_from rule tree rows (CALL_ROW * (i + 1))
+module _ (rule tree : List ℕ) (rows : List PlacedCall) (i : ℕ) where
+  pub calls_at : i < length rows → calls_from rule tree rows i ≡ call_in rule tree (nth rows i) ∷ calls_from rule tree rows (i + 1)
   unfolding calls_from calls_in
-  calls_at h = ap (calls_in rule tree) (row_at rows i h)
+  calls_at h =
+      let next : suc i ≡ i + 1 = omega arith in
+      ap (calls_in rule tree) (drop-cons rows i no_call h) ∙ ap (λ (n : ℕ). call_in rule tree (nth rows i) ∷ calls_in rule tree (drop n rows)) next
 
-  pub calls_over : length rows < CALL_ROW * i + CALL_ROW → calls_from rule tree rows (CALL_ROW * i) ≡ []
-  unfolding calls_from
-  calls_over h = calls_short rule tree (drop (CALL_ROW * i) rows) (omega (arith, length-drop (CALL_ROW * i) rows))
+  pub calls_over : length rows ≤ i → calls_from rule tree rows i ≡ []
+  unfolding calls_from calls_in
+  calls_over h = ap (calls_in rule tree) (drop_all i rows h)
 
-pub calls_all : (rule tree rows : List ℕ) → calls_from rule tree rows 0 ≡ calls_in rule tree rows
+pub calls_all : (rule tree : List ℕ) (rows : List PlacedCall) → calls_from rule tree rows 0 ≡ calls_in rule tree rows
 unfolding calls_from
 calls_all rule tree rows = refl
 
@@ -58,21 +45,9 @@ refusal_stays [] r = refl
 refusal_stays (call ∷ calls) r = refusal_stays calls r
 
 -- an entry by what the code has of it
-abbrev is_kind : Next → Bool
-is_kind (Next.Kind k) = true
-is_kind (Next.Refused r) = false
-
-abbrev kind_in : Next → ℕ
-kind_in (Next.Kind k) = k
-kind_in (Next.Refused r) = 0
-
-abbrev refusal_in : Refusal → Next → Refusal
-refusal_in d (Next.Kind k) = d
-refusal_in d (Next.Refused r) = r
-
-entry_refused : (e : Entry) (r : Refusal) → next_of e ≡ Next.Refused r → e ≡ refuse r
-entry_refused (next kind) r h = absurd (false≢true (sym (ap is_kind h)))
-entry_refused (refuse q) r h = ap refuse (ap (refusal_in q) h)
+entry_refused : (e : Entry) (r : Refusal) → result_of (next_of e) ≡ Err r → e ≡ refuse r
+entry_refused (next kind) r h = cc
+entry_refused (refuse q) r h = cc
 
 pub kind_small : (k : Kind) → kind_number k ≤ LAST_KIND
 kind_small Kind.Components = omega arith
@@ -81,11 +56,11 @@ kind_small Kind.Diagnostics = omega arith
 kind_small Kind.Boolean = omega arith
 kind_small Kind.Count = omega arith
 
-entry_kind : (e : Entry) (k : ℕ) → next_of e ≡ Next.Kind k → (e ≡ next (kind_at k)) × (k ≤ LAST_KIND)
+entry_kind : (e : Entry) (k : ℕ) → result_of (next_of e) ≡ Ok k → (e ≡ next (kind_at k)) × (k ≤ LAST_KIND)
 entry_kind (next kind) k h =
-    let n : kind_number kind ≡ k = ap kind_in h in
+    let n : kind_number kind ≡ k = cc in
     (ap next (sym (kind_at_lem kind) ∙ ap kind_at n), subst (λ (n : ℕ). n ≤ LAST_KIND) n (kind_small kind))
-entry_kind (refuse q) k h = absurd (false≢true (ap is_kind h))
+entry_kind (refuse q) k h = cc
 
 -- the number of the kind that a number stands for
 pub kind_number_lem : (k : ℕ) → k ≤ LAST_KIND → kind_number (kind_at k) ≡ k
@@ -98,55 +73,56 @@ kind_number_lem (suc (suc (suc (suc zero)))) h = refl
 kind_number_lem (suc (suc (suc (suc (suc k))))) h = absurd (omega arith)
 
 -- the kind after the calls before the i-th
-pub record Kinds (rows : List ℕ) (source kind i : ℕ) : Type 0 where
+pub record Kinds (rows : List PlacedCall) (source kind i : ℕ) : Type 0 where
   pub small : kind ≤ LAST_KIND
-  pub rest : (rule tree : List ℕ) → plan_of (kind_at kind) (calls_from rule tree rows (CALL_ROW * i)) ≡ plan_of (kind_at source) (calls_in rule tree rows)
+  pub rest : (rule tree : List ℕ) → plan_of (kind_at kind) (calls_from rule tree rows i) ≡ plan_of (kind_at source) (calls_in rule tree rows)
 
-pub kinds_start : (rows : List ℕ) (source : ℕ) → source ≤ LAST_KIND → Kinds rows source source 0
+pub kinds_start : (rows : List PlacedCall) (source : ℕ) → source ≤ LAST_KIND → Kinds rows source source 0
 kinds_start rows source h = record { small = h; rest = λ rule tree. ap (plan_of (kind_at source)) (calls_all rule tree rows) }
 
-module _ {rows : List ℕ} {source kind i : ℕ} (k : Kinds rows source kind i) where
-  module _ {given : Next} (h : CALL_ROW * i + CALL_ROW ≤ length rows) (g : given ≡ next_for (get_or rows (CALL_ROW * i) 0) kind) where
+module _ {rows : List PlacedCall} {source kind i : ℕ} (k : Kinds rows source kind i) where
+  module _ {given : Next} (h : i < length rows) (g : given ≡ next_for (nth rows i).method kind) where
     abbrev entry : Entry
-    entry = gives (method_at (get_or rows (CALL_ROW * i) 0)) (kind_at kind)
+    entry = gives (method_at (nth rows i).method) (kind_at kind)
 
-    step : (rule tree : List ℕ) → entries_after (calls_from rule tree rows (CALL_ROW * (i + 1))) entry ≡ plan_of (kind_at source) (calls_in rule tree rows)
+    step : (rule tree : List ℕ) → entries_after (calls_from rule tree rows (i + 1)) entry ≡ plan_of (kind_at source) (calls_in rule tree rows)
     step rule tree = sym (ap (plan_of (kind_at kind)) (calls_at rule tree rows i h)) ∙ k.rest rule tree
 
     is : given ≡ next_of entry
     unfolding next_for
     is = g
 
-    pub kinds_refused : {r : Refusal} → given ≡ Next.Refused r → (rule tree : List ℕ) → Next.Refused r ≡ next_of (plan_of (kind_at source) (calls_in rule tree rows))
+    pub kinds_refused : {r : Refusal} → given ≡ Next.Refused r → (rule tree : List ℕ) → Err r ≡ result_of (next_of (plan_of (kind_at source) (calls_in rule tree rows)))
     kinds_refused {r} e rule tree =
-        ap next_of (sym (refusal_stays (calls_from rule tree rows (CALL_ROW * (i + 1))) r)
-        ∙ ap (entries_after (calls_from rule tree rows (CALL_ROW * (i + 1)))) (sym (entry_refused entry r (sym is ∙ e)))
+        ap (λ (e : Entry). result_of (next_of e))
+        (sym (refusal_stays (calls_from rule tree rows (i + 1)) r)
+        ∙ ap (entries_after (calls_from rule tree rows (i + 1))) (sym (entry_refused entry r (ap result_of (sym is ∙ e))))
         ∙ step rule tree)
 
     pub kinds_on : {n : ℕ} → given ≡ Next.Kind n → Kinds rows source n (i + 1)
     kinds_on {n} e =
-        let k' = entry_kind entry n (sym is ∙ e) in
+        let k' = entry_kind entry n (ap result_of (sym is ∙ e)) in
         record {
           small = k'.1;
-          rest = λ rule tree. ap (entries_after (calls_from rule tree rows (CALL_ROW * (i + 1)))) (sym k'.0) ∙ step rule tree;
+          rest = λ rule tree. ap (entries_after (calls_from rule tree rows (i + 1))) (sym k'.0) ∙ step rule tree;
         }
 
-  pub kinds_end : length rows < CALL_ROW * i + CALL_ROW → (rule tree : List ℕ) → Next.Kind kind ≡ next_of (plan_of (kind_at source) (calls_in rule tree rows))
+  pub kinds_end : length rows ≤ i → (rule tree : List ℕ) → Ok kind ≡ result_of (next_of (plan_of (kind_at source) (calls_in rule tree rows)))
   kinds_end h rule tree =
-      ap Next.Kind (sym (kind_number_lem kind k.small))
-      ∙ ap (λ (calls : List Call). next_of (plan_of (kind_at kind) calls)) (sym (calls_over rule tree rows i h))
-      ∙ ap next_of (k.rest rule tree)
+      ap Ok (sym (kind_number_lem kind k.small))
+      ∙ ap (λ (calls : List Call). result_of (next_of (plan_of (kind_at kind) calls))) (sym (calls_over rule tree rows i h))
+      ∙ ap (λ (e : Entry). result_of (next_of e)) (k.rest rule tree)
 
--- what it says of the plan of calls that the rows stand for, from a kind with its number
-module _ (rule tree : List ℕ) {rows : List ℕ} {source : ℕ} {given : Next} (kind : Kind) (calls : List Call)
+-- what it says of the plan of calls that are read back, from a kind with its number
+module _ (rule tree : List ℕ) {rows : List PlacedCall} {source : ℕ} {given : Result ℕ Refusal} (kind : Kind) (calls : List Call)
     (a : KindAfter rows source given) (k : source ≡ kind_number kind) (c : calls_in rule tree rows ≡ calls) where
-  planned : given ≡ next_of (plan_of kind calls)
-  planned = a.next rule tree ∙ ap next_of (ap₂ plan_of (ap kind_at k ∙ kind_at_lem kind) c)
+  planned : given ≡ result_of (next_of (plan_of kind calls))
+  planned = a.next rule tree ∙ ap (λ (e : Entry). result_of (next_of e)) (ap₂ plan_of (ap kind_at k ∙ kind_at_lem kind) c)
 
-  pub plan_refused : {r : Refusal} → given ≡ Next.Refused r → plan_of kind calls ≡ refuse r
+  pub plan_refused : {r : Refusal} → given ≡ Err r → plan_of kind calls ≡ refuse r
   plan_refused {r} h = entry_refused (plan_of kind calls) r (sym planned ∙ h)
 
-  pub plan_kind : {n : ℕ} → given ≡ Next.Kind n → (plan_of kind calls ≡ next (kind_at n)) × (n ≤ LAST_KIND)
+  pub plan_kind : {n : ℕ} → given ≡ Ok n → (plan_of kind calls ≡ next (kind_at n)) × (n ≤ LAST_KIND)
   plan_kind {n} h = entry_kind (plan_of kind calls) n (sym planned ∙ h)
 
 -- ---- the last call
@@ -209,29 +185,29 @@ unfolding method_at
 count_no_quantifier n e = rw e
 
 -- no call before the i-th is the last
-pub record NotYet (rows : List ℕ) (i : ℕ) : Type 0 where
-  pub rest : (rule tree : List ℕ) → last_method (calls_from rule tree rows (CALL_ROW * i)) ≡ last_method (calls_in rule tree rows)
+pub record NotYet (rows : List PlacedCall) (i : ℕ) : Type 0 where
+  pub rest : (rule tree : List ℕ) → last_method (calls_from rule tree rows i) ≡ last_method (calls_in rule tree rows)
 
-pub not_yet : (rows : List ℕ) → NotYet rows 0
+pub not_yet : (rows : List PlacedCall) → NotYet rows 0
 not_yet rows = record { rest = λ rule tree. ap last_method (calls_all rule tree rows) }
 
-module _ {rows : List ℕ} {i : ℕ} (n : NotYet rows i) where
-  module _ (h : CALL_ROW * i + CALL_ROW ≤ length rows) where
-    pub last_found : is_last (method_at (get_or rows (CALL_ROW * i) 0)) ≡ true → (rule tree : List ℕ) → method_at (get_or rows (CALL_ROW * i) 0) ≡ last_method (calls_in rule tree rows)
+module _ {rows : List PlacedCall} {i : ℕ} (n : NotYet rows i) where
+  module _ (h : i < length rows) where
+    pub last_found : is_last (method_at (nth rows i).method) ≡ true → (rule tree : List ℕ) → method_at (nth rows i).method ≡ last_method (calls_in rule tree rows)
     unfolding last_method
     last_found l rule tree =
-        sym (ap method_in (ap last_call (calls_at rule tree rows i h) ∙ last_here (call_in rule tree (get_or rows (CALL_ROW * i) 0) (get_or rows (CALL_ROW * i + 1) 0)) (calls_from rule tree rows (CALL_ROW * (i + 1))) l))
+        sym (ap method_in (ap last_call (calls_at rule tree rows i h) ∙ last_here (call_in rule tree (nth rows i)) (calls_from rule tree rows (i + 1)) l))
         ∙ n.rest rule tree
 
-    pub last_on : is_last (method_at (get_or rows (CALL_ROW * i) 0)) ≡ false → NotYet rows (i + 1)
+    pub last_on : is_last (method_at (nth rows i).method) ≡ false → NotYet rows (i + 1)
     unfolding last_method
     last_on l =
         record {
           rest = λ rule tree.
-              sym (ap method_in (ap last_call (calls_at rule tree rows i h) ∙ last_later (call_in rule tree (get_or rows (CALL_ROW * i) 0) (get_or rows (CALL_ROW * i + 1) 0)) (calls_from rule tree rows (CALL_ROW * (i + 1))) l))
+              sym (ap method_in (ap last_call (calls_at rule tree rows i h) ∙ last_later (call_in rule tree (nth rows i)) (calls_from rule tree rows (i + 1)) l))
               ∙ n.rest rule tree;
         }
 
-  pub last_over : length rows < CALL_ROW * i + CALL_ROW → (rule tree : List ℕ) → method_at (method_number Where) ≡ last_method (calls_in rule tree rows)
+  pub last_over : length rows ≤ i → (rule tree : List ℕ) → method_at (method_number Where) ≡ last_method (calls_in rule tree rows)
   unfolding last_method
   last_over h rule tree = method_at_lem Where ∙ sym (ap method_in (ap last_call (calls_over rule tree rows i h) ∙ last_none)) ∙ n.rest rule tree

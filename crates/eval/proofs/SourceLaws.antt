@@ -20,6 +20,7 @@ use Rattle.meaning.specs.Calls.{Method, Call, kept, up_from}
 use Rattle.meaning.specs.Pipeline.{is_of_analysis}
 use Rattle.meaning.specs.Walk.{arrivals, last_call, test_in, how_many}
 use Rattle.meaning.proofs.WalkLaws.{components_rows, diagnostics_rows, rows_length, whole_within}
+use Rattle.eval.specs.declared.ready.Call.{Call as PlacedCall}
 use Rattle.eval.specs.Ready.{calls_in, calls_from, source_members}
 use Rattle.eval.specs.Feed.{begin, listed, arrive, fed, Decides, Fits, walked}
 use Rattle.eval.proofs.ReadyLaws.{calls_all}
@@ -58,11 +59,11 @@ module _ {image : List ℕ} {calls : List Call} {members : List Member} {table :
           ∙ members_written (listed (last_call calls) (arrivals image calls members)) table (listed_fit (last_call calls))
 
 -- all calls are those from the first on
-pub decides_all : {last : Method} (rule tree rows : List ℕ) → Decides last (calls_in rule tree rows) → Decides last (calls_from rule tree rows 0)
+pub decides_all : {last : Method} (rule tree : List ℕ) (rows : List PlacedCall) → Decides last (calls_in rule tree rows) → Decides last (calls_from rule tree rows 0)
 decides_all {last} rule tree rows d = subst (Decides last) (sym (calls_all rule tree rows)) d
 
 -- the two sources
-module _ (rule image tree rows table : List ℕ) (kind : ℕ) (f : Forest) where
+module _ (rule image tree : List ℕ) (rows : List PlacedCall) (table : List ℕ) (kind : ℕ) (f : Forest) where
   abbrev calls : List Call
   calls = calls_from rule tree rows 0
 

@@ -1,12 +1,12 @@
 -- The collection table: its rows set to 0, and members' rows written from its front on. Assumes nothing.
 use mathlib.Core.Path.{◌≡◌, refl, sym, ap, ◌∙◌}
 use mathlib.Core.List.{List, [], ◌∷◌, ◌++◌}
-use Prim.Native.Nat.{ℕ, zero, suc, ◌+◌, ◌-◌, ◌≤◌, ◌<◌}
+use Prim.Native.Nat.{ℕ, zero, suc, ◌+◌, ◌-◌, ◌≤◌}
 use native.Mathlib.Nat.{not-suc-le-zero, le_of_suc-le-suc}
 use native.Mathlib.Omega.{arith}
-use lib.ListN.{length, drop, set, replicate, length-append, length-drop, length-replicate, replicate-append-replicate}
-use lib.Seq.{sets, length-sets}
-use Rattle.syntax.proofs.TableLaws.{sets_append, sets_front}
+use lib.ListN.{length, drop, set, replicate, length-append, length-drop, length-replicate}
+use lib.Seq.{sets}
+use Rattle.syntax.proofs.TableLaws.{sets_front}
 use Rattle.predicate.specs.declared.atom.Member.{Member}
 use Rattle.meaning.specs.Value.{row_of, rows_of, whole_rows, with_members}
 use Rattle.meaning.proofs.WalkLaws.{whole_within}
@@ -21,44 +21,6 @@ zeros_length n = length-replicate {A = ℕ} n 0
 -- all whole rows are 0, the numbers after them as they were
 abbrev pub cleared : List ℕ → List ℕ
 cleared table = zeros (whole_rows table) ++ drop (whole_rows table) table
-
--- so many numbers of a table are, from its front on
-pub record Clearing (before after : List ℕ) (end i : ℕ) : Type 0 where
-  pub within : i ≤ end
-  pub table : after ≡ sets before 0 (zeros i)
-  pub end_is : end ≡ whole_rows before
-
-pub clearing_start : (table : List ℕ) → Clearing table table (whole_rows table) 0
-clearing_start table = record { within = omega arith; table = refl; end_is = refl }
-
-module _ {before after : List ℕ} {end i : ℕ} (c : Clearing before after end i) where
-  pub clearing_length : length after ≡ length before
-  clearing_length = ap length c.table ∙ length-sets before 0 (zeros i)
-
-  pub clearing_on : i < end → Clearing before (set after i 0) end (i + 1)
-  clearing_on h =
-      record {
-        within = omega arith;
-        table =
-            ap (λ (t : List ℕ). set t i 0) c.table
-            ∙ ap (λ (k : ℕ). set (sets before 0 (zeros i)) k 0) (sym place)
-            ∙ sym (sets_append (zeros i) (0 ∷ []) before 0)
-            ∙ ap (sets before 0) (replicate-append-replicate i 1 0);
-        end_is = c.end_is;
-      }
-    where
-      place : 0 + length (zeros i) ≡ i
-      place = omega (arith, zeros_length i)
-
-  pub clearing_end : end ≤ i → after ≡ cleared before
-  clearing_end h =
-      c.table
-      ∙ ap (λ (k : ℕ). sets before 0 (zeros k)) whole
-      ∙ sets_front (zeros (whole_rows before)) before (omega (arith, zeros_length (whole_rows before), whole_within before))
-      ∙ ap (λ (k : ℕ). zeros (whole_rows before) ++ drop k before) (zeros_length (whole_rows before))
-    where
-      whole : i ≡ whole_rows before
-      whole = omega (arith, c.within, c.end_is)
 
 -- of zeros in front of others the first ones are dropped
 drop_zeros : (k w : ℕ) (rest : List ℕ) → k ≤ w → drop k (zeros w ++ rest) ≡ zeros (w - k) ++ rest

@@ -23,7 +23,6 @@ use Rattle.calls.specs.Answer.{boolean_of, answer_of}
 use Rattle.calls.specs.Table.{method_at, kind_at}
 use Rattle.calls.proofs.TableLaws.{method_at_lem, kind_at_lem}
 use Rattle.eval.specs.declared.walk.Tally.{Tally}
-use Rattle.eval.specs.Ready.{LAST_KIND}
 use Rattle.eval.specs.Pipeline.{OperatorAt, Gives, Judges}
 use Rattle.eval.proofs.CallLaws.{ignored_past}
 
@@ -58,15 +57,6 @@ module _ (method : ℕ) (t : Tally) where
   unfolding settled
   gives_count {kind} e = by_kind kind Kind.Count e (λ members l. refl)
 
--- the last kind is the one that is left
-pub last_left : (kind : ℕ) → kind ≤ LAST_KIND → (((Unit {0} × (kind ≡ 0 → ⊥)) × (kind ≡ 1 → ⊥)) × (kind ≡ 2 → ⊥)) × (kind ≡ 3 → ⊥) → kind ≡ kind_number Kind.Count
-last_left zero h n = absurd (n.0.0.0.1 refl)
-last_left (suc zero) h n = absurd (n.0.0.1 refl)
-last_left (suc (suc zero)) h n = absurd (n.0.1 refl)
-last_left (suc (suc (suc zero))) h n = absurd (n.1 refl)
-last_left (suc (suc (suc (suc zero)))) h n = refl
-last_left (suc (suc (suc (suc (suc k))))) h n = absurd (omega arith)
-
 -- ---- a quantifier by its number
 
 module _ (arrived passed : ℕ) where
@@ -83,11 +73,11 @@ module _ (arrived passed : ℕ) where
   judges_none {method} e h = by_method method None e (ap Answer.Given h)
 
   -- no other call is one
-  pub judges_other : (method : ℕ) → ((Unit {0} × (method ≡ 1 → ⊥)) × (method ≡ 2 → ⊥)) × (method ≡ 3 → ⊥) → Judges method arrived passed (Value.Bool false)
+  pub judges_other : (method : ℕ) → (method ≡ 1 → ⊥) → (method ≡ 2 → ⊥) → (method ≡ 3 → ⊥) → Judges method arrived passed (Value.Bool false)
   unfolding method_at
-  judges_other method n =
+  judges_other method a b c =
       record {
-        judged = whether (eqb method 0) (λ e. rw (e) refl) (λ e. rw (e, ne_eqb method 1 n.0.0.1, ne_eqb method 2 n.0.1, ne_eqb method 3 n.1) rest);
+        judged = whether (eqb method 0) (λ e. rw (e) refl) (λ e. rw (e, ne_eqb method 1 a, ne_eqb method 2 b, ne_eqb method 3 c) rest);
       }
     where
       rest : Answer.Given (Value.Bool false) ≡ answer_of (judged (cond (eqb method 4) Rattle.meaning.specs.Calls.Count (cond (eqb method 5) Rattle.meaning.specs.Calls.Features Rattle.meaning.specs.Calls.Diagnostics)) arrived passed)

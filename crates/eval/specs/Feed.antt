@@ -1,19 +1,15 @@
 -- Members sent through calls one after the other, and what is kept of those that arrive: how many, how many of them pass the last call's
 -- test, and, where the calls come to a collection, their rows. Assumes nothing: these are definitions.
-use Rattle.std.specs.Prelude.{ℕ, ◌+◌, ◌*◌, ◌≤◌, List, [], Bool, true, false, cond, ◌&&◌, ◌≡◌, ltb, length, get_or}
+use Rattle.std.specs.Prelude.{ℕ, ◌+◌, ◌*◌, ◌≤◌, List, [], Bool, true, false, cond, ◌≡◌, ltb, length, get_or}
 use Rattle.std.proofs.Math.Option.{Option, none, some}
 use Rattle.std.proofs.lemmas.List.Edits.{sets}
 use Rattle.syntax.specs.Text.{same}
 use Rattle.board.specs.Image.{text}
 use Rattle.board.specs.Check.{COLLECTION_ROW}
 use Rattle.predicate.specs.declared.atom.Member.{Member}
-use Rattle.predicate.specs.Truth.{truth}
-use Rattle.predicate.specs.Rows.{children_at}
 use Rattle.meaning.specs.Value.{rows_of, with_members}
-use Rattle.meaning.specs.Calls.{Method, Where, All, Any, None, Count, Features, Diagnostics, Call, method_number}
+use Rattle.meaning.specs.Calls.{Method, Where, All, Any, None, Count, Features, Diagnostics, Call}
 use Rattle.meaning.specs.Walk.{is_quantifier, arrivals, last_call, test_in, how_many}
-use Rattle.calls.specs.Table.{method_at}
-use Rattle.eval.specs.Ready.{CALL_ROW}
 use Rattle.eval.specs.declared.walk.Tally.{Tally}
 
 -- how far members were sent: how many arrived, how many of those passed, and the collection table
@@ -49,6 +45,10 @@ unfoldable pub fed : (image : List ℕ) → List Call → List Member → State 
 unfolding arrive arrivals last_call
 fed image calls members s = arrive image (last_call calls) (arrivals image calls members) s
 
+-- one more member arrived, and passed or not
+abbrev pub counted : Tally → Bool → Tally
+counted t passes = record { arrived = t.arrived + 1; passed = t.passed + cond passes 1 0 }
+
 -- whether a quantifier is decided, whoever else arrives: `all` by a member that does not pass, `any` and `none` by one that does
 abbrev pub decided : Method → (arrived passed : ℕ) → Bool
 decided Where arrived passed = false
@@ -58,6 +58,9 @@ decided None arrived passed = ltb 0 passed
 decided Count arrived passed = false
 decided Features arrived passed = false
 decided Diagnostics arrived passed = false
+
+abbrev pub decided_in : Method → Tally → Bool
+decided_in last t = decided last t.arrived t.passed
 
 -- where a quantifier may be decided, no rows are written
 pub record Decides (last : Method) (calls : List Call) : Type 0 where
@@ -76,16 +79,6 @@ pub record Stands (last : Method) (s t : State) : Type 0 where
   pub fewer : s.passed ≤ s.arrived
   pub same : decided last s.arrived s.passed ≡ false → s ≡ t
   pub done : decided last s.arrived s.passed ≡ true → decided last t.arrived t.passed ≡ true
-
--- a member arrived at a call that gives no collection
-pub record Arrives (rule image tree : List ℕ) (method args : ℕ) (m : Member) (t r : Tally) : Type 0 where
-  pub arrived : r.arrived ≡ t.arrived + 1
-  pub passed : r.passed ≡ t.passed + cond (is_quantifier (method_at method) && truth image m (children_at rule tree args)) 1 0
-
--- a call was found to be `features`
-pub record IsFeatures (rows : List ℕ) (i : ℕ) (r : Bool) : Type 0 where
-  pub there : r ≡ true → CALL_ROW * i + CALL_ROW ≤ length rows
-  pub method : r ≡ true → get_or rows (CALL_ROW * i) 0 ≡ method_number Features
 
 -- how many analyses are known
 abbrev pub KNOWN : ℕ

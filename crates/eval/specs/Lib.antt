@@ -6,3 +6,4 @@ pub mod Marked
 pub mod Memo
 pub mod Step
 pub mod Listed
+pub mod Walk

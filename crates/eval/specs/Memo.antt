@@ -1,6 +1,6 @@
 -- What is known of the calls' predicates: a byte for each call, each profile and each of the ways in which the marked `has` can be true.
 -- Assumes nothing: these are definitions.
-use Rattle.std.specs.Prelude.{ℕ, ◌+◌, ◌*◌, ◌≤◌, ◌<◌, Bool, true, cond, List, ◌≡◌, ltb, length, get_or, set}
+use Rattle.std.specs.Prelude.{ℕ, ◌+◌, ◌*◌, ◌≤◌, ◌<◌, Bool, true, cond, List, Option, Some, ◌≡◌, ltb, length, get_or, set}
 use Rattle.instance.specs.Instance.{owners_wired}
 use Rattle.predicate.specs.declared.atom.Member.{Member}
 use Rattle.predicate.specs.Truth.{truth}
@@ -8,7 +8,8 @@ use Rattle.predicate.specs.Rows.{children_at}
 use Rattle.profile.specs.declared.Profile.{Profile}
 use Rattle.profile.specs.declared.Profile.TheVariants.{Number, Unknown}
 use Rattle.profile.specs.Profile.{PROFILES, WIRING_OF_FEATURES, holds, profile_of}
-use Rattle.eval.specs.Ready.{CALL_ROW}
+use Rattle.eval.specs.declared.ready.Call.{Call as PlacedCall}
+use Rattle.eval.specs.Ready.{nth}
 use Rattle.eval.specs.Marked.{NO_BITS, bits_of, held_in, Marks, TellsBelow}
 
 -- the calls whose predicates are noted
@@ -47,9 +48,9 @@ known value = cond value KNOWN_TRUE KNOWN_FALSE
 unfoldable pub byte_of : Bool → Bool → ℕ
 byte_of more value = cond more NOT_TO_KNOW (known value)
 
--- the place of the CALL_ARGS of a call, by its row
-abbrev pub args_of : List ℕ → ℕ → ℕ
-args_of calls i = get_or calls (CALL_ROW * i + 1) 0
+-- the place of the CALL_ARGS of a call
+abbrev pub args_of : List PlacedCall → ℕ → ℕ
+args_of calls i = (nth calls i).args
 
 -- where the notes of members with a profile and bits begin
 unfoldable pub place_by : Profile → ℕ → ℕ
@@ -70,7 +71,7 @@ note_in memo i place = cond (ltb i NOTED_CALLS) (get_or memo (place + PROFILES *
 
 -- what a memo says is so: its marks, that the owner of every connection is wired where the wiring of features is held, and each truth that is
 -- noted at a member's place
-pub record Notes (rule image tree calls memo : List ℕ) : Type 0 where
+pub record Notes (rule image tree : List ℕ) (calls : List PlacedCall) (memo : List ℕ) : Type 0 where
   pub room : 0 < length memo
   pub marks : Marks rule image tree memo
   pub wired : holds (held_in memo) WIRING_OF_FEATURES ≡ true → owners_wired image ≡ true
@@ -80,15 +81,19 @@ pub record Notes (rule image tree calls memo : List ℕ) : Type 0 where
 pub record Placed (image memo : List ℕ) (m : Member) (place : ℕ) : Type 0 where
   pub is : place ≡ place_of image memo m
   pub small : place ≤ NO_PLACE
-  pub told : (rule tree calls : List ℕ) → Notes rule image tree calls memo → (i : ℕ) (value : Bool) → note_in memo i place ≡ known value
+  pub told : (rule tree : List ℕ) (calls : List PlacedCall) → Notes rule image tree calls memo → (i : ℕ) (value : Bool) → note_in memo i place ≡ known value
       → truth image m (children_at rule tree (args_of calls i)) ≡ value
 
 -- a call's predicate was asked of a member
-pub record Asked (rule image tree calls : List ℕ) (i : ℕ) (m : Member) (before after : List ℕ) (r : Bool) : Type 0 where
+pub record Asked (rule image tree : List ℕ) (calls : List PlacedCall) (i : ℕ) (m : Member) (before after : List ℕ) (r : Bool) : Type 0 where
   pub value : r ≡ truth image m (children_at rule tree (args_of calls i))
   pub notes : Notes rule image tree calls after
   pub held : held_in after ≡ held_in before
   pub long : length after ≡ length before
+
+-- what is noted of the predicate of call i at a place tells whether it is true
+pub record Tells (memo : List ℕ) (i place : ℕ) (r : Option Bool) : Type 0 where
+  pub so : (value : Bool) → r ≡ Some value → note_in memo i place ≡ known value
 
 -- an answer was noted at a place, if the memo has it
 pub data Noted (rule tree : List ℕ) (args : ℕ) (m : Member) (i place : ℕ) (value : Bool) (before after : List ℕ) : Type 0 where

@@ -1,5 +1,5 @@
 -- What the functions of `pipeline` ask and give; no public contract needs this file. Assumes nothing: these are definitions.
-use Rattle.std.specs.Prelude.{ℕ, ◌+◌, ◌*◌, ◌≤◌, ◌≡◌, List, [], length, take}
+use Rattle.std.specs.Prelude.{ℕ, ◌+◌, ◌*◌, ◌/◌, ◌≤◌, ◌≡◌, List, [], length, take}
 use Rattle.lexer.specs.Read.{MAX_RULE}
 use Rattle.trees.specs.Green.{dot_calls}
 use Rattle.board.specs.WellFormed.{WellFormed, Room}
@@ -13,15 +13,17 @@ use Rattle.calls.specs.declared.value.Value.{Value}
 use Rattle.calls.specs.Answer.{answer_of}
 use Rattle.calls.specs.Table.{method_at, kind_at}
 use Rattle.eval.specs.declared.walk.Tally.{Tally}
-use Rattle.eval.specs.Ready.{CALL_ROW, calls_in, source_members}
+use Rattle.eval.specs.declared.ready.Call.{Call as PlacedCall}
+use Rattle.eval.specs.declared.ready.Plan.{Plan}
+use Rattle.eval.specs.Ready.{calls_in, source_members}
 
 -- the numbers of the longest tree: 7n + 5 rows of a rule of 500 bytes
 abbrev pub MAX_ROWS : ℕ
 MAX_ROWS = 14020
 
--- the numbers of the rows of as many calls as the longest rule may have, one for two bytes, and of one more
+-- as many calls as the longest rule may have, one for two bytes, and one more
 abbrev pub CALLS : ℕ
-CALLS = MAX_RULE + CALL_ROW
+CALLS = MAX_RULE / 2 + 1
 
 -- the node whose row is at a place has a call for two bytes of the longest rule at most
 pub record FewCalls (rule tree : List ℕ) (at : ℕ) : Type 0 where
@@ -37,9 +39,9 @@ pub record Evaluates (o : Outcome) (before after : List ℕ) (r : Answer) : Type
   pub outcome : r ≡ answer_of o
   pub table : after ≡ collection_table o before
 
--- how many members arrive by the first calls, whose rows stand at the front; all rows of the collection table are 0
-pub record Counts (rule image tree : List ℕ) (source : ℕ) (rows : List ℕ) (count : ℕ) (before after : List ℕ) (r : ℕ) : Type 0 where
-  pub members : r ≡ length (arrivals image (calls_in rule tree (take (CALL_ROW * count) rows)) (source_members image (tree_kind tree source) (children_at rule tree source)))
+-- how many members arrive by the calls that are planned, which stand at the front; all rows of the collection table are 0
+pub record Counts (rule image tree : List ℕ) (plan : Plan) (rows : List PlacedCall) (before after : List ℕ) (r : ℕ) : Type 0 where
+  pub members : r ≡ length (arrivals image (calls_in rule tree (take plan.calls rows)) (source_members image (tree_kind tree plan.source) (children_at rule tree plan.source)))
   pub table : after ≡ with_members [] before
 
 -- the operator of a comparison's own tokens, which its rows say without the rule

@@ -16,12 +16,10 @@ pub(crate) fn list_components(image: &[u8], collection: &mut [u32]) -> usize
     ensures { Lists (every_component image.now) 0 collection.old collection.new result }
 {
     let count = image::record_count(image, Section::Components);
-    let mut component = 0;
-    while component < count {
+    for component in 0..count {
         walk::put_member(collection, component as usize, Member::Component(component));
-        component += 1;
     }
-    component as usize
+    count as usize
 }
 
 // Writes the rows of the features of all components, and gives their number.
@@ -31,10 +29,8 @@ pub(crate) fn list_owned(image: &[u8], collection: &mut [u32]) -> usize
 {
     let count = image::record_count(image, Section::Components);
     let mut row = 0;
-    let mut component = 0;
-    while component < count {
+    for component in 0..count {
         row = list_features(image, component, row, collection);
-        component += 1;
     }
     row
 }
@@ -45,12 +41,11 @@ fn list_features(image: &[u8], component: u32, first: usize, collection: &mut [u
     ensures { Lists (features_of image.now component) first collection.old collection.new result }
 {
     let end = instance::features_end(image, component);
-    let mut feature = image::field(image, Section::Components, component, image::FIRST_FEATURE);
+    let start = image::field(image, Section::Components, component, image::FIRST_FEATURE);
     let mut row = first;
-    while feature < end {
+    for feature in start..end {
         walk::put_member(collection, row, Member::Feature(component, feature));
         row += 1;
-        feature += 1;
     }
     row
 }
@@ -61,10 +56,8 @@ pub(crate) fn count_owned(image: &[u8]) -> usize
 {
     let count = image::record_count(image, Section::Components);
     let mut features = 0;
-    let mut component = 0;
-    while component < count {
+    for component in 0..count {
         features += count_features(image, component) as usize;
-        component += 1;
     }
     features
 }
@@ -75,8 +68,5 @@ fn count_features(image: &[u8], component: u32) -> u32
 {
     let end = instance::features_end(image, component);
     let first = image::field(image, Section::Components, component, image::FIRST_FEATURE);
-    if end <= first {
-        return 0;
-    }
-    end - first
+    end.saturating_sub(first)
 }

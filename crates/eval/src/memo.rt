@@ -1,13 +1,16 @@
 // What is known of the calls' predicates. A predicate that asks for no more than a member's profile and its bits is asked of the first
 // member of each profile and bits, and its answer noted: a byte for each call, profile and bits. Where nothing is marked the bits are 0.
-ghost use Rattle.std.specs.Prelude.{◌≡◌, ℕ, ◌+◌, ◌*◌, ◌≤◌, ◌<◌, length};
+ghost use Rattle.std.specs.Prelude.{◌≡◌, ℕ, ◌≤◌, ◌<◌, length};
+ghost use Rattle.predicate.specs.Truth.{truth};
+ghost use Rattle.predicate.specs.Rows.{children_at};
 ghost use Rattle.profile.specs.Profile.{PROFILES, profile_of};
-ghost use Rattle.eval.specs.Ready.{CALL_ROW};
-ghost use Rattle.eval.specs.Marked.{held_in};
-ghost use Rattle.eval.specs.Memo.{plain_place, byte_of, note_in, Notes, Placed, Asked, Noted};
+ghost use Rattle.eval.specs.Marked.{held_in, TellsBelow};
+ghost use Rattle.eval.specs.Memo.{plain_place, byte_of, note_in, Placed, Noted};
 ghost use Rattle.eval.specs.Memo as meant;
+ghost use Rattle.eval.specs.Walk.{Asking, AskedOf, Stays};
 
-use crate::{marked, ready};
+use crate::marked;
+use crate::walk::{Pipeline, Walk};
 use predicate;
 use predicate::atom::Member;
 use profile;
@@ -34,9 +37,105 @@ const NOT_TO_KNOW: u8 = 3;
 // No place of a note.
 const NO_PLACE: usize = 0x100000;
 
-// Where the notes of a member with this profile begin, in a memo without marks. Whoever sends members looks for marks first: this is the way
-// of most, and nothing is handed over on it.
-pub(crate) fn plain_place(profile: Profile) -> usize
+impl<'a> Walk<'a> {
+    // Where the notes of a member with this profile begin. The way of most members goes by a memo without marks, which hands nothing over.
+    pub(crate) fn place_of(&self, member: Member, profile: Profile) -> usize
+        requires { profile ≡ profile_of self.now.pipeline.image.now (held_in self.now.notes.now) member }
+        ensures { Placed self.now.pipeline.image.now self.now.notes.now member result }
+    {
+        if marked::PLACES < self.notes.len() {
+            return marked_place(self.pipeline.image, member, profile, self.notes);
+        }
+        plain_place(profile)
+    }
+
+    // Whether the predicate of call i, whose CALL_ARGS are at a place of the tree, is true of a member: as noted, or by asking it. Nothing is
+    // noted in a memo that has no room.
+    pub(crate) fn ask(&mut self, i: usize, args: usize, member: Member) -> bool
+        requires { Asking self.old i args }
+        ensures { AskedOf self.old i member self.new result }
+    {
+        if self.notes.len() < PLAIN {
+            return self.eval(args, member);
+        }
+        let profile = profile::profile_of(self.pipeline.image, self.notes[0], member);
+        let place = self.place_of(member, profile);
+        let known = self.noted(i, place);
+        if known == KNOWN_TRUE {
+            return true;
+        }
+        if known == KNOWN_FALSE {
+            return false;
+        }
+        let value = self.eval(args, member);
+        if known == NOT_KNOWN {
+            self.note(args, member, i, place, value);
+        }
+        value
+    }
+
+    // What is noted of the predicate of call i at a place.
+    pub(crate) fn noted(&self, i: usize, place: usize) -> u8
+        requires { place ≤ meant.NO_PLACE }
+        ensures { result ≡ note_in self.now.notes.now i place }
+    {
+        if NOTED_CALLS <= i {
+            return NOT_KNOWN;
+        }
+        let at = place + profile::PROFILES * i;
+        if self.notes.len() <= at {
+            return NOT_KNOWN;
+        }
+        self.notes[at]
+    }
+
+    // The predicate whose CALL_ARGS are at a place of the tree, asked of a member.
+    fn eval(&self, args: usize, member: Member) -> bool
+        ensures { result ≡ truth self.now.pipeline.image.now member (children_at self.now.pipeline.rule.now self.now.pipeline.tree.now args) }
+    {
+        let Pipeline {
+            rule,
+            image,
+            tree,
+            ..
+        } = self.pipeline;
+        predicate::eval_args(rule, image, tree, member, args)
+    }
+
+    // Notes the answer of the predicate of call i, if it is that of every member with the same profile and bits.
+    fn note(&mut self, args: usize, member: Member, i: usize, place: usize, value: bool)
+        requires { place ≤ meant.NO_PLACE }
+        ensures same { Stays self.old self.new }
+        ensures noted { Noted self.old.pipeline.rule.now self.old.pipeline.tree.now args member i place value self.old.notes.now self.new.notes.now }
+    {
+        if NOTED_CALLS <= i {
+            return;
+        }
+        let at = place + profile::PROFILES * i;
+        if self.notes.len() <= at {
+            return;
+        }
+        let more = self.asks_more(args, member);
+        self.notes[at] = byte_of(more, value);
+    }
+
+    // Whether the predicate whose CALL_ARGS are at a place of the tree asks for more of a member than its profile and its bits.
+    fn asks_more(&self, args: usize, member: Member) -> bool
+        requires { 0 < length self.now.notes.now }
+        ensures { TellsBelow self.now.pipeline.rule.now self.now.pipeline.tree.now args member self.now.notes.now result }
+    {
+        marked::asks_below(
+            self.pipeline.rule,
+            self.pipeline.tree,
+            args,
+            member,
+            self.notes,
+        )
+    }
+}
+
+// Where the notes of a member with this profile begin, in a memo without marks.
+fn plain_place(profile: Profile) -> usize
     requires { (k : ℕ) → profile ≡ Profile.Number k → k < PROFILES }
     ensures { result ≡ plain_place profile }
 {
@@ -47,8 +146,8 @@ pub(crate) fn plain_place(profile: Profile) -> usize
 }
 
 // The same in any memo, by the marks too.
-pub(crate) fn marked_place(image: &[u8], member: Member, profile: Profile, memo: &[u8]) -> usize
-    requires { profile_of image.now (held_in memo.now) member ≡ profile }
+fn marked_place(image: &[u8], member: Member, profile: Profile, memo: &[u8]) -> usize
+    requires { profile ≡ profile_of image.now (held_in memo.now) member }
     ensures { Placed image.now memo.now member result }
 {
     let Profile::Number(k) = profile else {
@@ -59,79 +158,6 @@ pub(crate) fn marked_place(image: &[u8], member: Member, profile: Profile, memo:
         return NO_PLACE;
     }
     1 + WAY_NOTES * bits + k
-}
-
-// What is noted of the predicate of call i at a place.
-pub(crate) fn noted(memo: &[u8], i: usize, place: usize) -> u8
-    requires { place ≤ meant.NO_PLACE }
-    ensures { result ≡ note_in memo.now i place }
-{
-    if NOTED_CALLS <= i {
-        return NOT_KNOWN;
-    }
-    let at = place + profile::PROFILES * i;
-    if memo.len() <= at {
-        return NOT_KNOWN;
-    }
-    memo[at]
-}
-
-// Whether the predicate of call i is true of a member: as noted, or by asking it. Nothing is noted in a memo that has no room.
-pub(crate) fn ask(
-    rule: &[u8],
-    image: &[u8],
-    tree: &[u32],
-    calls: &[u32],
-    i: usize,
-    member: Member,
-    memo: &mut [u8],
-) -> bool
-    requires { (CALL_ROW * (i + 1) ≤ length calls.now) × Notes rule.now image.now tree.now calls.now memo.old }
-    ensures { Asked rule.now image.now tree.now calls.now i member memo.old memo.new result }
-{
-    let args = calls[ready::CALL_ROW * i + 1] as usize;
-    if memo.len() < PLAIN {
-        return predicate::eval_args(rule, image, tree, member, args);
-    }
-    let profile = profile::profile_of(image, memo[0], member);
-    let place = marked_place(image, member, profile, memo);
-    let known = noted(memo, i, place);
-    if known == KNOWN_TRUE {
-        return true;
-    }
-    if known == KNOWN_FALSE {
-        return false;
-    }
-    let value = predicate::eval_args(rule, image, tree, member, args);
-    if known == NOT_KNOWN {
-        note(rule, tree, args, member, i, place, value, memo);
-    }
-    value
-}
-
-// Notes the answer of the predicate of call i, if it is that of every member with the same profile and bits.
-fn note(
-    rule: &[u8],
-    tree: &[u32],
-    args: usize,
-    member: Member,
-    i: usize,
-    place: usize,
-    value: bool,
-    memo: &mut [u8],
-)
-    requires { place ≤ meant.NO_PLACE }
-    ensures { Noted rule.now tree.now args member i place value memo.old memo.new }
-{
-    if NOTED_CALLS <= i {
-        return;
-    }
-    let at = place + profile::PROFILES * i;
-    if memo.len() <= at {
-        return;
-    }
-    let more = marked::asks_below(rule, tree, args, member, memo);
-    memo[at] = byte_of(more, value);
 }
 
 // The byte for an answer, of a predicate that may ask for more.

@@ -1,18 +1,18 @@
 // eval.rs, "Pipeline evaluation": what the tree of a rule without parse errors comes to on a board. All refusals are settled before a row
 // of the collection table is written.
-ghost use Rattle.std.specs.Prelude.{◌≡◌, ◌+◌, ◌*◌, ◌≤◌, length};
+ghost use Rattle.std.specs.Prelude.{◌≡◌, ◌+◌, ◌≤◌, ◌<◌, length};
 ghost use Rattle.trees.specs.Look.{is_comparison};
 ghost use Rattle.predicate.specs.Rows.{ROW, children_at, row_passes};
 ghost use Rattle.meaning.specs.Pipeline.{eval_pipeline};
 ghost use Rattle.meaning.specs.Outcome.{eval_count_compare, eval_node};
 ghost use Rattle.calls.specs.Answer.{boolean_of};
-ghost use Rattle.eval.specs.Ready.{CALL_ROW, LAST_KIND};
+ghost use Rattle.eval.specs.Ready.{LAST_KIND};
 ghost use Rattle.eval.specs.Pipeline.{MAX_ROWS, FewCalls, Lent, Evaluates, Counts, OperatorAt, Gives, Judges};
 ghost use Rattle.eval.specs.Pipeline as meant;
 
-use crate::ready::Planned;
-use crate::walk::Tally;
-use crate::{ready, walk};
+use crate::ready;
+use crate::ready::{Call, Plan};
+use crate::walk::{Pipeline, Tally};
 use calls::value::{Integer, Outcome, Value};
 use calls::{compare, method, table};
 use lexer::limits::MAX_RULE;
@@ -21,8 +21,14 @@ use predicate::{node, rows};
 use syntax::kind;
 use syntax::refusal::Refusal;
 
-// The room for the rows of calls: a rule has two bytes for each, a dot and a method's first, and a count may stand behind them.
-const CALLS: usize = MAX_RULE + ready::CALL_ROW;
+// The room for calls: a rule has two bytes for each, a dot and a method's first, and a count may stand behind them.
+const CALLS: usize = MAX_RULE / 2 + 1;
+
+// A place where no call is written yet.
+const NO_CALL: Call = Call {
+    method: method::WHERE,
+    args: 0,
+};
 
 // `eval_node`: the first node in the root, a comparison or a pipeline.
 pub(crate) fn eval_node(rule: &[u8], image: &[u8], tree: &[u32], collection: &mut [u32]) -> Outcome
@@ -33,7 +39,7 @@ pub(crate) fn eval_node(rule: &[u8], image: &[u8], tree: &[u32], collection: &mu
     let Found::At(at) = found else {
         return Outcome::Refused(Refusal::ParseErrors);
     };
-    let mut calls = [0u32; CALLS];
+    let mut calls = [NO_CALL; CALLS];
     if tree[at] == kind::COUNT_COMPARE_EXPR {
         return eval_count_compare(rule, image, tree, at, &mut calls, collection);
     }
@@ -46,26 +52,27 @@ fn eval_pipeline(
     image: &[u8],
     tree: &[u32],
     at: usize,
-    calls: &mut [u32],
+    calls: &mut [Call],
     collection: &mut [u32],
 ) -> Outcome
     requires { (at + ROW ≤ length tree.now) × (length tree.now ≤ MAX_ROWS) × (meant.CALLS ≤ length calls.old) × Lent image.now collection.old × FewCalls rule.now tree.now at }
     ensures { Evaluates (eval_pipeline image.now (children_at rule.now tree.now at)) collection.old collection.new result }
 {
-    match ready::plan(rule, tree, at, calls) {
-        Planned::Refused(r) => Outcome::Refused(r),
-        Planned::Ready {
-            source,
-            calls: count,
-            kind,
-        } => {
-            let end = ready::CALL_ROW * count;
-            let method = ready::last_method(&calls[..end]);
-            let last = method as usize;
-            let tally = walk::walk(rule, image, tree, source, &calls[..end], last, collection);
-            Outcome::Given(value(kind, method, tally))
-        }
-    }
+    let plan = match ready::plan_pipeline(rule, tree, at, calls) {
+        Err(r) => return Outcome::Refused(r),
+        Ok(plan) => plan,
+    };
+    let calls = &calls[..plan.calls];
+    let last = ready::last_method(calls);
+    let pipeline = Pipeline {
+        rule,
+        image,
+        tree,
+        calls,
+        last,
+    };
+    let tally = pipeline.walk(plan.source, collection);
+    Outcome::Given(value(plan.kind, last, tally))
 }
 
 // `eval_count_compare`, of the COUNT_COMPARE_EXPR whose row is at a place: the left side is judged before the integer.
@@ -74,7 +81,7 @@ fn eval_count_compare(
     image: &[u8],
     tree: &[u32],
     at: usize,
-    calls: &mut [u32],
+    calls: &mut [Call],
     collection: &mut [u32],
 ) -> Outcome
     requires { (at + ROW ≤ length tree.now) × (length tree.now ≤ MAX_ROWS) × (meant.CALLS ≤ length calls.old) × Lent image.now collection.old × FewCalls rule.now tree.now at }
@@ -84,53 +91,45 @@ fn eval_count_compare(
     let Found::At(pipeline) = found else {
         return Outcome::Refused(Refusal::ParseErrors);
     };
-    match ready::plan(rule, tree, pipeline, calls) {
-        Planned::Refused(r) => Outcome::Refused(r),
-        Planned::Ready {
-            source,
-            calls: count,
-            kind,
-        } => {
-            if kind == table::BOOLEAN {
-                return Outcome::Refused(Refusal::ComparisonNotCountable);
-            }
-            let integer = compare::integer(node::integer(rule, tree, at));
-            let Integer::Fits(right) = integer else {
-                return Outcome::Refused(Refusal::IntegerTooLarge);
-            };
-            let left = count_members(rule, image, tree, source, calls, count, collection) as u64;
-            Outcome::Given(Value::Bool(compare::compares(operator(tree, at), left, right)))
-        }
+    let plan = match ready::plan_pipeline(rule, tree, pipeline, calls) {
+        Err(r) => return Outcome::Refused(r),
+        Ok(plan) => plan,
+    };
+    if plan.kind == table::BOOLEAN {
+        return Outcome::Refused(Refusal::ComparisonNotCountable);
     }
+    let integer = compare::integer(node::integer(rule, tree, at));
+    let Integer::Fits(right) = integer else {
+        return Outcome::Refused(Refusal::IntegerTooLarge);
+    };
+    let left = count_members(rule, image, tree, plan, calls, collection) as u64;
+    Outcome::Given(Value::Bool(compare::compares(operator(tree, at), left, right)))
 }
 
-// How many members arrive: a `count` behind the calls keeps their rows out of the collection table.
+// How many members arrive by what is planned: a `count` behind the calls keeps their rows out of the collection table.
 fn count_members(
     rule: &[u8],
     image: &[u8],
     tree: &[u32],
-    source: usize,
-    calls: &mut [u32],
-    count: usize,
+    plan: Plan,
+    calls: &mut [Call],
     collection: &mut [u32],
 ) -> usize
-    requires { (source + ROW ≤ length tree.now) × (CALL_ROW * (count + 1) ≤ length calls.old) × Lent image.now collection.old }
-    ensures { Counts rule.now image.now tree.now source calls.old count collection.old collection.new result }
+    requires { (plan.source + ROW ≤ length tree.now) × (plan.calls < length calls.old) × Lent image.now collection.old }
+    ensures { Counts rule.now image.now tree.now plan calls.old collection.old collection.new result }
 {
-    let last = ready::CALL_ROW * count;
-    calls[last] = method::COUNT as u32;
-    calls[last + 1] = 0;
-    let end = last + ready::CALL_ROW;
-    let tally = walk::walk(
+    calls[plan.calls] = Call {
+        method: method::COUNT,
+        args: 0,
+    };
+    let pipeline = Pipeline {
         rule,
         image,
         tree,
-        source,
-        &calls[..end],
-        method::COUNT,
-        collection,
-    );
-    tally.arrived
+        calls: &calls[..plan.calls + 1],
+        last: method::COUNT,
+    };
+    pipeline.walk(plan.source, collection).arrived
 }
 
 // The kind of the comparison's operator: the first of the six among the comparison's own tokens.
@@ -154,17 +153,18 @@ fn is_operator(tree: &[u32], level: usize, row: usize) -> bool
     requires { row + ROW ≤ length tree.now }
     ensures { result ≡ row_passes is_comparison tree.now level row }
 {
-    if tree[row + 1] as usize != level {
-        return false;
-    }
-    if tree[row] < kind::EQ_EQ {
-        return false;
-    }
-    tree[row] <= kind::LT
+    tree[row + 1] as usize == level && is_comparison(tree[row])
+}
+
+// Whether a kind is that of one of the six operators.
+fn is_comparison(kind: u32) -> bool
+    ensures { result ≡ is_comparison kind }
+{
+    kind::EQ_EQ <= kind && kind <= kind::LT
 }
 
 // What calls that come to a kind give, by their last call and the members that arrived.
-fn value(kind: usize, method: u32, tally: Tally) -> Value
+fn value(kind: usize, method: usize, tally: Tally) -> Value
     requires { kind ≤ LAST_KIND }
     ensures { Gives kind method tally result }
 {
@@ -172,7 +172,7 @@ fn value(kind: usize, method: u32, tally: Tally) -> Value
         table::COMPONENTS => Value::Components(tally.arrived),
         table::FEATURES => Value::Features(tally.arrived),
         table::DIAGNOSTICS => Value::Diagnostics(tally.arrived),
-        table::BOOLEAN => judge(method as usize, tally.arrived, tally.passed),
+        table::BOOLEAN => judge(method, tally.arrived, tally.passed),
         _ => Value::Count(tally.arrived),
     }
 }

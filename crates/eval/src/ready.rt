@@ -1,5 +1,5 @@
-// The calls of a pipeline made ready for members: rows of two numbers, the call's number and the place of its CALL_ARGS in the tree table.
-// Whether each call may stand where it stands is settled here, from the kinds alone.
+// The calls of a pipeline made ready for members: the call's number, and the place of its CALL_ARGS in the tree table. Whether each call may
+// stand where it stands is settled here, from the kinds alone.
 ghost use Rattle.std.specs.Prelude.{◌≡◌, ◌+◌, ◌*◌, ◌≤◌, ◌<◌, ◌^◌, length};
 ghost use Rattle.predicate.specs.Rows.{ROW, level_at, kind_at, children_at, row_passes, of_kind};
 ghost use Rattle.syntax.specs.Kind.{DOT_CALL};
@@ -8,8 +8,7 @@ ghost use Rattle.meaning.specs.Calls.{kind_number};
 ghost use Rattle.meaning.specs.Pipeline.{calls_of};
 ghost use Rattle.meaning.specs.Walk.{is_last};
 ghost use Rattle.calls.specs.Table.{method_at};
-ghost use Rattle.eval.specs.Ready.{LAST_KIND, KindAfter, LastMethod, source_sort, args_place, Puts, CallsFit, PutsRow, Holds, Plans};
-ghost use Rattle.eval.specs.Ready as meant;
+ghost use Rattle.eval.specs.Ready.{LAST_KIND, CallAt, KindAfter, LastMethod, source_sort, args_place, call_row, CallsFit, PutsRow, Holds, Plans};
 
 use calls::table::Next;
 use calls::{method, table};
@@ -18,37 +17,50 @@ use predicate::{node, rows};
 use syntax::kind;
 use syntax::refusal::Refusal;
 
-// What is known of a pipeline before any member is looked at: the row of its source, the number of its calls and the kind that they come
-// to; or the refusal.
+// A call by its number, and the place of its CALL_ARGS in the tree table.
 #[derive(Clone, Copy)]
-pub(crate) enum Planned {
-    Ready {
-        source: usize,
-        calls: usize,
-        kind: usize,
-    },
-    Refused(Refusal),
+pub(crate) struct Call {
+    pub method: usize,
+    pub args: usize,
 }
 
-// Makes the calls of the pipeline whose row is at a place ready, in `calls`.
-pub(crate) fn plan(rule: &[u8], tree: &[u32], at: usize, calls: &mut [u32]) -> Planned
-    requires { (at + ROW ≤ length tree.now) × (length tree.now < 2 ^ 32) × (meant.CALL_ROW * length (calls_of (children_at rule.now tree.now at)) ≤ length calls.old) }
+// The i-th call, if there are so many.
+pub(crate) fn nth(calls: &[Call], i: usize) -> Option<Call>
+    ensures { CallAt calls.now i result }
+{
+    calls.get(i).copied()
+}
+
+// What is known of a pipeline before any member is looked at: the row of its source, the number of its calls and the kind that they come
+// to.
+#[derive(Clone, Copy)]
+pub(crate) struct Plan {
+    pub source: usize,
+    pub calls: usize,
+    pub kind: usize,
+}
+
+// Makes the calls of the pipeline whose row is at a place ready, in `calls`; or refuses it.
+pub(crate) fn plan_pipeline(
+    rule: &[u8],
+    tree: &[u32],
+    at: usize,
+    calls: &mut [Call],
+) -> Result<Plan, Refusal>
+    requires { (at + ROW ≤ length tree.now) × (length (calls_of (children_at rule.now tree.now at)) ≤ length calls.old) }
     ensures { Plans rule.now tree.now at calls.new result }
 {
     let found = node::first_child(tree, at);
     let Found::At(source) = found else {
-        return Planned::Refused(Refusal::ParseErrors);
+        return Err(Refusal::ParseErrors);
     };
     let count = put_calls(rule, tree, at, calls);
-    let end = CALL_ROW * count;
-    match kind_after(&calls[..end], source_kind(tree, source)) {
-        Next::Refused(r) => Planned::Refused(r),
-        Next::Kind(kind) => Planned::Ready {
-            source: source,
-            calls: count,
-            kind: kind,
-        },
-    }
+    let kind = kind_after(&calls[..count], source_kind(tree, source))?;
+    Ok(Plan {
+        source,
+        calls: count,
+        kind,
+    })
 }
 
 // The kind of what a source gives.
@@ -62,14 +74,15 @@ fn source_kind(tree: &[u32], source: usize) -> usize
     table::DIAGNOSTICS
 }
 
-// Writes a row for each DOT_CALL of the pipeline whose row is at a place, and gives their number.
-fn put_calls(rule: &[u8], tree: &[u32], at: usize, calls: &mut [u32]) -> usize
-    requires { (at + ROW ≤ length tree.now) × (length tree.now < 2 ^ 32) × (meant.CALL_ROW * length (calls_of (children_at rule.now tree.now at)) ≤ length calls.old) }
+// Writes each call of the pipeline whose row is at a place, and gives their number.
+fn put_calls(rule: &[u8], tree: &[u32], at: usize, calls: &mut [Call]) -> usize
+    requires { (at + ROW ≤ length tree.now) × (length (calls_of (children_at rule.now tree.now at)) ≤ length calls.old) }
     ensures { Holds rule.now tree.now at calls.new result }
 {
     let level = tree[at + 1] as usize;
     let mut row = at + rows::ROW;
     let mut count = 0;
+    // The rows end at a level, and not at a number, so that a `while` says it.
     while rows::is_below(tree, level, row) {
         count = put_row(rule, tree, level + 1, row, calls, count);
         row += rows::ROW;
@@ -77,20 +90,20 @@ fn put_calls(rule: &[u8], tree: &[u32], at: usize, calls: &mut [u32]) -> usize
     count
 }
 
-// Writes a row if a DOT_CALL at a level has its row at a place, and gives the number of rows then.
+// Writes a call if a DOT_CALL at a level has its row at a place, and gives the number of calls then.
 fn put_row(
     rule: &[u8],
     tree: &[u32],
     level: usize,
     row: usize,
-    calls: &mut [u32],
+    calls: &mut [Call],
     count: usize,
 ) -> usize
-    requires { (row + ROW ≤ length tree.now) × (level ≤ level_at tree.now row) × (length tree.now < 2 ^ 32) × CallsFit rule.now tree.now level row calls.old count }
+    requires { (row + ROW ≤ length tree.now) × (level ≤ level_at tree.now row) × CallsFit rule.now tree.now level row calls.old count }
     ensures { PutsRow rule.now tree.now level row calls.old count calls.new result }
 {
     if is_call(tree, level, row) {
-        put_call(rule, tree, row, calls, count);
+        calls[count] = call_at(rule, tree, row);
         return count + 1;
     }
     count
@@ -101,20 +114,17 @@ fn is_call(tree: &[u32], level: usize, row: usize) -> bool
     requires { row + ROW ≤ length tree.now }
     ensures { result ≡ row_passes (of_kind DOT_CALL) tree.now level row }
 {
-    if tree[row + 1] as usize != level {
-        return false;
-    }
-    tree[row] == kind::DOT_CALL
+    tree[row + 1] as usize == level && tree[row] == kind::DOT_CALL
 }
 
-// Writes the row of the DOT_CALL whose row in the tree is at a place.
-fn put_call(rule: &[u8], tree: &[u32], row: usize, calls: &mut [u32], count: usize)
-    requires { (meant.CALL_ROW * (count + 1) ≤ length calls.old) × (length tree.now < 2 ^ 32) }
-    ensures { Puts rule.now tree.now row count calls.old calls.new }
+// The call whose DOT_CALL has its row at a place.
+fn call_at(rule: &[u8], tree: &[u32], row: usize) -> Call
+    ensures { result ≡ call_row rule.now tree.now row }
 {
-    let at = CALL_ROW * count;
-    calls[at] = method::method_number(node::ident(rule, tree, row)) as u32;
-    calls[at + 1] = args_place(tree, row) as u32;
+    Call {
+        method: method::method_number(node::ident(rule, tree, row)),
+        args: args_place(tree, row),
+    }
 }
 
 // The place of the CALL_ARGS of the DOT_CALL whose row is at a place; where there is none, past all rows.
@@ -127,52 +137,36 @@ fn args_place(tree: &[u32], row: usize) -> usize
     }
 }
 
-// The numbers of a row.
-pub(crate) const CALL_ROW: usize = 2;
-
 // The kind after all calls, or the refusal of the leftmost that may not stand where it stands.
-pub(crate) fn kind_after(calls: &[u32], source: usize) -> Next
+pub(crate) fn kind_after(calls: &[Call], source: usize) -> Result<usize, Refusal>
     requires { source ≤ LAST_KIND }
     ensures { KindAfter calls.now source result }
 {
     let mut kind = source;
-    let mut i = 0;
-    while i < calls.len() / CALL_ROW {
-        match table::next_kind(calls[CALL_ROW * i] as usize, kind) {
-            Next::Refused(r) => {
-                return Next::Refused(r);
-            }
-            Next::Kind(given) => {
-                kind = given;
-            }
+    for call in calls {
+        match table::next_kind(call.method, kind) {
+            Next::Refused(r) => return Err(r),
+            Next::Kind(given) => kind = given,
         }
-        i += 1;
     }
-    Next::Kind(kind)
+    Ok(kind)
 }
 
-// The number of the first call that gives no collection; where there is none, that of `where`.
-pub(crate) fn last_method(calls: &[u32]) -> u32
+// The number of the first call that gives no collection; where there is none, that of `where`, as the definition has it.
+pub(crate) fn last_method(calls: &[Call]) -> usize
     ensures { LastMethod calls.now result }
 {
-    let mut i = 0;
-    while i < calls.len() / CALL_ROW {
-        let method = calls[CALL_ROW * i];
-        if is_last(method) {
-            return method;
+    for call in calls {
+        if is_last(call.method) {
+            return call.method;
         }
-        i += 1;
     }
-    method::WHERE as u32
+    method::WHERE
 }
 
 // Whether a call with this number gives no collection.
-fn is_last(method: u32) -> bool
+fn is_last(method: usize) -> bool
     ensures { result ≡ is_last (method_at method) }
 {
-    let number = method as usize;
-    if number < method::ALL {
-        return false;
-    }
-    number <= method::COUNT
+    method::ALL <= method && method <= method::COUNT
 }

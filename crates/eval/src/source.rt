@@ -1,17 +1,16 @@
 // `eval_source`: the members of a source, each sent through the calls. Components are sent as `walk` sends members, with notes where there
 // are enough of them; diagnostics if their analysis has the name asked for.
-ghost use Rattle.std.specs.Prelude.{◌≡◌, [], ◌∷◌, map, length};
-ghost use Rattle.board.specs.Image.{component_count, diagnostic_count};
-ghost use Rattle.meaning.specs.Calls.{keep, kept, up_from};
+ghost use Rattle.std.specs.Prelude.{◌≡◌, true, [], ◌∷◌};
+ghost use Rattle.meaning.specs.Calls.{Features};
 ghost use Rattle.meaning.specs.Pipeline.{is_of_analysis};
-ghost use Rattle.calls.specs.Table.{method_at};
-ghost use Rattle.eval.specs.Ready.{calls_from};
-ghost use Rattle.eval.specs.Memo.{Notes};
-ghost use Rattle.eval.specs.Feed.{state_of, begin, fed, Fits, Stands, Known, IsFeatures};
-ghost use Rattle.eval.specs.Feed as meant;
+ghost use Rattle.eval.specs.Ready.{IsCall};
+ghost use Rattle.eval.specs.Listed.{every_component};
+ghost use Rattle.eval.specs.Feed.{Known};
+ghost use Rattle.eval.specs.Walk.{every_of_analysis, SendsAll, SentAll, Sending, Sent};
 
-use crate::walk::Tally;
-use crate::{held, listed, marked, memo, ready, step, walk};
+use crate::ready::Call;
+use crate::walk::{Pipeline, Tally, Walk};
+use crate::{held, listed, marked, memo, ready};
 use board::image;
 use board::image::Section;
 use calls::method;
@@ -29,272 +28,183 @@ const NOTED_BOARD: u32 = 14;
 
 const MARKED_BOARD: u32 = 32;
 
-// `components`: every component of the board. Where there is no call all have rows, and a first call `count` gives their number; so it is
-// with their features, where `features` comes first.
-pub(crate) fn feed_components(
-    rule: &[u8],
-    image: &[u8],
-    tree: &[u32],
-    calls: &[u32],
-    last: usize,
-    collection: &mut [u32],
-) -> Tally
-    requires { Fits (method_at last) image.now (calls_from rule.now tree.now calls.now 0) (map Member.Component (up_from 0 (component_count image.now))) (begin collection.old) }
-    ensures { Stands (method_at last) (state_of result collection.new) (fed image.now (calls_from rule.now tree.now calls.now 0) (map Member.Component (up_from 0 (component_count image.now))) (begin collection.old)) }
-{
-    if calls.len() < ready::CALL_ROW {
-        return Tally {
-            arrived: listed::list_components(image, collection),
-            passed: 0,
+impl<'a> Pipeline<'a> {
+    // `components`: every component of the board. Where there is no call all have rows, and a first call `count` gives their number; so it is
+    // with their features, where `features` comes first.
+    pub(crate) fn feed_components(self, collection: &mut [u32]) -> Tally
+        requires { SendsAll self (every_component self.image.now) collection.old }
+        ensures { SentAll self.entry (every_component self.entry.image.now) collection.old collection.new result }
+    {
+        let Some(first) = ready::nth(self.calls, 0) else {
+            return tally_of(listed::list_components(self.image, collection));
         };
+        if first.method == method::COUNT {
+            return tally_of(image::record_count(self.image, Section::Components) as usize);
+        }
+        if first.method == method::FEATURES {
+            return self.feed_owned_features(collection);
+        }
+        self.feed_noted(collection)
     }
-    if calls[0] as usize == method::COUNT {
-        return Tally {
-            arrived: image::record_count(image, Section::Components) as usize,
-            passed: 0,
+
+    // The same where `features` comes first.
+    fn feed_owned_features(self, collection: &mut [u32]) -> Tally
+        requires { SendsAll self (every_component self.image.now) collection.old × IsCall self.calls.now 0 Features }
+        ensures { SentAll self.entry (every_component self.entry.image.now) collection.old collection.new result }
+    {
+        let Some(second) = ready::nth(self.calls, 1) else {
+            return tally_of(listed::list_owned(self.image, collection));
         };
-    }
-    if calls[0] as usize == method::FEATURES {
-        if calls.len() < 2 * ready::CALL_ROW {
-            return Tally {
-                arrived: listed::list_owned(image, collection),
-                passed: 0,
-            };
+        if second.method == method::COUNT {
+            return tally_of(listed::count_owned(self.image));
         }
-        if calls[ready::CALL_ROW] as usize == method::COUNT {
-            return Tally {
-                arrived: listed::count_owned(image),
-                passed: 0,
-            };
+        self.feed_noted(collection)
+    }
+
+    // Sends every component through the calls: with notes where there are enough members, and with marks where a `has` may be asked.
+    fn feed_noted(self, collection: &mut [u32]) -> Tally
+        requires { SendsAll self (every_component self.image.now) collection.old }
+        ensures { SentAll self.entry (every_component self.entry.image.now) collection.old collection.new result }
+    {
+        let asks_has = marked::next_row(self.tree, kind::CALL_EXPR, 0) < marked::ROWS;
+        if self.has_few(asks_has) {
+            return self.feed_few(collection);
+        }
+        if asks_has {
+            return self.feed_marked(collection);
+        }
+        let mut notes = [0u8; memo::PLAIN];
+        notes[0] = held::held(self.rule, self.image, self.tree, self.calls);
+        let mut walk = Walk::new(self, collection, &mut notes);
+        walk.feed_each_component();
+        walk.tally
+    }
+
+    // Whether there are too few members for notes: a `has` is told by marks alone, and of few components hardly two have the same category.
+    fn has_few(&self, asks_has: bool) -> bool {
+        let components = image::record_count(self.image, Section::Components);
+        if asks_has {
+            return components < MARKED_BOARD;
+        }
+        components < NOTED_BOARD
+            && !held::asks_features(self.calls)
+            && marked::next_row(self.tree, kind::COMPARE_EXPR, 0) < marked::ROWS
+    }
+
+    // Sends every component through the calls, and notes nothing of them: each is asked.
+    fn feed_few(self, collection: &mut [u32]) -> Tally
+        requires { SendsAll self (every_component self.image.now) collection.old }
+        ensures { SentAll self.entry (every_component self.entry.image.now) collection.old collection.new result }
+    {
+        let mut none = [0u8; 1];
+        let mut walk = Walk::new(self, collection, &mut none);
+        walk.feed_each_component();
+        walk.tally
+    }
+
+    // Sends every component through the calls, with the marks made.
+    fn feed_marked(self, collection: &mut [u32]) -> Tally
+        requires { SendsAll self (every_component self.image.now) collection.old }
+        ensures { SentAll self.entry (every_component self.entry.image.now) collection.old collection.new result }
+    {
+        let mut notes = [0u8; marked::MEMO];
+        let rows = marked::make_marks(self.rule, self.image, self.tree, &mut notes);
+        notes[0] = held::held(self.rule, self.image, self.tree, self.calls);
+        let end = marked::PLACES + rows;
+        let mut walk = Walk::new(self, collection, &mut notes[..end]);
+        walk.feed_each_component();
+        walk.tally
+    }
+
+    // `analysis('name')`: the diagnostics of the analysis with this name.
+    pub(crate) fn feed_diagnostics(self, name: &[u8], collection: &mut [u32]) -> Tally
+        requires { SendsAll self (every_of_analysis self.image.now name.now) collection.old }
+        ensures { SentAll self.entry (every_of_analysis self.entry.image.now name.now) collection.old collection.new result }
+    {
+        let mut notes = [0u8; memo::PLAIN];
+        let mut walk = Walk::new(self, collection, &mut notes);
+        walk.feed_each_diagnostic(name);
+        walk.tally
+    }
+}
+
+// Whether the first call is `features`.
+fn begins_with_features(calls: &[Call]) -> bool
+    ensures { result ≡ true → IsCall calls.now 0 Features }
+{
+    match ready::nth(calls, 0) {
+        Some(call) => call.method == method::FEATURES,
+        None => false,
+    }
+}
+
+// So many members arrived, and no predicate was asked.
+fn tally_of(arrived: usize) -> Tally
+    ensures { result ≡ record { arrived = arrived; passed = 0 } }
+{
+    Tally { arrived, passed: 0 }
+}
+
+impl<'a> Walk<'a> {
+    // Sends every component through the calls.
+    fn feed_each_component(&mut self)
+        requires { Sending self.old 0 (every_component self.old.pipeline.image.now) }
+        ensures { Sent self.old 0 (every_component self.old.pipeline.image.now) self.new }
+    {
+        let count = image::record_count(self.pipeline.image, Section::Components);
+        for component in 0..count {
+            self.feed_component(component);
+            if self.is_decided() {
+                return;
+            }
         }
     }
-    feed_noted(rule, image, tree, calls, last, collection)
-}
 
-// Sends every component through the calls: with notes where there are enough members, and with marks where a `has` may be asked.
-fn feed_noted(
-    rule: &[u8],
-    image: &[u8],
-    tree: &[u32],
-    calls: &[u32],
-    last: usize,
-    collection: &mut [u32],
-) -> Tally
-    requires { Fits (method_at last) image.now (calls_from rule.now tree.now calls.now 0) (map Member.Component (up_from 0 (component_count image.now))) (begin collection.old) }
-    ensures { Stands (method_at last) (state_of result collection.new) (fed image.now (calls_from rule.now tree.now calls.now 0) (map Member.Component (up_from 0 (component_count image.now))) (begin collection.old)) }
-{
-    let asks_has = marked::next_row(tree, kind::CALL_EXPR, 0) < marked::ROWS;
-    if has_few(image, tree, calls, asks_has) {
-        return feed_few(rule, image, tree, calls, last, collection);
-    }
-    if asks_has {
-        return feed_marked(rule, image, tree, calls, last, collection);
-    }
-    let mut notes = [0u8; memo::PLAIN];
-    notes[0] = held::held(rule, image, tree, calls);
-    feed_each_component(rule, image, tree, calls, last, collection, &mut notes)
-}
-
-// Whether there are too few members for notes: a `has` is told by marks alone, and of few components hardly two have the same category.
-fn has_few(image: &[u8], tree: &[u32], calls: &[u32], asks_has: bool) -> bool {
-    let components = image::record_count(image, Section::Components);
-    if asks_has {
-        return components < MARKED_BOARD;
-    }
-    if NOTED_BOARD <= components {
-        return false;
-    }
-    if held::asks_features(calls) {
-        return false;
-    }
-    marked::next_row(tree, kind::COMPARE_EXPR, 0) < marked::ROWS
-}
-
-// Sends every component through the calls, and notes nothing of them: each is asked.
-fn feed_few(
-    rule: &[u8],
-    image: &[u8],
-    tree: &[u32],
-    calls: &[u32],
-    last: usize,
-    collection: &mut [u32],
-) -> Tally
-    requires { Fits (method_at last) image.now (calls_from rule.now tree.now calls.now 0) (map Member.Component (up_from 0 (component_count image.now))) (begin collection.old) }
-    ensures { Stands (method_at last) (state_of result collection.new) (fed image.now (calls_from rule.now tree.now calls.now 0) (map Member.Component (up_from 0 (component_count image.now))) (begin collection.old)) }
-{
-    let count = image::record_count(image, Section::Components);
-    let mut none = [0u8; 1];
-    let mut tally = Tally {
-        arrived: 0,
-        passed: 0,
-    };
-    let mut component = 0;
-    while component < count {
-        tally = walk::feed(
-            rule,
-            image,
-            tree,
-            calls,
-            last,
-            0,
-            Member::Component(component),
-            collection,
-            &mut none,
-            tally,
-        );
-        if walk::is_decided(last, tally) {
-            return tally;
+    // Sends one component: its features where they are asked for first; by asking where nothing is noted; else as the notes tell.
+    fn feed_component(&mut self, component: u32)
+        requires { Sending self.old 0 (Member.Component component ∷ []) }
+        ensures { Sent self.old 0 (Member.Component component ∷ []) self.new }
+    {
+        let member = Member::Component(component);
+        if self.notes.len() < memo::PLAIN {
+            return self.feed(0, member);
         }
-        component += 1;
-    }
-    tally
-}
-
-// Sends every component through the calls, with the marks made.
-fn feed_marked(
-    rule: &[u8],
-    image: &[u8],
-    tree: &[u32],
-    calls: &[u32],
-    last: usize,
-    collection: &mut [u32],
-) -> Tally
-    requires { Fits (method_at last) image.now (calls_from rule.now tree.now calls.now 0) (map Member.Component (up_from 0 (component_count image.now))) (begin collection.old) }
-    ensures { Stands (method_at last) (state_of result collection.new) (fed image.now (calls_from rule.now tree.now calls.now 0) (map Member.Component (up_from 0 (component_count image.now))) (begin collection.old)) }
-{
-    let mut notes = [0u8; marked::MEMO];
-    let rows = marked::make_marks(rule, image, tree, &mut notes);
-    notes[0] = held::held(rule, image, tree, calls);
-    let end = marked::PLACES + rows;
-    feed_each_component(
-        rule,
-        image,
-        tree,
-        calls,
-        last,
-        collection,
-        &mut notes[..end],
-    )
-}
-
-// Sends every component through the calls.
-fn feed_each_component(
-    rule: &[u8],
-    image: &[u8],
-    tree: &[u32],
-    calls: &[u32],
-    last: usize,
-    collection: &mut [u32],
-    notes: &mut [u8],
-) -> Tally
-    requires { Fits (method_at last) image.now (calls_from rule.now tree.now calls.now 0) (map Member.Component (up_from 0 (component_count image.now))) (begin collection.old) × Notes rule.now image.now tree.now calls.now notes.old }
-    ensures { Stands (method_at last) (state_of result collection.new) (fed image.now (calls_from rule.now tree.now calls.now 0) (map Member.Component (up_from 0 (component_count image.now))) (begin collection.old)) }
-{
-    let count = image::record_count(image, Section::Components);
-    let mut tally = Tally {
-        arrived: 0,
-        passed: 0,
-    };
-    let mut component = 0;
-    while component < count {
-        tally = feed_component(
-            rule, image, tree, calls, last, component, collection, notes, tally,
-        );
-        if walk::is_decided(last, tally) {
-            return tally;
+        if begins_with_features(self.pipeline.calls) {
+            return self.feed_features(1, component);
         }
-        component += 1;
+        let profile = profile::component_profile(self.pipeline.image, self.notes[0], component);
+        self.send(0, member, profile);
     }
-    tally
-}
 
-// Sends one component: its features where they are asked for first, else as the notes tell, or by asking.
-fn feed_component(
-    rule: &[u8],
-    image: &[u8],
-    tree: &[u32],
-    calls: &[u32],
-    last: usize,
-    component: u32,
-    collection: &mut [u32],
-    notes: &mut [u8],
-    tally: Tally,
-) -> Tally
-    requires { Fits (method_at last) image.now (calls_from rule.now tree.now calls.now 0) (Member.Component component ∷ []) (state_of tally collection.old) × Notes rule.now image.now tree.now calls.now notes.old }
-    ensures { Stands (method_at last) (state_of result collection.new) (fed image.now (calls_from rule.now tree.now calls.now 0) (Member.Component component ∷ []) (state_of tally collection.old)) × Notes rule.now image.now tree.now calls.now notes.new }
-{
-    if is_features(calls, 0) {
-        return walk::feed_features(
-            rule, image, tree, calls, last, 1, component, collection, notes, tally,
-        );
-    }
-    let member = Member::Component(component);
-    let profile = profile::component_profile(image, notes[0], component);
-    let mut place = memo::plain_place(profile);
-    if marked::PLACES < notes.len() {
-        place = memo::marked_place(image, member, profile, notes);
-    }
-    let step = step::step_of(calls, 0, place, notes);
-    if step::is_open(step) {
-        return walk::feed(
-            rule, image, tree, calls, last, 0, member, collection, notes, tally,
-        );
-    }
-    step::take(step, member, collection, tally)
-}
-
-// Whether there is an i-th call, and it is `features`.
-fn is_features(calls: &[u32], i: usize) -> bool
-    ensures { IsFeatures calls.now i result }
-{
-    if calls.len() / ready::CALL_ROW <= i {
-        return false;
-    }
-    calls[ready::CALL_ROW * i] as usize == method::FEATURES
-}
-
-// `analysis('name')`: the diagnostics of the analysis with this name.
-pub(crate) fn feed_diagnostics(
-    rule: &[u8],
-    image: &[u8],
-    tree: &[u32],
-    name: &[u8],
-    calls: &[u32],
-    last: usize,
-    collection: &mut [u32],
-) -> Tally
-    requires { Fits (method_at last) image.now (calls_from rule.now tree.now calls.now 0) (kept (is_of_analysis image.now name.now) (map Member.Diagnostic (up_from 0 (diagnostic_count image.now)))) (begin collection.old) }
-    ensures { Stands (method_at last) (state_of result collection.new) (fed image.now (calls_from rule.now tree.now calls.now 0) (kept (is_of_analysis image.now name.now) (map Member.Diagnostic (up_from 0 (diagnostic_count image.now)))) (begin collection.old)) }
-{
-    let count = image::record_count(image, Section::Diagnostics);
-    let mut notes = [0u8; memo::PLAIN];
-    let mut tally = Tally {
-        arrived: 0,
-        passed: 0,
-    };
-    let mut known = [0u64; KNOWN];
-    let mut diagnostic = 0;
-    while diagnostic < count {
-        let named = is_of_analysis(image, name, diagnostic, &mut known);
-        tally = feed_if_named(
-            rule, image, tree, calls, last, diagnostic, named, collection, &mut notes, tally,
-        );
-        if walk::is_decided(last, tally) {
-            return tally;
+    // Sends every diagnostic of the analysis with this name.
+    fn feed_each_diagnostic(&mut self, name: &[u8])
+        requires { Sending self.old 0 (every_of_analysis self.old.pipeline.image.now name.now) }
+        ensures { Sent self.old 0 (every_of_analysis self.old.pipeline.image.now name.now) self.new }
+    {
+        let image = self.pipeline.image;
+        let count = image::record_count(image, Section::Diagnostics);
+        let mut known = [0u64; KNOWN];
+        for diagnostic in 0..count {
+            if !is_of_analysis(image, name, diagnostic, &mut known) {
+                continue;
+            }
+            let profile = profile::diagnostic_profile(image, diagnostic);
+            self.send(0, Member::Diagnostic(diagnostic), profile);
+            if self.is_decided() {
+                return;
+            }
         }
-        diagnostic += 1;
     }
-    tally
 }
 
 // Whether the analysis of a diagnostic has this name. The text is compared only where it is not among those that are known.
-fn is_of_analysis(image: &[u8], name: &[u8], diagnostic: u32, known: &mut [u64]) -> bool
-    requires { (length known.old ≡ meant.KNOWN) × Known image.now name.now known.old }
+fn is_of_analysis(image: &[u8], name: &[u8], diagnostic: u32, known: &mut [u64; KNOWN]) -> bool
+    requires { Known image.now name.now known.old }
     ensures { (result ≡ is_of_analysis image.now name.now (Member.Diagnostic diagnostic)) × Known image.now name.now known.new }
 {
     let string = image::field(image, Section::Diagnostics, diagnostic, image::ANALYSIS);
     let at = string as usize % KNOWN;
-    let other = 2 * (string as u64) + 2;
+    let other = 2 * u64::from(string) + 2;
     if known[at] == other {
         return false;
     }
@@ -307,58 +217,4 @@ fn is_of_analysis(image: &[u8], name: &[u8], diagnostic: u32, known: &mut [u64])
     }
     known[at] = other;
     false
-}
-
-// Sends a diagnostic whose analysis has the name asked for.
-fn feed_if_named(
-    rule: &[u8],
-    image: &[u8],
-    tree: &[u32],
-    calls: &[u32],
-    last: usize,
-    diagnostic: u32,
-    named: bool,
-    collection: &mut [u32],
-    notes: &mut [u8],
-    tally: Tally,
-) -> Tally
-    requires { Fits (method_at last) image.now (calls_from rule.now tree.now calls.now 0) (keep named (Member.Diagnostic diagnostic) []) (state_of tally collection.old) × Notes rule.now image.now tree.now calls.now notes.old }
-    ensures { Stands (method_at last) (state_of result collection.new) (fed image.now (calls_from rule.now tree.now calls.now 0) (keep named (Member.Diagnostic diagnostic) []) (state_of tally collection.old)) × Notes rule.now image.now tree.now calls.now notes.new }
-{
-    if named {
-        return feed_diagnostic(
-            rule, image, tree, calls, last, diagnostic, collection, notes, tally,
-        );
-    }
-    tally
-}
-
-// Sends one diagnostic: as the notes tell, or by asking.
-fn feed_diagnostic(
-    rule: &[u8],
-    image: &[u8],
-    tree: &[u32],
-    calls: &[u32],
-    last: usize,
-    diagnostic: u32,
-    collection: &mut [u32],
-    notes: &mut [u8],
-    tally: Tally,
-) -> Tally
-    requires { Fits (method_at last) image.now (calls_from rule.now tree.now calls.now 0) (Member.Diagnostic diagnostic ∷ []) (state_of tally collection.old) × Notes rule.now image.now tree.now calls.now notes.old }
-    ensures { Stands (method_at last) (state_of result collection.new) (fed image.now (calls_from rule.now tree.now calls.now 0) (Member.Diagnostic diagnostic ∷ []) (state_of tally collection.old)) × Notes rule.now image.now tree.now calls.now notes.new }
-{
-    let member = Member::Diagnostic(diagnostic);
-    let profile = profile::diagnostic_profile(image, diagnostic);
-    let mut place = memo::plain_place(profile);
-    if marked::PLACES < notes.len() {
-        place = memo::marked_place(image, member, profile, notes);
-    }
-    let step = step::step_of(calls, 0, place, notes);
-    if step::is_open(step) {
-        return walk::feed(
-            rule, image, tree, calls, last, 0, member, collection, notes, tally,
-        );
-    }
-    step::take(step, member, collection, tally)
 }

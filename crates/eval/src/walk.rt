@@ -3,19 +3,19 @@
 ghost use Rattle.std.specs.Prelude.{◌≡◌, true, [], ◌∷◌, ◌++◌, ◌+◌, ◌*◌, ◌^◌, ◌≤◌, ◌<◌, length, drop, replicate};
 ghost use Rattle.std.proofs.lemmas.List.Edits.{sets};
 ghost use Rattle.board.specs.Check as meant;
-ghost use Rattle.board.specs.WellFormed.{WellFormed, Room};
-ghost use Rattle.predicate.specs.Rows.{ROW, kind_at, children_at};
+ghost use Rattle.predicate.specs.Rows.{ROW};
 ghost use Rattle.profile.specs.Profile.{profile_of};
 ghost use Rattle.meaning.specs.Value.{row_of, whole_rows};
 ghost use Rattle.meaning.specs.Calls.{features_of};
-ghost use Rattle.meaning.specs.Walk.{is_last};
 ghost use Rattle.calls.specs.Table.{method_at};
-ghost use Rattle.eval.specs.Ready.{CALL_ROW, calls_in, calls_from, source_members};
 ghost use Rattle.eval.specs.Marked.{held_in};
-ghost use Rattle.eval.specs.Memo.{args_of, Notes};
-ghost use Rattle.eval.specs.Feed.{state_of, fed, decided, Decides, Fits, Stands, Arrives, walked};
+ghost use Rattle.eval.specs.Feed.{counted, decided_in};
+ghost use Rattle.eval.specs.Step.{after};
+ghost use Rattle.eval.specs.Walk.{state_in, Begins, Walks, Walked, Sending, Sent, Arriving, Takes, Moved};
 
-use crate::{marked, memo, ready, source, step};
+use crate::ready;
+use crate::ready::Call;
+use crate::step::Step;
 use board::image;
 use board::image::Section;
 use calls::method;
@@ -36,26 +36,190 @@ pub(crate) struct Tally {
     pub passed: usize,
 }
 
-// Sends the members of a source through the calls, into a collection table whose rows become 0 first: all of them, or as many as decide
-// the quantifier whose number is `last`.
-pub(crate) fn walk(
-    rule: &[u8],
-    image: &[u8],
-    tree: &[u32],
-    source: usize,
-    calls: &[u32],
-    last: usize,
-    collection: &mut [u32],
-) -> Tally
-    requires { (source + ROW ≤ length tree.now) × WellFormed image.now × Room image.now (length collection.old) × Decides (method_at last) (calls_in rule.now tree.now calls.now) }
-    ensures { Stands (method_at last) (state_of result collection.new) (walked image.now (calls_in rule.now tree.now calls.now) (source_members image.now (kind_at tree.now source) (children_at rule.now tree.now source)) collection.old) }
-{
-    clear(collection);
-    if tree[source] == kind::IDENT_EXPR {
-        return source::feed_components(rule, image, tree, calls, last, collection);
+impl Tally {
+    // No member arrived yet.
+    pub(crate) const NONE: Tally = Tally {
+        arrived: 0,
+        passed: 0,
+    };
+
+    // A member arrives, and the last call's predicate is true of it or not.
+    pub(crate) fn count(&mut self, passes: bool)
+        requires { (self.old.arrived + 1 < 2 ^ 64) × (self.old.passed ≤ self.old.arrived) }
+        ensures { self.new ≡ counted self.old passes }
+    {
+        self.arrived += 1;
+        if passes {
+            self.passed += 1;
+        }
     }
-    let name = node::find_string_literal(rule, tree, source);
-    source::feed_diagnostics(rule, image, tree, name, calls, last, collection)
+}
+
+// What is looked at: a rule and the rows of its tree, a board image, the calls of a pipeline in that tree, and the number of the call that
+// may decide early, the last.
+#[derive(Clone, Copy)]
+pub(crate) struct Pipeline<'a> {
+    pub rule: &'a [u8],
+    pub image: &'a [u8],
+    pub tree: &'a [u32],
+    pub calls: &'a [Call],
+    pub last: usize,
+}
+
+impl<'a> Pipeline<'a> {
+    // Sends the members of the source whose row is at a place through the calls, into a collection table whose rows become 0 first: all of
+    // them, or as many as decide the quantifier that is the last call.
+    pub(crate) fn walk(self, source: usize, collection: &mut [u32]) -> Tally
+        requires { Walks self source collection.old }
+        ensures { Walked self.entry source collection.old collection.new result }
+    {
+        clear(collection);
+        if self.tree[source] == kind::IDENT_EXPR {
+            return self.feed_components(collection);
+        }
+        let name = node::find_string_literal(self.rule, self.tree, source);
+        self.feed_diagnostics(name, collection)
+    }
+}
+
+// A walk through the calls: what is looked at, the collection table, what is known of the calls' predicates (`memo`), and who arrived.
+#[derive(Drop)]
+pub(crate) struct Walk<'a> {
+    pub pipeline: Pipeline<'a>,
+    pub collection: &'a mut [u32],
+    pub notes: &'a mut [u8],
+    pub tally: Tally,
+}
+
+impl<'a> Walk<'a> {
+    // A walk that nobody was sent on.
+    pub(crate) fn new(
+        pipeline: Pipeline<'a>,
+        collection: &'a mut [u32],
+        notes: &'a mut [u8],
+    ) -> Walk<'a>
+        ensures { Begins pipeline.entry collection.entry.ghost_name collection.old notes.entry.ghost_name notes.old result }
+    {
+        Walk {
+            pipeline,
+            collection,
+            notes,
+            tally: Tally::NONE,
+        }
+    }
+
+    // Whether the quantifier that is the last call is decided, whoever else arrives.
+    pub(crate) fn is_decided(&self) -> bool
+        ensures { result ≡ decided_in (method_at self.now.pipeline.last) self.now.tally }
+    {
+        match self.pipeline.last {
+            method::ALL => self.tally.passed < self.tally.arrived,
+            method::ANY => 0 < self.tally.passed,
+            method::NONE => 0 < self.tally.passed,
+            _ => false,
+        }
+    }
+
+    // Sends one member through the calls from the i-th on.
+    #[cycle(feed)]
+    pub(crate) fn feed(&mut self, i: usize, member: Member)
+        requires { Sending self.old i (member ∷ []) }
+        ensures { Sent self.old i (member ∷ []) self.new }
+    {
+        let Some(call) = ready::nth(self.pipeline.calls, i) else {
+            return self.list(member);
+        };
+        match call.method {
+            method::WHERE => {
+                if self.ask(i, call.args, member) {
+                    self.feed(i + 1, member);
+                }
+            }
+            method::FEATURES => {
+                if let Member::Component(component) = member {
+                    self.feed_features(i + 1, component);
+                }
+            }
+            method::ALL..=method::COUNT => self.arrive(i, call, member),
+            _ => self.feed(i + 1, member),
+        }
+    }
+
+    // Sends the features of a component through the calls from the i-th on.
+    #[cycle(feed)]
+    pub(crate) fn feed_features(&mut self, i: usize, component: u32)
+        requires { Sending self.old i (features_of self.old.pipeline.image.now component) }
+        ensures { Sent self.old i (features_of self.old.pipeline.image.now component) self.new }
+    {
+        let image = self.pipeline.image;
+        let first = image::field(image, Section::Components, component, image::FIRST_FEATURE);
+        let end = instance::features_end(image, component);
+        let owner = profile::component_profile(image, self.notes[0], component);
+        for feature in first..end {
+            self.feed_feature(i, component, feature, owner);
+            if self.is_decided() {
+                return;
+            }
+        }
+    }
+
+    // Sends one feature, whose owner's profile is at hand.
+    #[cycle(feed)]
+    fn feed_feature(&mut self, i: usize, component: u32, feature: u32, owner: Profile)
+        requires { Sending self.old i (Member.Feature component feature ∷ []) × (owner ≡ profile_of self.old.pipeline.image.now (held_in self.old.notes.now) (Member.Component component)) }
+        ensures { Sent self.old i (Member.Feature component feature ∷ []) self.new }
+    {
+        let image = self.pipeline.image;
+        let profile = profile::owned_profile(image, self.notes[0], owner, feature);
+        self.send(i, Member::Feature(component, feature), profile);
+    }
+
+    // Sends one member whose profile is at hand: as the notes tell, or by asking.
+    #[cycle(feed)]
+    pub(crate) fn send(&mut self, i: usize, member: Member, profile: Profile)
+        requires { Sending self.old i (member ∷ []) × (profile ≡ profile_of self.old.pipeline.image.now (held_in self.old.notes.now) member) }
+        ensures { Sent self.old i (member ∷ []) self.new }
+    {
+        let place = self.place_of(member, profile);
+        match self.step_of(i, place) {
+            Some(step) => self.take(step, member),
+            None => self.feed(i, member),
+        }
+    }
+
+    // A member arrives at the i-th call, which gives no collection: it is counted, and a quantifier's predicate is asked.
+    fn arrive(&mut self, i: usize, call: Call, member: Member)
+        requires { Arriving self.old i (member ∷ []) call }
+        ensures { Sent self.old i (member ∷ []) self.new }
+    {
+        if call.method == method::COUNT {
+            return self.tally.count(false);
+        }
+        let passes = self.ask(i, call.args, member);
+        self.tally.count(passes);
+    }
+
+    // What was told happens to a member.
+    fn take(&mut self, step: Step, member: Member)
+        requires { Takes self.old step }
+        ensures { Moved self.old (after step member (state_in self.old)) self.new }
+    {
+        match step {
+            Step::Dropped => {}
+            Step::Listed => self.list(member),
+            Step::Counted(passes) => self.tally.count(passes),
+        }
+    }
+
+    // A member that passes all calls has a row, and is counted.
+    fn list(&mut self, member: Member)
+        requires { Takes self.old Step.Listed }
+        ensures { Moved self.old (after Step.Listed member (state_in self.old)) self.new }
+    {
+        let row = self.tally.arrived;
+        put_member(self.collection, row, member);
+        self.tally.count(false);
+    }
 }
 
 // Sets all whole rows of the collection table to 0.
@@ -63,174 +227,7 @@ fn clear(collection: &mut [u32])
     ensures { collection.new ≡ replicate (whole_rows collection.old) 0 ++ drop (whole_rows collection.old) collection.old }
 {
     let end = COLLECTION_ROW * (collection.len() / COLLECTION_ROW);
-    let mut i = 0;
-    while i < end {
-        collection[i] = 0;
-        i += 1;
-    }
-}
-
-// Whether the quantifier with this number is decided, whoever else arrives.
-pub(crate) fn is_decided(last: usize, tally: Tally) -> bool
-    ensures { result ≡ decided (method_at last) tally.arrived tally.passed }
-{
-    match last {
-        method::ALL => tally.passed < tally.arrived,
-        method::ANY => 0 < tally.passed,
-        method::NONE => 0 < tally.passed,
-        _ => false,
-    }
-}
-
-// Sends one member through the calls from the i-th on.
-#[cycle(feed)]
-pub(crate) fn feed(
-    rule: &[u8],
-    image: &[u8],
-    tree: &[u32],
-    calls: &[u32],
-    last: usize,
-    i: usize,
-    member: Member,
-    collection: &mut [u32],
-    notes: &mut [u8],
-    tally: Tally,
-) -> Tally
-    requires { Fits (method_at last) image.now (calls_from rule.now tree.now calls.now (CALL_ROW * i)) (member ∷ []) (state_of tally collection.old) × Notes rule.now image.now tree.now calls.now notes.old }
-    ensures { Stands (method_at last) (state_of result collection.new) (fed image.now (calls_from rule.now tree.now calls.now (CALL_ROW * i)) (member ∷ []) (state_of tally collection.old)) × Notes rule.now image.now tree.now calls.now notes.new × (held_in notes.new ≡ held_in notes.old) }
-{
-    if calls.len() / ready::CALL_ROW <= i {
-        put_member(collection, tally.arrived, member);
-        return Tally {
-            arrived: tally.arrived + 1,
-            passed: tally.passed,
-        };
-    }
-    let method = calls[ready::CALL_ROW * i] as usize;
-    let next = i + 1;
-    if method == method::WHERE {
-        if memo::ask(rule, image, tree, calls, i, member, notes) {
-            return feed(
-                rule, image, tree, calls, last, next, member, collection, notes, tally,
-            );
-        }
-        return tally;
-    }
-    if method == method::FEATURES {
-        return match member {
-            Member::Component(component) => feed_features(
-                rule, image, tree, calls, last, next, component, collection, notes, tally,
-            ),
-            Member::Feature(_, _) => tally,
-            Member::Diagnostic(_) => tally,
-        };
-    }
-    if method::FEATURES < method {
-        return feed(
-            rule, image, tree, calls, last, next, member, collection, notes, tally,
-        );
-    }
-    arrive(rule, image, tree, calls, i, method, member, notes, tally)
-}
-
-// Sends the features of a component through the calls from the i-th on.
-#[cycle(feed)]
-pub(crate) fn feed_features(
-    rule: &[u8],
-    image: &[u8],
-    tree: &[u32],
-    calls: &[u32],
-    last: usize,
-    i: usize,
-    component: u32,
-    collection: &mut [u32],
-    notes: &mut [u8],
-    tally: Tally,
-) -> Tally
-    requires { Fits (method_at last) image.now (calls_from rule.now tree.now calls.now (CALL_ROW * i)) (features_of image.now component) (state_of tally collection.old) × Notes rule.now image.now tree.now calls.now notes.old }
-    ensures { Stands (method_at last) (state_of result collection.new) (fed image.now (calls_from rule.now tree.now calls.now (CALL_ROW * i)) (features_of image.now component) (state_of tally collection.old)) × Notes rule.now image.now tree.now calls.now notes.new × (held_in notes.new ≡ held_in notes.old) }
-{
-    let end = instance::features_end(image, component);
-    let mut feature = image::field(image, Section::Components, component, image::FIRST_FEATURE);
-    let owner = profile::component_profile(image, notes[0], component);
-    let mut tally = tally;
-    while feature < end {
-        tally = feed_feature(
-            rule, image, tree, calls, last, i, component, feature, owner, collection, notes, tally,
-        );
-        if is_decided(last, tally) {
-            return tally;
-        }
-        feature += 1;
-    }
-    tally
-}
-
-// Sends one feature, whose owner's profile is at hand: as the notes tell, or by asking.
-#[cycle(feed)]
-fn feed_feature(
-    rule: &[u8],
-    image: &[u8],
-    tree: &[u32],
-    calls: &[u32],
-    last: usize,
-    i: usize,
-    component: u32,
-    feature: u32,
-    owner: Profile,
-    collection: &mut [u32],
-    notes: &mut [u8],
-    tally: Tally,
-) -> Tally
-    requires { Fits (method_at last) image.now (calls_from rule.now tree.now calls.now (CALL_ROW * i)) (Member.Feature component feature ∷ []) (state_of tally collection.old) × Notes rule.now image.now tree.now calls.now notes.old × (owner ≡ profile_of image.now (held_in notes.old) (Member.Component component)) }
-    ensures { Stands (method_at last) (state_of result collection.new) (fed image.now (calls_from rule.now tree.now calls.now (CALL_ROW * i)) (Member.Feature component feature ∷ []) (state_of tally collection.old)) × Notes rule.now image.now tree.now calls.now notes.new × (held_in notes.new ≡ held_in notes.old) }
-{
-    let member = Member::Feature(component, feature);
-    let profile = profile::owned_profile(image, notes[0], owner, feature);
-    let mut place = memo::plain_place(profile);
-    if marked::PLACES < notes.len() {
-        place = memo::marked_place(image, member, profile, notes);
-    }
-    let step = step::step_of(calls, i, place, notes);
-    if step::is_open(step) {
-        return feed(
-            rule, image, tree, calls, last, i, member, collection, notes, tally,
-        );
-    }
-    step::take(step, member, collection, tally)
-}
-
-// A member arrives at a call that gives no collection: it is counted, and a quantifier's predicate is asked.
-fn arrive(
-    rule: &[u8],
-    image: &[u8],
-    tree: &[u32],
-    calls: &[u32],
-    i: usize,
-    method: usize,
-    member: Member,
-    notes: &mut [u8],
-    tally: Tally,
-) -> Tally
-    requires { (is_last (method_at method) ≡ true) × (tally.arrived + 1 < 2 ^ 64) × (tally.passed ≤ tally.arrived) × (CALL_ROW * (i + 1) ≤ length calls.now) × Notes rule.now image.now tree.now calls.now notes.old }
-    ensures { Arrives rule.now image.now tree.now method (args_of calls.now i) member tally result × Notes rule.now image.now tree.now calls.now notes.new × (held_in notes.new ≡ held_in notes.old) }
-{
-    if method == method::COUNT {
-        return Tally {
-            arrived: tally.arrived + 1,
-            passed: tally.passed,
-        };
-    }
-    if memo::ask(rule, image, tree, calls, i, member, notes) {
-        return Tally {
-            arrived: tally.arrived + 1,
-            passed: tally.passed + 1,
-        };
-    }
-    Tally {
-        arrived: tally.arrived + 1,
-        passed: tally.passed,
-    }
+    collection[..end].fill(0);
 }
 
 // Writes a member's row.
@@ -239,18 +236,18 @@ pub(crate) fn put_member(collection: &mut [u32], row: usize, member: Member)
     ensures { collection.new ≡ sets collection.old (meant.COLLECTION_ROW * row) (row_of member) }
 {
     let at = COLLECTION_ROW * row;
+    let (first, second) = row_of(member);
+    collection[at] = first;
+    collection[at + 1] = second;
+}
+
+// The two numbers of a member's row.
+fn row_of(member: Member) -> (u32, u32)
+    ensures { row_of member ≡ result.0 ∷ result.1 ∷ [] }
+{
     match member {
-        Member::Component(component) => {
-            collection[at] = component;
-            collection[at + 1] = 0;
-        }
-        Member::Feature(component, feature) => {
-            collection[at] = component;
-            collection[at + 1] = feature;
-        }
-        Member::Diagnostic(diagnostic) => {
-            collection[at] = diagnostic;
-            collection[at + 1] = 0;
-        }
+        Member::Component(component) => (component, 0),
+        Member::Feature(component, feature) => (component, feature),
+        Member::Diagnostic(diagnostic) => (diagnostic, 0),
     }
 }

@@ -8,9 +8,3 @@ returns-then-not-connected c = (omega arith, λ l. absurd (omega (arith, l)))
 
 pub returns-then-owners_wired : goal.returns-then-owners_wired
 returns-then-owners_wired c = (omega arith, λ _. sym c.owners_wired.ensures ∙ c.if-owners_wired.true)
-
-pub returns-else-owners_wired : goal.returns-else-owners_wired
-returns-else-owners_wired c = (omega arith, λ l. absurd (omega (arith, l)))
-
-pub returns-else-asks_features : goal.returns-else-asks_features
-returns-else-asks_features c = (omega arith, λ l. absurd (omega (arith, l)))

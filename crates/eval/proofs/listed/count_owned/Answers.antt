@@ -9,14 +9,8 @@ loop-component-init c = counting_start _ c.record_count-count.ensures
 pub overflow_add-features : goal.overflow_add-features
 overflow_add-features c = omega (arith, c.loop-component.invariant.most, c.loop-component-test.true)
 
-pub overflow_add-component : goal.overflow_add-component
-overflow_add-component c = omega (arith, c.loop-component-test.true)
-
-pub loop-component-smaller : goal.loop-component-smaller
-loop-component-smaller c = omega (arith, c.loop-component-test.true)
-
 pub loop-component-preserved : goal.loop-component-preserved
 loop-component-preserved c = counting_on c.loop-component.invariant c.loop-component-test.true c.count_features.ensures (omega arith)
 
 pub returns : goal.returns
-returns c = counting_end c.loop-component.invariant c.loop-component-test.false
+returns c = counting_end c.loop-component.invariant (omega arith)

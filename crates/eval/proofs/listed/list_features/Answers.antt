@@ -6,19 +6,13 @@ use mathlib.Core.List.{◌∷◌, []}
 use Rattle.eval.proofs.listed.list_features.Goals as goal
 
 pub loop-feature-init : goal.loop-feature-init
-loop-feature-init c = listing_start _ _ _ (features_are _ _ c.features_end-end.ensures c.field-feature.ensures)
+loop-feature-init c = listing_start _ _ _ (features_are _ _ c.features_end-end.ensures c.field-start.ensures)
 
 pub put_member-requires : goal.put_member-requires
 put_member-requires c = listing_room c.loop-feature.invariant (Feature _ _ ∷ []) _ (made_next (Feature _) _ _ c.loop-feature-test.true) c.requires
 
 pub overflow_add-row : goal.overflow_add-row
 overflow_add-row c = omega (arith, listing_room c.loop-feature.invariant (Feature _ _ ∷ []) _ (made_next (Feature _) _ _ c.loop-feature-test.true) c.requires)
-
-pub overflow_add-feature : goal.overflow_add-feature
-overflow_add-feature c = omega (arith, c.loop-feature-test.true)
-
-pub loop-feature-smaller : goal.loop-feature-smaller
-loop-feature-smaller c = omega (arith, c.loop-feature-test.true)
 
 pub loop-feature-preserved : goal.loop-feature-preserved
 loop-feature-preserved c = listing_on c.loop-feature.invariant (Feature _ _ ∷ []) (made_next (Feature _) _ _ c.loop-feature-test.true) (lists_one (Feature _ _) _ _ c.put_member.ensures)
@@ -27,4 +21,4 @@ pub shape_of-collection : goal.shape_of-collection
 shape_of-collection c = c.loop-feature.invariant.long
 
 pub returns : goal.returns
-returns c = listing_end c.loop-feature.invariant (made_none (Feature _) _ _ c.loop-feature-test.false)
+returns c = listing_end c.loop-feature.invariant (made_none (Feature _) _ _ (omega arith))

@@ -4,12 +4,8 @@ use Rattle.meaning.proofs.WalkLaws.{up_to}
 use Rattle.meaning.specs.Calls.{features_of}
 use Rattle.predicate.specs.declared.atom.Member.TheVariants.{Feature}
 use mathlib.Core.List.{map}
-use Prim.Native.Nat.{◌-◌}
 use Rattle.eval.proofs.listed.list_features.Given as goal
 
 abbrev pub invariant-loop-feature : goal.invariant-loop-feature
 invariant-loop-feature l =
     Listing (features_of l.image l.component) l.first l.initial.collection (map (Feature l.component) (up_to l.feature l.end)) l.row l.collection
-
-abbrev pub decreases-loop-feature : goal.decreases-loop-feature
-decreases-loop-feature l = l.end - l.feature

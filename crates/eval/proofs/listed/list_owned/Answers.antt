@@ -10,12 +10,6 @@ loop-component-init c = listing_start _ _ _ (owned_made _ c.record_count-count.e
 pub list_features-row-requires : goal.list_features-row-requires
 list_features-row-requires c = listing_room c.loop-component.invariant (features_of _ _) _ (owned_next _ _ _ c.loop-component-test.true) (omega (arith, c.requires))
 
-pub overflow_add-component : goal.overflow_add-component
-overflow_add-component c = omega (arith, c.loop-component-test.true)
-
-pub loop-component-smaller : goal.loop-component-smaller
-loop-component-smaller c = omega (arith, c.loop-component-test.true)
-
 pub loop-component-preserved : goal.loop-component-preserved
 loop-component-preserved c = listing_on c.loop-component.invariant (features_of _ _) (owned_next _ _ _ c.loop-component-test.true) c.list_features-row.ensures
 
@@ -23,4 +17,4 @@ pub shape_of-collection : goal.shape_of-collection
 shape_of-collection c = c.loop-component.invariant.long
 
 pub returns : goal.returns
-returns c = listing_end c.loop-component.invariant (owned_none _ _ _ c.loop-component-test.false)
+returns c = listing_end c.loop-component.invariant (owned_none _ _ _ (omega arith))

@@ -1,5 +1,6 @@
 -- `value` gives what is settled, by the number of the kind. Assumes nothing.
-use Rattle.eval.proofs.ValueLaws.{gives_components, gives_features, gives_diagnostics, gives_boolean, gives_count, last_left}
+use Rattle.eval.proofs.ValueLaws.{gives_components, gives_features, gives_diagnostics, gives_boolean, gives_count}
+use native.Mathlib.Omega.{arith}
 use Rattle.eval.proofs.pipeline.value.Goals as goal
 
 pub returns-in-0 : goal.returns-in-0
@@ -15,4 +16,4 @@ pub returns-in-3 : goal.returns-in-3
 returns-in-3 c = gives_boolean _ _ c.in-3.is c.judge.ensures
 
 pub returns-in_default : goal.returns-in_default
-returns-in_default c = gives_count _ _ (last_left _ c.requires c.in_default.in_default-own.rest)
+returns-in_default c = gives_count _ _ (omega (arith, c.requires))

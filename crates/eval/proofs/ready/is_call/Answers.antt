@@ -2,16 +2,12 @@
 use Rattle.predicate.proofs.RowLaws.{passes_elsewhere, passes_here}
 use Rattle.predicate.specs.Rows.{of_kind}
 use Rattle.syntax.specs.Kind.{DOT_CALL}
-use native.Mathlib.Omega.{arith}
-use Prim.Native.Nat.{◌+◌}
-use mathlib.Core.Path.{refl}
+use borrow.Author.Tests.{ne_eqb}
+use mathlib.Core.Path.{refl, ◌∙◌}
 use Rattle.eval.proofs.ready.is_call.Goals as goal
 
-pub overflow_cast-tree : goal.overflow_cast-tree
-overflow_cast-tree c = omega (arith, c.type_inv.tree (c.args.row + 1))
-
 pub returns-then-tree-row : goal.returns-then-tree-row
-returns-then-tree-row c = passes_elsewhere (of_kind DOT_CALL) c.args.tree.now c.args.level c.args.row refl c.if-tree-row.true
+returns-then-tree-row c = passes_here (of_kind DOT_CALL) c.args.tree.now c.args.level c.args.row refl c.if-tree-row.true
 
-pub returns : goal.returns
-returns c = passes_here (of_kind DOT_CALL) c.args.tree.now c.args.level c.args.row refl c.if-tree-row.false
+pub returns-else-tree-row : goal.returns-else-tree-row
+returns-else-tree-row c = ne_eqb _ _ c.if-tree-row.false ∙ passes_elsewhere (of_kind DOT_CALL) c.args.tree.now c.args.level c.args.row refl c.if-tree-row.false

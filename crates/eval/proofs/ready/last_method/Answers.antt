@@ -4,14 +4,14 @@ use native.Mathlib.Omega.{arith}
 use mathlib.Core.Path.{sym, ◌∙◌}
 use Rattle.eval.proofs.ready.last_method.Goals as goal
 
-pub loop-i-init : goal.loop-i-init
-loop-i-init c = not_yet _
+pub loop-call-init : goal.loop-call-init
+loop-call-init c = not_yet _
 
 pub returns-then-is_last : goal.returns-then-is_last
-returns-then-is_last c = record { method = last_found c.loop-i.invariant (omega arith) (sym c.is_last.ensures ∙ c.if-is_last.true) }
+returns-then-is_last c = record { method = last_found c.loop-call.invariant (omega arith) (sym c.is_last.ensures ∙ c.if-is_last.true) }
 
-pub loop-i-preserved : goal.loop-i-preserved
-loop-i-preserved c = last_on c.loop-i.invariant (omega arith) (sym c.is_last.ensures ∙ c.if-is_last.false)
+pub loop-call-preserved : goal.loop-call-preserved
+loop-call-preserved c = last_on c.loop-call.invariant (omega arith) (sym c.is_last.ensures ∙ c.if-is_last.false)
 
 pub returns : goal.returns
-returns c = record { method = last_over c.loop-i.invariant (omega (arith, c.loop-i-test.false)) }
+returns c = record { method = last_over c.loop-call.invariant (omega arith) }

@@ -19,16 +19,16 @@ pub overflow_add-row : goal.overflow_add-row
 overflow_add-row c = omega (arith, c.requires.0)
 
 pub loop-calls-init : goal.loop-calls-init
-loop-calls-init c = walking_start c.args.rule.now c.args.tree.now c.args.at _ c.args.calls.now c.requires.0 refl c.requires.2
+loop-calls-init c = walking_start c.args.rule.now c.args.tree.now c.args.at _ c.args.calls.now c.requires.0 refl c.requires.1
 
 pub overflow_add-level-in-loop-calls : goal.overflow_add-level-in-loop-calls
 overflow_add-level-in-loop-calls c = omega (arith, c.type_inv.tree (c.args.at + 1))
 
 pub put_row-count-requires : goal.put_row-count-requires
-put_row-count-requires c = ((row_there _ _ (below_row _ _ _ (sym c.is_below.ensures ∙ c.loop-calls-test.true)).0), omega (arith, (below_row _ _ _ (sym c.is_below.ensures ∙ c.loop-calls-test.true)).1), c.requires.1, c.loop-calls.invariant.putting.fit)
+put_row-count-requires c = ((row_there _ _ (below_row _ _ _ (sym c.is_below.ensures ∙ c.loop-calls-test.true)).0), omega (arith, (below_row _ _ _ (sym c.is_below.ensures ∙ c.loop-calls-test.true)).1), c.loop-calls.invariant.putting.fit)
 
 pub overflow_add-row-in-loop-calls : goal.overflow_add-row-in-loop-calls
-overflow_add-row-in-loop-calls c = omega (arith, (row_there _ _ (below_row _ _ _ (sym c.is_below.ensures ∙ c.loop-calls-test.true)).0), c.requires.1)
+overflow_add-row-in-loop-calls c = omega (arith, (row_there _ _ (below_row _ _ _ (sym c.is_below.ensures ∙ c.loop-calls-test.true)).0))
 
 pub loop-calls-smaller : goal.loop-calls-smaller
 loop-calls-smaller c = omega (arith, (row_there _ _ (below_row _ _ _ (sym c.is_below.ensures ∙ c.loop-calls-test.true)).0))

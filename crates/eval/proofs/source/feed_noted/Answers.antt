@@ -1,6 +1,0 @@
--- `feed_noted` sends every component: without notes, with marks, or with a memo of zeros whose first byte says what profiles hold. Assumes nothing.
-use Rattle.eval.proofs.MemoLaws.{notes_plain}
-use Rattle.eval.proofs.source.feed_noted.Goals as goal
-
-pub feed_each_component-requires : goal.feed_each_component-requires
-feed_each_component-requires c = (c.requires, notes_plain _ _ _ _ _ c.held.ensures)

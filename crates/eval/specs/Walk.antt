@@ -1,0 +1,117 @@
+-- A walk through the calls of a pipeline: who may be sent on it, and how it is left. Assumes nothing: these are definitions.
+use Rattle.std.specs.Prelude.{ℕ, ◌+◌, ◌*◌, ◌≤◌, ◌<◌, Bool, true, List, map, ◌≡◌, length}
+use Rattle.board.specs.Check.{COLLECTION_ROW}
+use Rattle.board.specs.Image.{diagnostic_count}
+use Rattle.board.specs.WellFormed.{WellFormed, Room}
+use Rattle.predicate.specs.declared.atom.Member.{Member}
+use Rattle.predicate.specs.declared.atom.Member.TheVariants.{Diagnostic}
+use Rattle.predicate.specs.Rows.{ROW, kind_at, children_at}
+use Rattle.meaning.specs.Calls.{Method, Call, kept, up_from}
+use Rattle.meaning.specs.Pipeline.{is_of_analysis}
+use Rattle.meaning.specs.Walk.{is_last}
+use Rattle.calls.specs.Table.{method_at}
+use Rattle.eval.specs.declared.ready.Call.{Call as PlacedCall}
+use Rattle.eval.specs.declared.step.Step.{Step}
+use Rattle.eval.specs.declared.walk.Tally.{Tally}
+use Rattle.eval.specs.declared.walk.Pipeline.{Pipeline}
+use Rattle.eval.specs.declared.walk.Walk.{Walk}
+use Rattle.eval.specs.Ready.{nth, calls_in, calls_from, source_members}
+use Rattle.eval.specs.Marked.{held_in}
+use Rattle.eval.specs.Memo.{args_of, Notes, Asked}
+use Rattle.eval.specs.Feed.{State, state_of, begin, fed, walked, Decides, Fits, Stands}
+use Rattle.eval.specs.Step.{arrives}
+
+-- the calls of a pipeline from the i-th on, its last call, and what a memo says of it
+abbrev pub calls_at : Pipeline → ℕ → List Call
+calls_at p i = calls_from p.rule.now p.tree.now p.calls.now i
+
+abbrev pub last_of : Pipeline → Method
+last_of p = method_at p.last
+
+abbrev pub NotesOf : Pipeline → List ℕ → Type 0
+NotesOf p memo = Notes p.rule.now p.image.now p.tree.now p.calls.now memo
+
+-- how far a walk is
+abbrev pub state_in : Walk → State
+state_in w = state_of w.tally w.collection.now
+
+-- the diagnostics of the analysis with a name
+abbrev pub every_of_analysis : (image name : List ℕ) → List Member
+every_of_analysis image name = kept (is_of_analysis image name) (map Diagnostic (up_from 0 (diagnostic_count image)))
+
+-- members may be sent through all calls of a pipeline into a table, and were
+abbrev pub SendsAll : Pipeline → List Member → List ℕ → Type 0
+SendsAll p members table = Fits (last_of p) p.image.now (calls_at p 0) members (begin table)
+
+abbrev pub SentAll : Pipeline → List Member → (before after : List ℕ) → Tally → Type 0
+SentAll p members before after t = Stands (last_of p) (state_of t after) (fed p.image.now (calls_at p 0) members (begin before))
+
+-- the members of the source whose row is at a place may be sent into a table with room for what is on the board, and were
+pub record Walks (p : Pipeline) (source : ℕ) (table : List ℕ) : Type 0 where
+  pub whole : source + ROW ≤ length p.tree.now
+  pub well : WellFormed p.image.now
+  pub room : Room p.image.now (length table)
+  pub decides : Decides (last_of p) (calls_in p.rule.now p.tree.now p.calls.now)
+
+abbrev pub Walked : Pipeline → ℕ → (before after : List ℕ) → Tally → Type 0
+Walked p source before after t =
+    Stands (last_of p) (state_of t after)
+    (walked p.image.now (calls_in p.rule.now p.tree.now p.calls.now) (source_members p.image.now (kind_at p.tree.now source) (children_at p.rule.now p.tree.now source)) before)
+
+-- a walk that nobody was sent on, with a collection table and a memo by their names and as they are
+pub record Begins (p : Pipeline) (collection : ℕ) (table : List ℕ) (notes : ℕ) (memo : List ℕ) (w : Walk) : Type 0 where
+  pub pipeline : w.pipeline ≡ p
+  pub collection_name : w.collection.ghost_name ≡ collection
+  pub notes_name : w.notes.ghost_name ≡ notes
+  pub state : state_in w ≡ begin table
+  pub memo_is : w.notes.now ≡ memo
+
+-- what is looked at stays, and the table and the memo are the same ones
+pub record SameWalk (old new : Walk) : Type 0 where
+  pub pipeline : new.pipeline ≡ old.pipeline
+  pub collection_name : new.collection.ghost_name ≡ old.collection.ghost_name
+  pub notes_name : new.notes.ghost_name ≡ old.notes.ghost_name
+
+-- members may be sent through the calls from the i-th on
+pub record Sending (w : Walk) (i : ℕ) (members : List Member) : Type 0 where
+  pub fits : Fits (last_of w.pipeline) w.pipeline.image.now (calls_at w.pipeline i) members (state_in w)
+  pub notes : NotesOf w.pipeline w.notes.now
+
+-- they were: what the memo says is still so, and profiles hold what they held
+pub record Sent (old : Walk) (i : ℕ) (members : List Member) (new : Walk) : Type 0 where
+  pub same : SameWalk old new
+  pub stands : Stands (last_of old.pipeline) (state_in new) (fed old.pipeline.image.now (calls_at old.pipeline i) members (state_in old))
+  pub notes : NotesOf old.pipeline new.notes.now
+  pub held : held_in new.notes.now ≡ held_in old.notes.now
+
+-- members may be sent to the i-th call, which gives no collection
+pub record Arriving (w : Walk) (i : ℕ) (members : List Member) (call : PlacedCall) : Type 0 where
+  pub sending : Sending w i members
+  pub there : i < length w.pipeline.calls.now
+  pub is : call ≡ nth w.pipeline.calls.now i
+  pub last : is_last (method_at call.method) ≡ true
+
+-- there is room for what a step does
+pub record Takes (w : Walk) (step : Step) : Type 0 where
+  pub room : arrives step ≡ true → COLLECTION_ROW * (w.tally.arrived + 1) ≤ length w.collection.now
+  pub fewer : w.tally.passed ≤ w.tally.arrived
+
+-- a walk is so far now, and nothing was noted
+pub record Moved (old : Walk) (s : State) (new : Walk) : Type 0 where
+  pub same : SameWalk old new
+  pub state : state_in new ≡ s
+  pub notes : new.notes.now ≡ old.notes.now
+
+-- it is as far as it was
+pub record Stays (old new : Walk) : Type 0 where
+  pub same : SameWalk old new
+  pub state : state_in new ≡ state_in old
+
+-- the predicate of call i may be asked of a member, and was
+pub record Asking (w : Walk) (i args : ℕ) : Type 0 where
+  pub args_is : args ≡ args_of w.pipeline.calls.now i
+  pub notes : NotesOf w.pipeline w.notes.now
+
+pub record AskedOf (old : Walk) (i : ℕ) (m : Member) (new : Walk) (r : Bool) : Type 0 where
+  pub stays : Stays old new
+  pub asked : Asked old.pipeline.rule.now old.pipeline.image.now old.pipeline.tree.now old.pipeline.calls.now i m old.notes.now new.notes.now r
