@@ -3,7 +3,7 @@
 
 pub mod noise;
 
-ghost use Rattle.std.specs.Prelude.{◌≡◌, ◌↔◌, ◌+◌, ◌<◌, ◌≤◌, length, take, drop, IsSome, IfSome, true};
+ghost use Rattle.std.specs.Prelude.{◌≡◌, ◌↔◌, ◌+◌, ◌<◌, ◌≤◌, length, take, drop, IsSome, IfSome, IfNone, MatchOption, []};
 ghost use Rattle.cases.specs.File.{is_digit_of, number, past_number};
 ghost use Rattle.std.specs.Iterator.{at_most};
 
@@ -13,6 +13,7 @@ use std::marker::PhantomData;
 pub fn number(input: &[u8]) -> (usize, &[u8])
     ensures value { result.0 ≡ number 0 input.now }
     ensures rest { result.1.now ≡ past_number 0 input.now }
+    ensures shorter { length result.1.now ≤ length input.now }
 {
     let mut value = 0;
     let mut rest = input;
@@ -38,6 +39,7 @@ pub fn bytes(input: &[u8], n: usize) -> Option<(&[u8], &[u8])>
     ensures some { IsSome result ↔ (n < length input.now) }
     ensures bytes { IfSome result (λ r. r.0.now ≡ take n input.now) }
     ensures rest { IfSome result (λ r. r.1.now ≡ drop (n + 1) input.now) }
+    ensures shorter { IfSome result (λ r. length r.1.now < length input.now) }
 {
     if input.len() <= n {
         return None;
@@ -50,6 +52,7 @@ pub fn text(input: &[u8]) -> Option<(&[u8], &[u8])>
     ensures some { IsSome result ↔ (number 0 input.now < length (past_number 0 input.now)) }
     ensures bytes { IfSome result (λ r. r.0.now ≡ take (number 0 input.now) (past_number 0 input.now)) }
     ensures rest { IfSome result (λ r. r.1.now ≡ drop (number 0 input.now + 1) (past_number 0 input.now)) }
+    ensures shorter { IfSome result (λ r. length r.1.now < length input.now) }
 {
     let (length, rest) = number(input);
     bytes(rest, length)
@@ -82,6 +85,8 @@ impl<'a, C: Case<'a>> Cases<'a, C> {
 
 impl<'a, C: Case<'a>> Iterator for Cases<'a, C> {
     type Item = Option<C>;
+
+    ghost next_gives = { λ s r t. MatchOption r (s.rest.now ≡ []) (λ case. (0 < length s.rest.now) × IfNone case (t.rest.now ≡ [])) };
 
     ghost remaining = { λ s. at_most (length s.rest.now) };
 

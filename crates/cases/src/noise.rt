@@ -22,3 +22,13 @@ pub fn fill(table: &mut [u32], seed: usize)
         *number = self::number(seed, at);
     }
 }
+
+// A table of N numbers with the number of each place there.
+pub fn table<const N: usize>(seed: usize) -> [u32; N]
+    ensures len { length result ≡ N }
+    ensures numbers { (k : ℕ) → k < N → slice_index result k ≡ noise seed k }
+{
+    let mut table = [0; N];
+    fill(&mut table, seed);
+    table
+}

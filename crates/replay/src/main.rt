@@ -3,7 +3,7 @@
 // rule's bytes and a line feed: the lengths of the three tables in numbers, and of the rule in bytes.
 #![tactic(auto)]
 
-ghost use Rattle.std.specs.Prelude.{◌≤◌, length, IfSome};
+ghost use Rattle.std.specs.Prelude.{◌≤◌};
 
 use cases::{Cases, noise};
 use message::Message;
@@ -39,12 +39,13 @@ fn replay<W: Write>(out: &mut W, input: &[u8]) -> io::Result<()> {
 }
 
 // A rule, and the lengths of the tables that it is read into.
-#[derive(Clone, Copy, Drop)]
+#[derive(Drop)]
 struct Case<'a> {
     tokens: usize,
     tree: usize,
     errors: usize,
     rule: &'a [u8],
+    ghost fits: { (tokens ≤ 1520) × (tree ≤ 16672) × (errors ≤ 16672) },
 }
 
 impl<'a> cases::Case<'a> for Case<'a> {
@@ -70,9 +71,9 @@ impl<'a> cases::Case<'a> for Case<'a> {
 
 // Reads the rule into tables of so many numbers.
 fn run_case<W: Write>(out: &mut W, case: Case<'_>) -> io::Result<()> {
-    let mut tokens = [0; TOKENS];
-    let mut tree = [0; ROWS];
-    let mut errors = [0; ROWS];
+    let mut tokens = noise::table::<TOKENS>(SEED);
+    let mut tree = noise::table::<ROWS>(SEED);
+    let mut errors = noise::table::<ROWS>(SEED);
     run_in(
         out,
         case.rule,
@@ -89,9 +90,6 @@ fn run_in<W: Write>(
     tree: &mut [u32],
     errors: &mut [u32],
 ) -> io::Result<()> {
-    noise::fill(tokens, SEED);
-    noise::fill(tree, SEED);
-    noise::fill(errors, SEED);
     match parser::parse_expr(rule, tokens, tree, errors) {
         Reading::Rows {
             tokens: a,
@@ -144,13 +142,17 @@ fn print_errors<W: Write>(out: &mut W, rule: &[u8], table: &[u32], n: usize) -> 
 }
 
 // Whether every number past the first n rows is as it was before the case was run.
-fn is_kept<const N: usize>(table: &[u32], n: usize) -> bool {
-    let past = rows::first::<N>(table, n).as_flattened().len();
-    table
-        .iter()
-        .enumerate()
-        .skip(past)
-        .all(|(at, number)| *number == noise::number(SEED, at))
+fn is_kept<const N: usize>(table: &[u32], n: usize) -> bool
+    requires { N ≤ 4 }
+{
+    let rows = rows::first::<N>(table, n);
+    let past = rows.as_flattened().len();
+    rows.len() == n
+        && table
+            .iter()
+            .enumerate()
+            .skip(past)
+            .all(|(at, number)| *number == noise::number(SEED, at))
 }
 
 fn print_kept<W: Write>(out: &mut W, kept: bool) -> io::Result<()> {

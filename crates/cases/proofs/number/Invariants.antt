@@ -7,7 +7,8 @@ abbrev pub invariant-loop-byte : goal.invariant-loop-byte
 invariant-loop-byte l = record {
   value : number l.value l.rest ≡ number 0 l.fn.input;
   rest : past_number l.value l.rest ≡ past_number 0 l.fn.input;
-  small : l.value ≤ 9999999
+  small : l.value ≤ 9999999;
+  shorter : length l.rest ≤ length l.fn.input
 }
 
 abbrev pub decreases-loop-byte : goal.decreases-loop-byte
