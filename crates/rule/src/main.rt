@@ -2,13 +2,14 @@
 // in words: the members of a collection, the parse errors with their places, or the members for which a quantifier failed.
 #![tactic(auto)]
 
-ghost use Rattle.std.specs.Prelude.{◌≡◌, ◌≤◌, length, IfOk};
+ghost use Rattle.std.specs.Prelude.{◌≤◌, length, IfOk};
 
-use calls::value::{Outcome, Value, Verdict};
-use calls::verdict;
+use calls::value::{Outcome, Verdict};
+use eval::Answer;
 use matching::search;
 use matching::search::Found;
 use report::{answer, error};
+use rows::{ROWS, TOKENS};
 use std::io::{ErrorKind, Write};
 use std::rt::Env;
 use std::{fs, io, str};
@@ -20,16 +21,13 @@ const RULE: usize = 501;
 
 const IMAGE: usize = 65537;
 
-// The numbers of the token table, and of the tree and the error table, that every rule has room in.
-const TOKENS: usize = 1500;
-
-const ROWS: usize = 16032;
-
 // The numbers of a collection table that every board has room in.
 const COLLECTION: usize = 65536;
 
-// The room for a text: more than the longest line, which a diagnostic's message makes.
-const OUT: usize = 131072;
+// The room for the lines of an answer or an error, and for a member: more than the longest line, which a diagnostic's message makes.
+const LINES: usize = 4096;
+
+const MEMBER: usize = 131072;
 
 // The room for the words of an error of the system.
 const WORDS: usize = 1024;
@@ -43,7 +41,7 @@ fn main(rt: HostRuntime) -> io::Result<()> {
         Ok(length) => run_on(&rt, &path[..length]),
         Err(_) => {
             let mut err = rt.stderr();
-            err.write_all(b"rule: name a board file\n")?;
+            writeln!(err, "rule: name a board file")?;
             print_usage(&mut err)
         }
     }
@@ -51,10 +49,14 @@ fn main(rt: HostRuntime) -> io::Result<()> {
 
 // Runs on a board file, or says how to use the program.
 fn run_on(rt: &HostRuntime, path: &[u8]) -> io::Result<()> {
-    if text::same(path, b"--help") {
+    if path == b"--help".as_slice() {
         return print_usage(&mut rt.stdout());
     }
-    open_board(rt, path)
+    let mut image = [0u8; IMAGE];
+    match read_board(rt, path, &mut image) {
+        Ok(n) => run_board(rt, &image[..n]),
+        Err(error) => fail_on(rt, path, error),
+    }
 }
 
 fn print_usage<W: Write>(out: &mut W) -> io::Result<()> {
@@ -65,25 +67,15 @@ fn print_usage<W: Write>(out: &mut W) -> io::Result<()> {
     )
 }
 
-fn open_board(rt: &HostRuntime, path: &[u8]) -> io::Result<()> {
-    let mut image = image_buffer();
-    match read_board(rt, path, &mut image) {
-        Ok(n) => run_board(rt, &image[..n]),
-        Err(error) => fail_on(rt, path, error),
-    }
-}
-
 // Reads a board file, or as much of it as the buffer has room for.
 fn read_board(rt: &HostRuntime, path: &[u8], image: &mut [u8]) -> io::Result<usize>
     ensures { IfOk result (λ n. n ≤ length image.new) }
 {
-    match str::from_utf8(path) {
-        Ok(name) => {
-            let mut file = fs::open(rt, name)?;
-            streams::read_full(&mut file, image)
-        }
-        Err(_) => Err(io::Error::from(ErrorKind::InvalidFilename)),
-    }
+    let Ok(name) = str::from_utf8(path) else {
+        return Err(io::Error::from(ErrorKind::InvalidFilename));
+    };
+    let mut file = fs::open(rt, name)?;
+    streams::read_full(&mut file, image)
 }
 
 // Says why the board file cannot be read, and how to use the program.
@@ -115,131 +107,85 @@ fn before_code(words: &[u8]) -> &[u8] {
     }
 }
 
-// Each `ensures` gives the length, which lending the array needs.
-fn rule_buffer() -> [u8; RULE]
-    ensures { 501 ≡ length result }
-{
-    [0; RULE]
-}
-
-fn image_buffer() -> [u8; IMAGE]
-    ensures { 65537 ≡ length result }
-{
-    [0; IMAGE]
-}
-
-fn token_table() -> [u32; TOKENS]
-    ensures { 1500 ≡ length result }
-{
-    [0; TOKENS]
-}
-
-fn row_table() -> [u32; ROWS]
-    ensures { 16032 ≡ length result }
-{
-    [0; ROWS]
-}
-
-fn collection_table() -> [u32; COLLECTION]
-    ensures { 65536 ≡ length result }
-{
-    [0; COLLECTION]
-}
-
-fn out_buffer() -> [u8; OUT]
-    ensures { 131072 ≡ length result }
-{
-    [0; OUT]
-}
-
-fn witness_buffer() -> [u8; WITNESS]
-    ensures { 1100 ≡ length result }
-{
-    [0; WITNESS]
-}
-
 fn run_board(rt: &HostRuntime, image: &[u8]) -> io::Result<()> {
-    let mut buffer = rule_buffer();
-    let n = streams::read_full(&mut rt.stdin(), &mut buffer)?;
-    run_rule(&mut rt.stdout(), image, &buffer[..n])
+    let mut rule = [0u8; RULE];
+    let n = streams::read_full(&mut rt.stdin(), &mut rule)?;
+    run_rule(&mut rt.stdout(), image, &rule[..n])
+}
+
+// The four tables that a rule runs with.
+struct Tables {
+    tokens: [u32; TOKENS],
+    tree: [u32; ROWS],
+    errors: [u32; ROWS],
+    collection: [u32; COLLECTION],
+}
+
+impl Tables {
+    fn new() -> Tables {
+        Tables {
+            tokens: [0; TOKENS],
+            tree: [0; ROWS],
+            errors: [0; ROWS],
+            collection: [0; COLLECTION],
+        }
+    }
+
+    fn run(&mut self, rule: &[u8], image: &[u8]) -> Answer {
+        eval::run(
+            rule,
+            image,
+            &mut self.tokens,
+            &mut self.tree,
+            &mut self.errors,
+            &mut self.collection,
+        )
+    }
 }
 
 // Runs the rule and prints what it comes to.
 fn run_rule<W: Write>(out: &mut W, image: &[u8], rule: &[u8]) -> io::Result<()> {
-    let mut tokens = token_table();
-    let mut tree = row_table();
-    let mut errors = row_table();
-    let mut collection = collection_table();
-    let ran = eval::run(
-        rule,
-        image,
-        &mut tokens,
-        &mut tree,
-        &mut errors,
-        &mut collection,
-    );
-    let outcome = ran.outcome;
-    let reading = ran.reading;
-    print_head(out, outcome)?;
-    match reading {
+    let mut tables = Tables::new();
+    let ran = tables.run(rule, image);
+    print_lines::<LINES, _, _>(out, |lines, at| answer::write_head(ran.outcome, lines, at))?;
+    match ran.reading {
         Reading::Refused(_) => Ok(()),
         Reading::Rows {
             tokens: _,
-            tree: tree_rows,
-            errors: error_rows,
+            tree,
+            errors,
         } => {
-            print_errors(out, rule, &errors, error_rows)?;
-            print_members(out, image, outcome, &collection)?;
-            print_failing(out, image, rule, &tree, tree_rows, outcome)
+            print_errors(out, rule, rows::first::<4>(&tables.errors, errors))?;
+            print_members(out, image, ran.outcome, &tables.collection)?;
+            if matches!(ran.verdict, Verdict::Fail) {
+                return print_failing(out, image, rule, rows::first::<4>(&tables.tree, tree));
+            }
+            Ok(())
         }
     }
 }
 
-// Prints the first n bytes, or as many as there are.
-fn print_front<W: Write>(out: &mut W, bytes: &[u8], n: usize) -> io::Result<()> {
-    out.write_all(text::part(bytes, 0, n))
-}
-
-// The verdict's line and the outcome's.
-fn print_head<W: Write>(out: &mut W, outcome: Outcome) -> io::Result<()> {
-    let mut lines = [0u8; 4096];
-    let n = answer::write_head(outcome, &mut lines, 0);
-    print_front(out, &lines, n)
+// Prints what a writer appends to an empty place with so much room.
+fn print_lines<const ROOM: usize, W: Write, F: FnOnce(&mut [u8], usize) -> usize>(
+    out: &mut W,
+    write: F,
+) -> io::Result<()>
+    requires { F.IsAlwaysCallable write }
+{
+    let mut lines = [0u8; ROOM];
+    let n = write(&mut lines, 0);
+    out.write_all(text::part(&lines, 0, n))
 }
 
 // The parse errors, each with the rule's line and a mark under the place.
-fn print_errors<W: Write>(out: &mut W, rule: &[u8], errors: &[u32], n: usize) -> io::Result<()> {
-    let whole = errors.len() / 4;
-    let mut i = 0;
-    while i < whole {
-        if i == n {
-            return Ok(());
-        }
-        let at = i * 4;
-        print_error(
-            out,
-            rule,
-            errors[at],
-            errors[at + 1],
-            errors[at + 2],
-            errors[at + 3],
-        )?;
-        i += 1;
+fn print_errors<W: Write>(out: &mut W, rule: &[u8], errors: &[[u32; 4]]) -> io::Result<()> {
+    for row in errors {
+        let [form, expected, first, end] = *row;
+        print_lines::<LINES, _, _>(out, |lines, at| {
+            error::write_error(rule, form, expected, first, end, lines, at)
+        })?;
     }
     Ok(())
-}
-
-fn print_error<W: Write>(
-    out: &mut W,
-    rule: &[u8],
-    form: u32,
-    expected: u32,
-    first: u32,
-    end: u32,
-) -> io::Result<()> {
-    let mut lines = [0u8; 4096];
-    let n = error::write_error(rule, form, expected, first, end, &mut lines, 0);
-    print_front(out, &lines, n)
 }
 
 // The members of a collection.
@@ -249,138 +195,42 @@ fn print_members<W: Write>(
     outcome: Outcome,
     collection: &[u32],
 ) -> io::Result<()> {
-    match outcome {
-        Outcome::Refused(_) => Ok(()),
-        Outcome::Given(value) => print_rows(out, image, value, collection, member_count(value)),
-    }
-}
-
-// How many members a value has.
-fn member_count(value: Value) -> usize {
-    match value {
-        Value::Components(n) => n,
-        Value::Features(n) => n,
-        Value::Diagnostics(n) => n,
-        Value::Bool(_) => 0,
-        Value::BoolWithWarning(_) => 0,
-        Value::Count(_) => 0,
-    }
-}
-
-fn print_rows<W: Write>(
-    out: &mut W,
-    image: &[u8],
-    value: Value,
-    collection: &[u32],
-    n: usize,
-) -> io::Result<()> {
-    let whole = collection.len() / 2;
-    let mut i = 0;
-    while i < whole {
-        if i == n {
-            return Ok(());
-        }
-        let at = i * 2;
-        print_member(out, image, value, collection[at], collection[at + 1])?;
-        i += 1;
+    let Outcome::Given(value) = outcome else {
+        return Ok(());
+    };
+    for row in rows::members(value, collection) {
+        let [first, second] = *row;
+        print_lines::<MEMBER, _, _>(out, |lines, at| {
+            members::write_member(image, value, first, second, lines, at)
+        })?;
     }
     Ok(())
 }
 
-fn print_member<W: Write>(
-    out: &mut W,
-    image: &[u8],
-    value: Value,
-    first: u32,
-    second: u32,
-) -> io::Result<()> {
-    let mut lines = out_buffer();
-    let n = members::write_member(image, value, first, second, &mut lines, 0);
-    print_front(out, &lines, n)
-}
-
-// Where a quantifier is false, the members for which it fails.
+// The members for which a quantifier is false, by the rule that names them.
 fn print_failing<W: Write>(
     out: &mut W,
     image: &[u8],
     rule: &[u8],
-    tree: &[u32],
-    rows: usize,
-    outcome: Outcome,
+    tree: &[[u32; 4]],
 ) -> io::Result<()> {
-    if fails(outcome) {
-        return print_witness(out, image, rule, tree, rows);
-    }
-    Ok(())
-}
-
-// Whether an outcome is false.
-fn fails(outcome: Outcome) -> bool {
-    match verdict::verdict(outcome) {
-        Verdict::Pass => false,
-        Verdict::Fail => true,
-        Verdict::Refused => false,
-        Verdict::Open => false,
-    }
-}
-
-// Runs the rule that names them.
-fn print_witness<W: Write>(
-    out: &mut W,
-    image: &[u8],
-    rule: &[u8],
-    tree: &[u32],
-    rows: usize,
-) -> io::Result<()> {
-    let mut buffer = witness_buffer();
-    let n = write_witness(rule, tree, rows, &mut buffer);
-    if n == 0 {
+    let mut buffer = [0u8; WITNESS];
+    let n = witness::write_witness(rule, tree.as_flattened(), &mut buffer, 0);
+    let witness = text::part(&buffer, 0, n);
+    if witness.is_empty() {
         return Ok(());
     }
     out.write_all(b"it fails for these, by ")?;
-    print_front(out, &buffer, n)?;
+    out.write_all(witness)?;
     out.write_all(b"\n")?;
-    run_witness(out, image, &buffer, n)
-}
-
-// The rule that names them, from the first rows of the tree table, or from all.
-fn write_witness(rule: &[u8], tree: &[u32], rows: usize, out: &mut [u8]) -> usize {
-    if rows <= tree.len() / 4 {
-        let end = rows * 4;
-        return witness::write_witness(rule, &tree[..end], out, 0);
-    }
-    witness::write_witness(rule, tree, out, 0)
-}
-
-fn run_witness<W: Write>(out: &mut W, image: &[u8], buffer: &[u8], n: usize) -> io::Result<()> {
-    if n <= buffer.len() {
-        return list_members(out, image, &buffer[..n]);
-    }
-    Ok(())
+    list_members(out, image, witness)
 }
 
 // Runs a rule and prints the members that it gives, without a verdict.
 fn list_members<W: Write>(out: &mut W, image: &[u8], rule: &[u8]) -> io::Result<()> {
-    let mut tokens = token_table();
-    let mut tree = row_table();
-    let mut errors = row_table();
-    let mut collection = collection_table();
-    let ran = eval::run(
-        rule,
-        image,
-        &mut tokens,
-        &mut tree,
-        &mut errors,
-        &mut collection,
-    );
-    let outcome = ran.outcome;
-    print_outcome(out, outcome)?;
-    print_members(out, image, outcome, &collection)
-}
-
-fn print_outcome<W: Write>(out: &mut W, outcome: Outcome) -> io::Result<()> {
-    let mut line = [0u8; 4096];
-    let n = answer::write_outcome(outcome, &mut line, 0);
-    print_front(out, &line, n)?;
-    out.write_all(b"\n")
+    let mut tables = Tables::new();
+    let outcome = tables.run(rule, image).outcome;
+    print_lines::<LINES, _, _>(out, |lines, at| answer::write_outcome(outcome, lines, at))?;
+    out.write_all(b"\n")?;
+    print_members(out, image, outcome, &tables.collection)
 }

@@ -1,9 +1,0 @@
--- `print_tokens` stays within the table's whole rows. Assumes nothing.
-use Rattle.std.proofs.Common.{◌-◌, ◌≤◌, ◌*◌, length}
-use Rattle.replay.proofs.print_tokens.Given as goal
-
-abbrev pub invariant-loop-i : goal.invariant-loop-i
-invariant-loop-i g l = (l.i ≤ l.whole) × (l.whole * 3 ≤ length l.table)
-
-abbrev pub decreases-loop-i : goal.decreases-loop-i
-decreases-loop-i g l = l.whole - l.i

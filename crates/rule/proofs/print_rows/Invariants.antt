@@ -1,9 +1,0 @@
--- `print_rows` stays within the table's whole rows. Assumes nothing.
-use Rattle.std.proofs.Common.{◌-◌, ◌≤◌, ◌*◌, length}
-use Rattle.rule.proofs.print_rows.Given as goal
-
-abbrev pub invariant-loop-i : goal.invariant-loop-i
-invariant-loop-i g l = (l.i ≤ l.whole) × (l.whole * 2 ≤ length l.collection)
-
-abbrev pub decreases-loop-i : goal.decreases-loop-i
-decreases-loop-i g l = l.whole - l.i
