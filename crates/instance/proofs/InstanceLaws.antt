@@ -7,12 +7,12 @@ use Prim.Native.Nat.{ℕ, zero, suc, ◌+◌, ◌-◌, ◌≤◌, ◌<◌}
 use native.Mathlib.Nat.{sub-zero}
 use native.Mathlib.Numerals.{add-one}
 use native.Mathlib.Omega.{arith}
-use borrow.Author.Tests.{eq-eqb, ne_eqb, eqb-true, not-true, not-false}
+use borrow.Author.Tests.{ne_eqb, eqb-true, not-true, not-false}
 use lib.Dec.{eqb}
 use Rattle.syntax.specs.Text.{same}
 use Rattle.syntax.proofs.BoolLaws.{whether, neither}
-use Rattle.board.specs.Image.{text, parent, first_feature, features_of, wired, feature_count, feature_name, connection_count, owner, property_count}
-use Rattle.instance.specs.Instance.{some, is_wired, component_connected, end_is, joins, feature_connected, owner_unwired, owners_wired, is_property, has_property, features_end, feature_is, has_feature}
+use Rattle.board.specs.Image.{text, parent, first_feature, feature_name, connection_count, owner, property_count}
+use Rattle.instance.specs.Instance.{some, is_wired, component_connected, joins, feature_connected, owner_unwired, owners_wired, is_property, has_property, features_end, feature_is, has_feature}
 
 -- records are passed over up to n and none passes: whether some does is for those from n to `end` to say
 pub record Searching (passes : ℕ → Bool) (end n : ℕ) (whole : Bool) : Type 0 where

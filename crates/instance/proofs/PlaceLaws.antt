@@ -11,11 +11,10 @@ use borrow.Author.Tests.{eq-eqb, ne_eqb, le-leb}
 use lib.Dec.{eqb, eqb-suc-zero, eqb-suc-suc}
 use lib.ListN.{length, take, length-take}
 use lib.Seq.{get_or-take}
-use Rattle.syntax.specs.Text.{same}
-use Rattle.board.specs.Image.{NUMBER_SIZE, little_endian, word, field, section_offset, text, parent, wired, owner}
+use Rattle.board.specs.Image.{NUMBER_SIZE, little_endian, word, field, section_offset, wired, owner}
 use Rattle.board.specs.declared.image.Section.TheVariants.{Components, Connections, Features, Properties}
-use Rattle.instance.specs.Instance.{some, end_is, joins, owner_unwired, is_property, feature_is}
-use Rattle.instance.specs.Places.{RECORD_SIZE, SECOND, THIRD, COMPONENT_SIZE, FIFTH, other_owner, joins_at, is_property_at, feature_is_at, Skipped}
+use Rattle.instance.specs.Instance.{some, joins, owner_unwired, is_property, feature_is}
+use Rattle.instance.specs.Places.{RECORD_SIZE, COMPONENT_SIZE, FIFTH, other_owner, joins_at, is_property_at, feature_is_at, Skipped}
 use Rattle.instance.proofs.InstanceLaws.{Searching, searching_hit, searching_miss, searching_done}
 
 -- a number that lies in an image's front is the image's
