@@ -1,19 +1,18 @@
 -- What the numbers and texts read from an image say of its parts, and how far a loop has come in search of a record that passes a
 -- test: what is left decides as the whole does. Assumes nothing.
 use mathlib.Core.Path.{◌≡◌, refl, sym, ap, ◌∙◌}
-use mathlib.Core.Bool.{Bool, true, false, not, ◌&&◌, ◌||◌, or-true, true≢false}
+use mathlib.Core.Bool.{Bool, true, false, not, or-true, true≢false}
 use mathlib.Core.List.{List}
 use Prim.Native.Nat.{ℕ, zero, suc, ◌+◌, ◌-◌, ◌≤◌, ◌<◌}
 use native.Mathlib.Nat.{sub-zero}
 use native.Mathlib.Numerals.{add-one}
 use native.Mathlib.Omega.{arith}
-use borrow.Author.Tests.{eq-eqb, ne_eqb, eqb-true, not-true, not-false}
+use borrow.Author.Tests.{ne_eqb, eqb-true, not-true, not-false}
 use lib.Dec.{eqb}
-use Rattle.std.specs.List.{list_all, list_any, range_with_len}
 use Rattle.syntax.specs.Text.{same}
 use Rattle.syntax.proofs.BoolLaws.{whether, neither}
-use Rattle.board.specs.Image.{text, parent, first_feature, features_of, wired, feature_count, feature_name, connection_count, owner, property_count}
-use Rattle.instance.specs.Instance.{some, is_wired, component_connected, end_is, joins, feature_connected, owner_unwired, owners_wired, is_property, has_property, features_end, feature_is, has_feature}
+use Rattle.board.specs.Image.{text, parent, first_feature, feature_name, connection_count, owner, property_count}
+use Rattle.instance.specs.Instance.{some, is_wired, component_connected, joins, feature_connected, owner_unwired, owners_wired, is_property, has_property, features_end, feature_is, has_feature}
 
 -- records are passed over up to n and none passes: whether some does is for those from n to `end` to say
 pub record Searching (passes : ℕ → Bool) (end n : ℕ) (whole : Bool) : Type 0 where
@@ -43,22 +42,6 @@ module _ {passes : ℕ → Bool} {end n : ℕ} {whole : Bool} (s : Searching pas
 pub text_same : {r : Bool} {t : List ℕ} {n m : ℕ} (image name : List ℕ) → n ≡ m → t ≡ text image n → r ≡ same t name → r ≡ same (text image m) name
 text_same image name d e f = f ∙ ap (λ (t : List ℕ). same t name) (e ∙ ap (text image) d)
 
--- the same of records by a list of their numbers: some passes, or none
-pub some_of_range : (passes : ℕ → Bool) (n count : ℕ) → list_any passes (range_with_len n count) ≡ some passes n count
-unfolding some
-some_of_range passes n zero = refl
-some_of_range passes n (suc count) = rw (add-one n) (ap (λ (t : Bool). passes n || t) (some_of_range passes (suc n) count))
-
-pub none_of_range : (fails passes : ℕ → Bool) → ((n : ℕ) → fails n ≡ not (passes n)) → (n count : ℕ) → list_all fails (range_with_len n count) ≡ not (some passes n count)
-unfolding some
-none_of_range fails passes e n zero = refl
-none_of_range fails passes e n (suc count) =
-    rw (add-one n, e n, none_of_range fails passes e (suc n) count) (neither_one (passes n) (some passes (suc n) count))
-  where
-    neither_one : (a b : Bool) → (not a && not b) ≡ not (a || b)
-    neither_one true b = refl
-    neither_one false b = refl
-
 -- the connections are searched where the component is not connected
 module _ (image : List ℕ) (component feature : ℕ) where
   pub feature_whole : {r : Bool} → r ≡ component_connected image component → r ≡ true → true ≡ feature_connected image component feature
@@ -82,6 +65,15 @@ some_none p q harder n (suc m) h =
     rw (harder n t.0) (some_none p q harder (suc n) m t.1)
 
 module _ (image : List ℕ) where
+  -- the connections are searched for one whose owner is not wired
+  pub owners_start : {count : ℕ} → count ≡ connection_count image → Searching (owner_unwired image) count 0 (not (owners_wired image))
+  unfolding owners_wired
+  owners_start {count} e = record { rest = rw (← e, sub-zero count) (twice (some (owner_unwired image) 0 count)) }
+    where
+      twice : (t : Bool) → t ≡ not (not t)
+      twice true = refl
+      twice false = refl
+
   -- where its owner is wired, a connection joins no feature of a component that is not connected
   none_joins : (component : ℕ) (name : List ℕ) → component_connected image component ≡ false
       → (n : ℕ) → owner_unwired image n ≡ false → joins image component name n ≡ false
@@ -112,3 +104,8 @@ pub properties_start : (image : List ℕ) (component : ℕ) (set name : List ℕ
     → Searching (is_property image component set name) count 0 (has_property image component set name)
 unfolding has_property
 properties_start image component set name {count} e = record { rest = rw (← e, sub-zero count) }
+
+pub features_start : (image : List ℕ) (component : ℕ) (name : List ℕ) {end n : ℕ} → end ≡ features_end image component → n ≡ first_feature image component
+    → Searching (feature_is image name) end n (has_feature image component name)
+unfolding has_feature
+features_start image component name e f = record { rest = λ j. some (feature_is image name) (f j) (e j - f j) }

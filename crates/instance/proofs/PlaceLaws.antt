@@ -1,7 +1,7 @@
 -- Records by the places of their bytes: the numbers there are those of the records, and a loop goes over the records from place to
 -- place. Assumes nothing.
-use mathlib.Core.Path.{◌≡◌, refl, sym, subst, ◌∙◌}
-use mathlib.Core.Bool.{Bool, true, false, cond, not, ◌||◌, or-false, or_self}
+use mathlib.Core.Path.{◌≡◌, sym, subst, ◌∙◌}
+use mathlib.Core.Bool.{Bool, true, false, cond, ◌||◌, or-false, or_self}
 use mathlib.Core.List.{List}
 use Prim.Native.Nat.{ℕ, zero, suc, ◌+◌, ◌*◌, ◌-◌, ◌≤◌, ◌<◌}
 use native.Mathlib.Nat.{add-zero}
@@ -11,11 +11,10 @@ use borrow.Author.Tests.{eq-eqb, ne_eqb, le-leb}
 use lib.Dec.{eqb, eqb-suc-zero, eqb-suc-suc}
 use lib.ListN.{length, take, length-take}
 use lib.Seq.{get_or-take}
-use Rattle.syntax.specs.Text.{same}
-use Rattle.board.specs.Image.{NUMBER_SIZE, little_endian, word, field, section_offset, text, parent, wired, owner}
+use Rattle.board.specs.Image.{NUMBER_SIZE, little_endian, word, field, section_offset, wired, owner}
 use Rattle.board.specs.declared.image.Section.TheVariants.{Components, Connections, Features, Properties}
-use Rattle.instance.specs.Instance.{some, is_wired, end_is, joins, owner_unwired, is_property, feature_is}
-use Rattle.instance.specs.Places.{RECORD_SIZE, SECOND, THIRD, COMPONENT_SIZE, FIFTH, other_owner, joins_at, is_property_at, feature_is_at, Skipped}
+use Rattle.instance.specs.Instance.{some, joins, owner_unwired, is_property, feature_is}
+use Rattle.instance.specs.Places.{RECORD_SIZE, COMPONENT_SIZE, FIFTH, other_owner, joins_at, is_property_at, feature_is_at, Skipped}
 use Rattle.instance.proofs.InstanceLaws.{Searching, searching_hit, searching_miss, searching_done}
 
 -- a number that lies in an image's front is the image's
@@ -59,15 +58,18 @@ module _ (image : List ℕ) {first : ℕ} where
   unfolding feature_is feature_is_at field
   feature_placed name e n = rw (e, add-zero (section_offset image Features + RECORD_SIZE * n))
 
--- the mark of a connection's owner, read at its place
-pub owner_placed : (image : List ℕ) {connections components : ℕ} → connections ≡ section_offset image Connections → components ≡ section_offset image Components
-    → (n : ℕ) → eqb (word image (components + COMPONENT_SIZE * word image (connections + RECORD_SIZE * n) + FIFTH)) 1 ≡ not (owner_unwired image n)
-unfolding field
-owner_placed image e f n = rw (e, f, add-zero (section_offset image Connections + RECORD_SIZE * n)) (twice _)
-  where
-    twice : (t : Bool) → t ≡ not (not t)
-    twice true = refl
-    twice false = refl
+-- the owner of a connection, whose mark was read at its place
+module _ (image : List ℕ) {connections components : ℕ} (e : connections ≡ section_offset image Connections) (f : components ≡ section_offset image Components) (n : ℕ)
+    {o w : ℕ} (g : o ≡ word image (connections + RECORD_SIZE * n)) (k : w ≡ word image (components + COMPONENT_SIZE * o + FIFTH)) where
+  owner_mark : w ≡ wired image (owner image n)
+  unfolding field
+  owner_mark = k ∙ rw (g, f, e, add-zero (section_offset image Connections + RECORD_SIZE * n))
+
+  pub owner_wired : w ≡ 1 → owner_unwired image n ≡ false
+  owner_wired h = rw (← owner_mark, eq-eqb w 1 h)
+
+  pub owner_unwired_lem : (w ≡ 1 → ⊥) → owner_unwired image n ≡ true
+  owner_unwired_lem h = rw (← owner_mark, ne_eqb w 1 h)
 
 -- a connection that is neither of two components', and a property of another one
 module _ (image : List ℕ) (component other : ℕ) (name : List ℕ) (at : ℕ) where

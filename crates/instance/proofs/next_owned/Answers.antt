@@ -13,6 +13,9 @@ loop-at-init c = none
 pub returns-then-owner-one : goal.returns-then-owner-one
 returns-then-owner-one c = c.loop-at.invariant
 
+pub returns-then-owner-other : goal.returns-then-owner-other
+returns-then-owner-other c = c.loop-at.invariant
+
 pub loop-at-preserved : goal.loop-at-preserved
 loop-at-preserved c = past c.loop-at.invariant (omega arith) (λ e. c.if-owner-one.false (c.word-owner.ensures ∙ e)) (λ e. c.if-owner-other.false (c.word-owner.ensures ∙ e))
 

@@ -1,25 +1,18 @@
 -- `owners_wired` gives `owners_wired`, connection by connection. Assumes nothing.
-use mathlib.Core.Path.{◌≡◌, ap, ◌∙◌}
-use mathlib.Core.Bool.{not}
-use Prim.Native.Nat.{◌+◌, ◌*◌}
-use native.Mathlib.Nat.{sub-zero}
-use lib.Dec.{eqb}
-use Rattle.std.proofs.Common.{rules, tests}
-use Rattle.std.proofs.lemmas.Iterator.{YieldsList-from_range}
-use Rattle.std.proofs.lemmas.Iterator.Search.{all_from_yields_List}
-use Rattle.std.specs.List.{list_all, range_with_len}
-use Rattle.board.specs.Image.{word}
-use Rattle.instance.specs.Instance.{some, owner_unwired, owners_wired}
-use Rattle.instance.specs.Places.{RECORD_SIZE, COMPONENT_SIZE, FIFTH}
-use Rattle.instance.proofs.InstanceLaws.{none_of_range}
-use Rattle.instance.proofs.PlaceLaws.{owner_placed}
+use mathlib.Core.Path.{sym}
+use borrow.Author.Tests.{not-true, not-false}
+use Rattle.instance.proofs.InstanceLaws.{owners_start, searching_hit, searching_miss, searching_done}
+use Rattle.instance.proofs.PlaceLaws.{owner_wired, owner_unwired_lem}
 use Rattle.instance.proofs.owners_wired.Goals as goal
 
+pub loop-n-init : goal.loop-n-init
+loop-n-init c = owners_start _ c.record_count-count.ensures
+
+pub returns-then-word-ne-WIRED : goal.returns-then-word-ne-WIRED
+returns-then-word-ne-WIRED c = sym (not-true _ (sym (searching_hit c.loop-n.invariant c.loop-n-test.true (owner_unwired_lem _ c.section_offset-connections.ensures c.section_offset-components.ensures _ c.word-owner.ensures c.word.ensures c.if-word-ne-WIRED.true))))
+
+pub loop-n-preserved : goal.loop-n-preserved
+loop-n-preserved c = searching_miss c.loop-n.invariant c.loop-n-test.true (owner_wired _ c.section_offset-connections.ensures c.section_offset-components.ensures _ c.word-owner.ensures c.word.ensures c.if-word-ne-WIRED.false)
+
 pub returns : goal.returns
-unfolding owners_wired
-returns c =
-    let count = c.record_count-count.result in
-    let all : c.all.result ≡ list_all (λ n. eqb (word c.args.image.now (c.section_offset-2.result + COMPONENT_SIZE * word c.args.image.now (c.section_offset.result + RECORD_SIZE * n) + FIFTH)) 1) (range_with_len 0 count) = all_from_yields_List _ _ _ _ c.all.ensures.ran (YieldsList-from_range 0 count count (cc) (sub-zero count)) (λ x b q k. search (rules, tests)) in
-    all
-    ∙ none_of_range _ (owner_unwired c.args.image.now) (owner_placed c.args.image.now c.section_offset.ensures c.section_offset-2.ensures) 0 count
-    ∙ ap (λ n. not (some (owner_unwired c.args.image.now) 0 n)) c.record_count-count.ensures
+returns c = sym (not-false _ (sym (searching_done c.loop-n.invariant c.loop-n-test.false)))

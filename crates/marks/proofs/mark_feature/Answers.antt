@@ -8,7 +8,7 @@ returns-then-has_feature c = featured_set _ _ _ _ c.if-marks-place-eq0.true c.ha
 
 pub returns-else-place-marks : goal.returns-else-place-marks
 returns-else-place-marks c = elim c.else-place-marks.branch [
-    else-place-marks-via-then-place-marks+then-marks-place-eq0+else-has_feature w ↦ featured_unset _ _ _ _ w.if-marks-place-eq0.true w.has_feature.ensures w.if-has_feature.false
-    | else-place-marks-via-then-place-marks+else-marks-place-eq0 w ↦ featured_marked _ _ _ _ w.if-marks-place-eq0.false
-    | else-place-marks-via-else-place-marks w ↦ featured_outside _ _ _ _ w.if-place-marks.false
-  ]
+  | else-place-marks-via-then-place-marks+then-marks-place-eq0+else-has_feature w ↦ featured_unset _ _ _ _ w.if-marks-place-eq0.true w.has_feature.ensures w.if-has_feature.false
+  | else-place-marks-via-then-place-marks+else-marks-place-eq0 w ↦ featured_marked _ _ _ _ w.if-marks-place-eq0.false
+  | else-place-marks-via-else-place-marks w ↦ featured_outside _ _ _ _ w.if-place-marks.false
+]

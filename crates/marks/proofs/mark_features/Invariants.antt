@@ -4,4 +4,3 @@ use Rattle.marks.proofs.mark_features.Given as goal
 
 abbrev pub invariant-loop-component : goal.invariant-loop-component
 invariant-loop-component l = Featuring l.image l.name l.initial.marks l.component-end l.component l.marks
-

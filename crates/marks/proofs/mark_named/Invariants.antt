@@ -5,4 +5,3 @@ use Rattle.marks.proofs.mark_named.Given as goal
 
 abbrev pub invariant-loop-n : goal.invariant-loop-n
 invariant-loop-n l = Marking l.image l.set l.name (length l.initial.marks) l.n-end l.n l.marks
-

@@ -1,10 +1,8 @@
 -- `Sectioned::all_below` gives `all_below`: the records lie in the image. Assumes nothing.
-use mathlib.Core.Path.{◌≡◌, sym, ◌∙◌}
-use Prim.Native.Nat.{◌+◌, ◌*◌, ◌≤◌}
-use lib.ListN.{length}
-use Rattle.board.specs.CheckScan.{TRIPLE_SIZE, below_at}
+use mathlib.Core.Path.{sym, ◌∙◌}
+use Prim.Native.Nat.{◌+◌, ◌*◌}
+use Rattle.board.specs.CheckScan.{below_at}
 use Rattle.board.specs.Check.{each}
-use Rattle.board.specs.Image.{record_size}
 use Rattle.board.proofs.WalkLaws.{records_within, below_there}
 use Rattle.board.proofs.Sectioned.all_below.Goals as goal
 
