@@ -5,6 +5,7 @@ use mathlib.Core.Bool.{Bool, true, false, not, ◌&&◌, ◌||◌, cond, true≢
 use mathlib.Core.List.{List, [], ◌∷◌, ◌++◌}
 use Prim.Native.Nat.{ℕ, zero, suc, ◌+◌, ◌-◌, ◌*◌, ◌≤◌, ◌<◌}
 use native.Mathlib.Omega.{arith}
+use Rattle.std.specs.Prelude.{Option, Some, None}
 use lib.Dec.{eqb, ltb, leb}
 use lib.ListN.{length, get_or, take, drop, set, replicate, length-append, length-take, length-drop, length-set, length-replicate, get_or-replicate, get_or-append}
 use lib.Seq.{length-take-le, get_or-drop, get_or-take, get_or-set_same, get_or-set_other, get_or-append-add}
@@ -27,7 +28,7 @@ use Rattle.predicate.proofs.ForestLaws.{place_past}
 use Rattle.profile.specs.declared.Profile.TheVariants.{Number}
 use Rattle.profile.specs.Profile.{WIRING_OF_FEATURES, holds, profile_of, asks_more, asks_field}
 use Rattle.profile.proofs.ProfileLaws.{Alike, components, features, diagnostics, compare_asks, same_profile, settle_alike}
-use Rattle.eval.specs.Marked.{HASES, BLOCK, NO_BITS, MARKS, PLACES, MEMO, OF_COMPONENT, OF_FEATURE, value_of, value_in, mark_in, mark_for, has_marks, Marks, bit_at, bits_at, bits_by, bits_of, held_in, Told, plain, marked, RowsTold, RowTold, TellsBelow, FoundRow, Made, MakesRow}
+use Rattle.eval.specs.Marked.{HASES, BLOCK, NO_BITS, MARKS, PLACES, MEMO, OF_COMPONENT, OF_FEATURE, value_of, value_in, mark_in, mark_for, has_marks, Marks, bit_at, bits_at, BitsAre, bits_by, bits_of, held_in, Told, plain, marked, RowsTold, RowTold, TellsBelow, HasRow, Made, MakesRow}
 
 -- all nodes of a forest ask for no more of a member than its profile and its bits
 unfoldable pub NodesTold : (rule tree memo : List ℕ) → Member → Forest → Type 0
@@ -89,6 +90,22 @@ module _ (image memo : List ℕ) (most c : ℕ) where
     unfolding bits_at
     bits_inside {w} {x} {y} {z} l a b d e = rw (lt-ltb c (component_count image) h, lt-ltb c BLOCK l) (λ j. a j + 2 * b j + 4 * d j + 8 * e j)
 
+-- as an option
+pub no_bits : {n : ℕ} → NO_BITS ≡ n → BitsAre n None
+no_bits e = record { is = e; small = λ b q. cc }
+
+pub some_bits : {n b : ℕ} → b ≡ n → b < NO_BITS → BitsAre n (Some b)
+some_bits {b = b} e h =
+    record {
+      is = e;
+      small = λ c q.
+          let same : b ≡ c = cc in
+          subst (λ (x : ℕ). x < NO_BITS) same h;
+    }
+
+pub bits_same : {n k : ℕ} {r : Option ℕ} → n ≡ k → BitsAre n r → BitsAre k r
+bits_same {r = r} e b = subst (λ (x : ℕ). BitsAre x r) e b
+
 module _ (image memo : List ℕ) (m : Member) where
   pub bits_nowhere : length memo ≤ PLACES → 0 ≡ bits_of image memo m
   unfolding bits_of
@@ -99,8 +116,8 @@ module _ (image memo : List ℕ) (m : Member) where
   bits_there h = rw (lt-ltb PLACES (length memo) h)
 
   -- by the sort of member
-  pub bits_of_lem : {o : Member} {r : ℕ} → PLACES < length memo → m ≡ o → r ≡ bits_by image memo o → r ≡ bits_of image memo m
-  bits_of_lem h e f = f ∙ sym (ap (bits_by image memo) e) ∙ bits_there h
+  pub bits_of_lem : {o : Member} → PLACES < length memo → m ≡ o → bits_by image memo o ≡ bits_of image memo m
+  bits_of_lem h e = sym (ap (bits_by image memo) e) ∙ bits_there h
 
 -- ---- members with the same bits
 
@@ -282,15 +299,18 @@ module _ {rule tree : List ℕ} {row : ℕ} {m : Member} {memo : List ℕ} where
   pub row_untold : RowTold rule tree row m memo false
   row_untold = record { told = λ e. absurd (false≢true e) }
 
-  pub row_marked : {at : ℕ} → kind_at tree row ≡ CALL_EXPR → FoundRow memo row at → RowTold rule tree row m memo (ltb at (length memo))
+  pub row_marked : {r : Bool} → kind_at tree row ≡ CALL_EXPR → HasRow memo row r → RowTold rule tree row m memo r
   unfolding value_of
-  row_marked {at} k f =
+  row_marked k f =
       record {
         told = λ e.
-            let h = ltb-true at (length memo) e in
-            let q : PLACES + (at - PLACES) ≡ at = omega (arith, f.past) in
+            let at = (f.so e).0 in
+            let h = (f.so e).1 in
+            let past : PLACES ≤ at = h.0 in
+            let within : at < length memo = h.1 in
+            let q : PLACES + (at - PLACES) ≡ at = omega arith in
             marked (at - PLACES) (omega arith) k
-            (ap (λ (x : ℕ). literal_of (children_at rule tree x)) (sym (f.so h)) ∙ sym (ap (λ (x : ℕ). value_of rule tree (get_or memo x 0)) q));
+            (ap (λ (x : ℕ). literal_of (children_at rule tree x)) (sym h.2) ∙ sym (ap (λ (x : ℕ). value_of rule tree (get_or memo x 0)) q));
       }
 
 -- ---- how far rows were looked at

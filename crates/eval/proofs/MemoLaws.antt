@@ -5,6 +5,7 @@ use mathlib.Core.List.{List}
 use Prim.Native.Nat.{ℕ, zero, suc, ◌+◌, ◌*◌, ◌≤◌, ◌<◌}
 use native.Mathlib.Omega.{arith}
 use borrow.Author.Tests.{lt-ltb, le-ltb, eqb-true, eqb-false, ltb-true, ltb-false}
+use Rattle.std.specs.Prelude.{Option, Some}
 use lib.Dec.{eqb, ltb}
 use lib.ListN.{length, get_or, take, set, replicate, length-set, length-replicate, get_or-eq_default}
 use lib.Seq.{get_or-set_same, get_or-set_other, get_or-take, take-set-lt}
@@ -19,7 +20,7 @@ use Rattle.profile.specs.Profile.{PROFILES, WIRING_OF_FEATURES, holds, profile_o
 use Rattle.profile.proofs.ProfileLaws.{profile_small}
 use Rattle.eval.specs.declared.ready.Call.{Call as PlacedCall}
 use Rattle.eval.specs.Marked.{NO_BITS, MARKS, PLACES, MEMO, bits_of, held_in, Marks, TellsBelow, Made}
-use Rattle.eval.specs.Memo.{NOTED_CALLS, WAY_NOTES, PLAIN, NO_PLACE, NOT_KNOWN, known, args_of, byte_of, place_by, plain_place, place_of, note_in, Notes, Placed, Asked, Noted, kept, made}
+use Rattle.eval.specs.Memo.{NOTED_CALLS, WAY_NOTES, PLAIN, NO_PLACE, NOT_KNOWN, known, args_of, byte_of, place_by, plain_place, place_in, place_of, note_in, Notes, Placed, Asked, Noted, kept, made}
 use Rattle.eval.proofs.MarkedLaws.{alike_has, told_rows, bits_nowhere, Kept, kept_set, marks_kept, bits_kept, marks_none, made_length, made_marks}
 
 -- a byte that says nothing makes no truth known
@@ -102,6 +103,10 @@ module _ (image memo : List ℕ) (m : Member) where
   -- as it was assigned
   pub placed_is : {place r : ℕ} → place ≡ r → Placed image memo m r → Placed image memo m place
   placed_is e p = subst (Placed image memo m) (sym e) p
+
+-- a place that is one
+pub placed_some : {image memo : List ℕ} {m : Member} {r : Option ℕ} {place : ℕ} → Placed image memo m (place_in r) → r ≡ Some place → Placed image memo m place
+placed_some {image} {memo} {m} p e = subst (λ (r : Option ℕ). Placed image memo m (place_in r)) e p
 
 -- ---- a memo in which nothing is noted
 

@@ -1,6 +1,6 @@
 -- Which `has` of a tree are true of a member, known by marks that were made before: in a memo, a block of marks for each of some CALL_EXPR
 -- rows, one for each component, and then the numbers of these rows. Assumes nothing: these are definitions.
-use Rattle.std.specs.Prelude.{ℕ, ◌+◌, ◌*◌, ◌≤◌, ◌<◌, Bool, true, false, not, ◌&&◌, cond, List, [], ◌∷◌, ◌≡◌, eqb, ltb, leb, length, get_or, drop}
+use Rattle.std.specs.Prelude.{ℕ, ◌+◌, ◌*◌, ◌≤◌, ◌<◌, Bool, true, false, not, ◌&&◌, cond, List, [], ◌∷◌, ◌≡◌, eqb, ltb, leb, length, get_or, drop, Option, Some, None}
 use Rattle.syntax.specs.Kind.{CALL_EXPR, COMPARE_EXPR}
 use Rattle.trees.specs.Green.{Forest}
 use Rattle.board.specs.Image.{component_count}
@@ -24,7 +24,7 @@ BLOCK = 4096
 abbrev pub ROWS : ℕ
 ROWS = 256
 
--- what is no bit, and above all bits
+-- what stands for no bits: it is above all bits
 abbrev pub NO_BITS : ℕ
 NO_BITS = 16
 
@@ -80,6 +80,15 @@ unfolding bit_at
 bits_at image memo most c =
     cond (has_marks image c) (bit_at memo most c 0 + 2 * bit_at memo most c 1 + 4 * bit_at memo most c 2 + 8 * bit_at memo most c 3) NO_BITS
 
+-- bits that are a number
+abbrev pub bits_in : Option ℕ → ℕ
+bits_in (Some bits) = bits
+bits_in None = NO_BITS
+
+pub record BitsAre (number : ℕ) (r : Option ℕ) : Type 0 where
+  pub is : bits_in r ≡ number
+  pub small : (bits : ℕ) → r ≡ Some bits → bits < NO_BITS
+
 -- those of a member
 unfoldable pub bits_by : List ℕ → List ℕ → Member → ℕ
 unfolding bits_at
@@ -120,10 +129,9 @@ pub record RowTold (rule tree : List ℕ) (row : ℕ) (m : Member) (memo : List 
 pub record TellsBelow (rule tree : List ℕ) (at : ℕ) (m : Member) (memo : List ℕ) (r : Bool) : Type 0 where
   pub told : r ≡ false → RowsTold rule tree memo m (level_at tree at) (drop (at + ROW) tree)
 
--- where a memo has the number of the row at a place; past the memo where it has not
-pub record FoundRow (memo : List ℕ) (row at : ℕ) : Type 0 where
-  pub past : PLACES ≤ at
-  pub so : at < length memo → ROW * get_or memo at 0 ≡ row
+-- a memo was found to have the number of the row at a place
+pub record HasRow (memo : List ℕ) (row : ℕ) (r : Bool) : Type 0 where
+  pub so : r ≡ true → (at : ℕ) × ((PLACES ≤ at) × (at < length memo) × (ROW * get_or memo at 0 ≡ row))
 
 -- a memo in which nothing is noted, with so many blocks of marks
 pub record Made (rule image tree memo : List ℕ) (n : ℕ) : Type 0 where

@@ -1,6 +1,6 @@
 -- What is known of the calls' predicates: a byte for each call, each profile and each of the ways in which the marked `has` can be true.
 -- Assumes nothing: these are definitions.
-use Rattle.std.specs.Prelude.{ℕ, ◌+◌, ◌*◌, ◌≤◌, ◌<◌, Bool, true, cond, List, Option, Some, ◌≡◌, ltb, length, get_or, set}
+use Rattle.std.specs.Prelude.{ℕ, ◌+◌, ◌*◌, ◌≤◌, ◌<◌, Bool, true, cond, List, Option, Some, None, ◌≡◌, ltb, length, get_or, set}
 use Rattle.instance.specs.Instance.{owners_wired}
 use Rattle.predicate.specs.declared.atom.Member.{Member}
 use Rattle.predicate.specs.Truth.{truth}
@@ -23,7 +23,7 @@ WAY_NOTES = 4604
 abbrev pub PLAIN : ℕ
 PLAIN = 4605
 
--- no place of a note
+-- what stands for no place of a note: it is past all memos
 abbrev pub NO_PLACE : ℕ
 NO_PLACE = 1048576
 
@@ -61,6 +61,11 @@ place_by Unknown bits = NO_PLACE
 unfoldable pub plain_place : Profile → ℕ
 plain_place (Number k) = 1 + k
 plain_place Unknown = NO_PLACE
+
+-- a place that may be none
+abbrev pub place_in : Option ℕ → ℕ
+place_in (Some place) = place
+place_in None = NO_PLACE
 
 abbrev pub place_of : List ℕ → List ℕ → Member → ℕ
 place_of image memo m = place_by (profile_of image (held_in memo) m) (bits_of image memo m)

@@ -1,10 +1,10 @@
 // What is known of `has` before members are sent: for the first CALL_EXPR rows of a tree, in the memo, a block of marks each, one for each
 // component, and the number of the row. Which of these `has` are true of a member is a number, its bits.
-ghost use Rattle.std.specs.Prelude.{◌≡◌, ◌+◌, ◌*◌, ◌≤◌, ◌<◌, length, replicate};
+ghost use Rattle.std.specs.Prelude.{◌≡◌, ◌+◌, ◌*◌, ◌≤◌, ◌<◌, length, replicate, IfSome};
 ghost use Rattle.board.specs.Image.{component_count};
 ghost use Rattle.predicate.specs.Rows.{ROW};
 ghost use Rattle.marks.specs.Marks.{marks_of, feature_marks};
-ghost use Rattle.eval.specs.Marked.{bit_at, bits_at, bits_of, RowTold, TellsBelow, FoundRow, Made, MakesRow};
+ghost use Rattle.eval.specs.Marked.{bit_at, bits_at, bits_of, BitsAre, RowTold, TellsBelow, HasRow, Made, MakesRow};
 ghost use Rattle.eval.specs.Marked as meant;
 
 use crate::memo;
@@ -26,50 +26,50 @@ const BLOCK: usize = 4096;
 pub(crate) const ROWS: usize = 256;
 
 // Where the marks are in the memo, after the notes for each of the bits; where the numbers of the rows are; and the memo's bytes.
-const MARKS: usize = 1 + memo::WAY_NOTES * NO_BITS;
+const MARKS: usize = 1 + memo::WAY_NOTES * WAYS;
 
 pub(crate) const PLACES: usize = MARKS + BLOCK * HASES;
 
 pub(crate) const MEMO: usize = PLACES + HASES;
 
-// What is no bit, and above all bits.
-pub(crate) const NO_BITS: usize = 16;
+// How many numbers four bits can be.
+pub(crate) const WAYS: usize = 16;
 
 // The highest mark by which a `has` is true of a component, and of a feature of it.
 const OF_COMPONENT: u8 = 2;
 
 const OF_FEATURE: u8 = 1;
 
-// Which of the marked `has` are true of a member, as bits; NO_BITS where its component has no marks.
-pub(crate) fn bits(image: &[u8], memo: &[u8], member: Member) -> usize
-    ensures { result ≡ bits_of image.now memo.now member }
+// Which of the marked `has` are true of a member, as bits; none where its component has no marks.
+pub(crate) fn bits(image: &[u8], memo: &[u8], member: Member) -> Option<usize>
+    ensures { BitsAre (bits_of image.now memo.now member) result }
 {
     if memo.len() <= PLACES {
-        return 0;
+        return Some(0);
     }
     match member {
         Member::Component(component) => bits_at(image, memo, OF_COMPONENT, component),
         Member::Feature(component, _) => bits_at(image, memo, OF_FEATURE, component),
-        Member::Diagnostic(_) => 0,
+        Member::Diagnostic(_) => Some(0),
     }
 }
 
 // Those of a component's marks, up to the highest that counts.
-fn bits_at(image: &[u8], memo: &[u8], most: u8, component: u32) -> usize
-    ensures { result ≡ bits_at image.now memo.now most component }
+fn bits_at(image: &[u8], memo: &[u8], most: u8, component: u32) -> Option<usize>
+    ensures { BitsAre (bits_at image.now memo.now most component) result }
 {
     if image::record_count(image, Section::Components) <= component {
-        return NO_BITS;
+        return None;
     }
     let place = component as usize;
     if BLOCK <= place {
-        return NO_BITS;
+        return None;
     }
     let first = bit(memo, most, place, 0);
     let second = bit(memo, most, place, 1);
     let third = bit(memo, most, place, 2);
     let fourth = bit(memo, most, place, 3);
-    first + 2 * second + 4 * third + 8 * fourth
+    Some(first + 2 * second + 4 * third + 8 * fourth)
 }
 
 // Whether the j-th marked `has` is true by the mark at a place of its block, as 1 or 0.
@@ -95,14 +95,12 @@ pub(crate) fn asks_below(rule: &[u8], tree: &[u32], at: usize, member: Member, m
     requires { 0 < length memo.now }
     ensures { TellsBelow rule.now tree.now at member memo.now result }
 {
-    if tree.len() < rows::ROW {
-        return true;
-    }
-    if tree.len() - rows::ROW < at {
+    if tree.len() < rows::ROW || tree.len() - rows::ROW < at {
         return true;
     }
     let level = tree[at + 1] as usize;
     let mut row = at + rows::ROW;
+    // The rows end at a level, and not at a number, so that a `while` says it.
     while rows::is_below(tree, level, row) {
         if !is_told(rule, tree, row, member, memo) {
             return true;
@@ -123,24 +121,19 @@ fn is_told(rule: &[u8], tree: &[u32], row: usize, member: Member, memo: &[u8]) -
     if !profile::asks_more(member, memo[0], tree[row]) {
         return true;
     }
-    if tree[row] != kind::CALL_EXPR {
-        return false;
-    }
-    find_row(memo, row) < memo.len()
+    tree[row] == kind::CALL_EXPR && has_row(memo, row)
 }
 
-// Where the memo has the number of the row at a place; past the memo where it has not.
-fn find_row(memo: &[u8], row: usize) -> usize
-    ensures { FoundRow memo.now row result }
+// Whether the memo has the number of the row at a place.
+fn has_row(memo: &[u8], row: usize) -> bool
+    ensures { HasRow memo.now row result }
 {
-    let mut at = PLACES;
-    while at < memo.len() {
+    for at in PLACES..memo.len() {
         if row_of(memo[at]) == row {
-            return at;
+            return true;
         }
-        at += 1;
     }
-    at
+    false
 }
 
 // The place of a row by its number.
@@ -156,17 +149,15 @@ pub(crate) fn make_marks(rule: &[u8], image: &[u8], tree: &[u32], memo: &mut [u8
     requires { memo.old ≡ replicate meant.MEMO 0 }
     ensures { Made rule.now image.now tree.now memo.new result }
 {
-    let mut row = next_row(tree, kind::CALL_EXPR, 0);
-    let mut n = 0;
-    while n < HASES {
-        if ROWS <= row {
+    let mut from = 0;
+    for n in 0..HASES {
+        let Some(row) = next_row(tree, kind::CALL_EXPR, from) else {
             return n;
-        }
+        };
         make_block(rule, image, tree, row, n, memo);
-        n += 1;
-        row = next_row(tree, kind::CALL_EXPR, row + 1);
+        from = row + 1;
     }
-    n
+    HASES
 }
 
 // Makes the n-th block, for the row of a number.
@@ -189,17 +180,15 @@ fn mark_block(image: &[u8], value: &[u8], block: &mut [u8])
     marks::mark_features(image, value, block);
 }
 
-// The number of the first row of a kind from a row on, or ROWS where there is none below that.
-pub(crate) fn next_row(tree: &[u32], kind: u32, from: usize) -> usize {
-    let mut row = from;
-    while row < ROWS {
-        if tree.len() <= rows::ROW * row {
-            return ROWS;
-        }
+// The number of the first row of a kind from a row on, if it is a byte.
+pub(crate) fn next_row(tree: &[u32], kind: u32, from: usize) -> Option<usize>
+    ensures { IfSome result (λ row. row < meant.ROWS) }
+{
+    let end = (tree.len() / rows::ROW).min(ROWS);
+    for row in from..end {
         if tree[rows::ROW * row] == kind {
-            return row;
+            return Some(row);
         }
-        row += 1;
     }
-    ROWS
+    None
 }

@@ -5,7 +5,7 @@ ghost use Rattle.predicate.specs.Truth.{truth};
 ghost use Rattle.predicate.specs.Rows.{children_at};
 ghost use Rattle.profile.specs.Profile.{PROFILES, profile_of};
 ghost use Rattle.eval.specs.Marked.{held_in, TellsBelow};
-ghost use Rattle.eval.specs.Memo.{plain_place, byte_of, note_in, Placed, Noted};
+ghost use Rattle.eval.specs.Memo.{plain_place, place_in, byte_of, note_in, Placed, Noted};
 ghost use Rattle.eval.specs.Memo as meant;
 ghost use Rattle.eval.specs.Walk.{Asking, AskedOf, Stays};
 
@@ -34,14 +34,11 @@ pub(crate) const KNOWN_TRUE: u8 = 2;
 
 const NOT_TO_KNOW: u8 = 3;
 
-// No place of a note.
-const NO_PLACE: usize = 0x100000;
-
 impl<'a> Walk<'a> {
-    // Where the notes of a member with this profile begin. The way of most members goes by a memo without marks, which hands nothing over.
-    pub(crate) fn place_of(&self, member: Member, profile: Profile) -> usize
+    // Where the notes of a member with this profile begin, if it has any. The way of most members goes by a memo without marks, which hands nothing over.
+    pub(crate) fn place_of(&self, member: Member, profile: Profile) -> Option<usize>
         requires { profile ≡ profile_of self.now.pipeline.image.now (held_in self.now.notes.now) member }
-        ensures { Placed self.now.pipeline.image.now self.now.notes.now member result }
+        ensures { Placed self.now.pipeline.image.now self.now.notes.now member (place_in result) }
     {
         if marked::PLACES < self.notes.len() {
             return marked_place(self.pipeline.image, member, profile, self.notes);
@@ -59,7 +56,9 @@ impl<'a> Walk<'a> {
             return self.eval(args, member);
         }
         let profile = profile::profile_of(self.pipeline.image, self.notes[0], member);
-        let place = self.place_of(member, profile);
+        let Some(place) = self.place_of(member, profile) else {
+            return self.eval(args, member);
+        };
         let known = self.noted(i, place);
         if known == KNOWN_TRUE {
             return true;
@@ -135,29 +134,26 @@ impl<'a> Walk<'a> {
 }
 
 // Where the notes of a member with this profile begin, in a memo without marks.
-fn plain_place(profile: Profile) -> usize
+fn plain_place(profile: Profile) -> Option<usize>
     requires { (k : ℕ) → profile ≡ Profile.Number k → k < PROFILES }
-    ensures { result ≡ plain_place profile }
+    ensures { place_in result ≡ plain_place profile }
 {
     match profile {
-        Profile::Number(k) => 1 + k,
-        Profile::Unknown => NO_PLACE,
+        Profile::Number(k) => Some(1 + k),
+        Profile::Unknown => None,
     }
 }
 
 // The same in any memo, by the marks too.
-fn marked_place(image: &[u8], member: Member, profile: Profile, memo: &[u8]) -> usize
+fn marked_place(image: &[u8], member: Member, profile: Profile, memo: &[u8]) -> Option<usize>
     requires { profile ≡ profile_of image.now (held_in memo.now) member }
-    ensures { Placed image.now memo.now member result }
+    ensures { Placed image.now memo.now member (place_in result) }
 {
     let Profile::Number(k) = profile else {
-        return NO_PLACE;
+        return None;
     };
-    let bits = marked::bits(image, memo, member);
-    if marked::NO_BITS <= bits {
-        return NO_PLACE;
-    }
-    1 + WAY_NOTES * bits + k
+    let bits = marked::bits(image, memo, member)?;
+    Some(1 + WAY_NOTES * bits + k)
 }
 
 // The byte for an answer, of a predicate that may ask for more.

@@ -66,7 +66,7 @@ impl<'a> Pipeline<'a> {
         requires { SendsAll self (every_component self.image.now) collection.old }
         ensures { SentAll self.entry (every_component self.entry.image.now) collection.old collection.new result }
     {
-        let asks_has = marked::next_row(self.tree, kind::CALL_EXPR, 0) < marked::ROWS;
+        let asks_has = marked::next_row(self.tree, kind::CALL_EXPR, 0).is_some();
         if self.has_few(asks_has) {
             return self.feed_few(collection);
         }
@@ -88,7 +88,7 @@ impl<'a> Pipeline<'a> {
         }
         components < NOTED_BOARD
             && !held::asks_features(self.calls)
-            && marked::next_row(self.tree, kind::COMPARE_EXPR, 0) < marked::ROWS
+            && marked::next_row(self.tree, kind::COMPARE_EXPR, 0).is_some()
     }
 
     // Sends every component through the calls, and notes nothing of them: each is asked.

@@ -10,9 +10,6 @@ use Rattle.eval.proofs.marked.asks_below.Goals as goal
 pub returns-then-tree-lt-ROW : goal.returns-then-tree-lt-ROW
 returns-then-tree-lt-ROW c = tells_more
 
-pub returns-then-tree-at : goal.returns-then-tree-at
-returns-then-tree-at c = tells_more
-
 pub overflow_cast-level : goal.overflow_cast-level
 overflow_cast-level c = omega (arith, c.type_inv.tree (c.args.at + 1))
 
