@@ -34,10 +34,6 @@ pub record Laying (offset long : ℕ → ℕ) (count from end n at : ℕ) : Type
   pub within : n ≤ count
   pub rest : laid offset long n (count - n) at end ≡ laid offset long 0 count from end
 
-pub laying_start : {offset long : ℕ → ℕ} {count from end : ℕ} → Laying offset long count from end 0 from
-laying_start {offset} {long} {count} {from} {end} =
-    record { within = omega arith; rest = ap (λ (m : ℕ). laid offset long 0 m from end) (sub-zero count) }
-
 module _ {offset long : ℕ → ℕ} {count from end n at : ℕ} (laying : Laying offset long count from end n at) where
   pub laying_off : {x : ℕ} → n < count → x ≡ offset n → (x ≡ at → ⊥) → false ≡ laid offset long 0 count from end
   unfolding laid

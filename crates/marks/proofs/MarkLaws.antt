@@ -244,12 +244,6 @@ module _ {image name before marks : List ℕ} {count n : ℕ} (p : Featuring ima
   pub featuring_on : {after : List ℕ} → n < count → after ≡ featured image name n marks → Featuring image name before count (n + 1) after
   featuring_on h e = record { within = omega arith; so = features_on image name n before p.so e }
 
-  pub featuring_length : length marks ≡ length before
-  featuring_length = ap length p.so ∙ features_length image name n 0 before
-
-  pub featuring_end : count ≡ component_count image → count ≤ n → marks ≡ feature_marks image name (component_count image) 0 before
-  featuring_end e h = p.so ∙ ap (λ (n : ℕ). feature_marks image name n 0 before) (omega (arith, p.within))
-
 -- a text by its properties and by the names of features: each component below the numbers has its mark
 pub marks_both : (image value : List ℕ) (n c : ℕ) → c < n → c < component_count image
     → get_or (feature_marks image value (component_count image) 0 (marks_of image value n)) c 0 ≡ mark_by (has_property image c (property_set_of value) (property_name_of value)) (has_feature image c value)
