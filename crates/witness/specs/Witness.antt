@@ -1,10 +1,9 @@
 -- The rule that names the members for which a quantifier failed: `C.where(not (P))` for `C.all(P)`, `C.where(P)` for `C.none(P)`, where C is
 -- all that stands before the last call and (P) what stands behind its method. Demand 3 says that these are the members. Assumes nothing:
 -- these are definitions.
-use Rattle.std.specs.Prelude.{ℕ, ◌+◌, cond, ◌&&◌, List, [], ◌∷◌, ◌++◌, eqb, length, get_or}
+use Rattle.std.specs.Prelude.{ℕ, ◌+◌, Bool, cond, ◌&&◌, List, [], ◌∷◌, ◌++◌, eqb, get_or, Option, None, Some}
 use Rattle.syntax.specs.Kind.{IDENT, DOT_CALL, CALL_ARGS}
 use Rattle.syntax.specs.Text.{ascii, same, bytes_between}
-use Rattle.matching.specs.declared.search.Found.{Found}
 use Rattle.predicate.specs.Truth.{first_text}
 use Rattle.predicate.specs.Rows.{ROW, kind_at, level_at, text_at, children_at, of_kind, first_row}
 
@@ -13,26 +12,26 @@ abbrev pub CALL_LEVEL : ℕ
 CALL_LEVEL = 2
 
 -- the place of the last call among rows that begin at a place; `found` is the last one before them
-unfoldable pub last_from : (at found : ℕ) → List ℕ → ℕ
+unfoldable pub last_from : (at : ℕ) (found : Option ℕ) → List ℕ → Option ℕ
 last_from at found [] = found
 last_from at found (k ∷ []) = found
 last_from at found (k ∷ m ∷ []) = found
 last_from at found (k ∷ m ∷ first ∷ []) = found
-last_from at found (k ∷ m ∷ first ∷ end ∷ rows) = last_from (at + ROW) (cond (eqb m CALL_LEVEL && eqb k DOT_CALL) at found) rows
+last_from at found (k ∷ m ∷ first ∷ end ∷ rows) = last_from (at + ROW) (cond (eqb m CALL_LEVEL && eqb k DOT_CALL) (Some at) found) rows
 
--- the same of one row
-abbrev pub later_call : (tree : List ℕ) (at found : ℕ) → ℕ
-later_call tree at found = cond (eqb (level_at tree at) CALL_LEVEL && eqb (kind_at tree at) DOT_CALL) at found
+-- whether a call's row is at a place
+unfoldable pub is_call : (tree : List ℕ) (at : ℕ) → Bool
+is_call tree at = eqb (level_at tree at) CALL_LEVEL && eqb (kind_at tree at) DOT_CALL
 
--- of a tree table; past its end where there is none
-unfoldable pub last_call : List ℕ → ℕ
+-- of a tree table
+unfoldable pub last_call : List ℕ → Option ℕ
 unfolding last_from
-last_call tree = last_from 0 (length tree) tree
+last_call tree = last_from 0 None tree
 
 -- what stands behind a call's method
-abbrev pub text_in : (rule tree : List ℕ) → Found → List ℕ
-text_in rule tree (Found.At at) = text_at rule tree at
-text_in rule tree Found.Absent = []
+abbrev pub text_in : (rule tree : List ℕ) → Option ℕ → List ℕ
+text_in rule tree (Some at) = text_at rule tree at
+text_in rule tree None = []
 
 unfoldable pub args_text : (rule tree : List ℕ) → ℕ → List ℕ
 unfolding first_row
@@ -44,8 +43,16 @@ by_word word before args =
     cond (same word (ascii "all")) (before ++ (ascii ".where(not " ++ (args ++ ascii ")")))
     (cond (same word (ascii "none")) (before ++ (ascii ".where" ++ args)) [])
 
+-- the text of the call whose row is at a place
+unfoldable pub call_text : (rule tree : List ℕ) → ℕ → List ℕ
+unfolding args_text by_word first_text
+call_text rule tree call = by_word (first_text IDENT (children_at rule tree call)) (bytes_between rule 0 (get_or tree (call + 2) 0)) (args_text rule tree call)
+
+-- of the last call; no text where there is no call
+abbrev pub text_of : (rule tree : List ℕ) → Option ℕ → List ℕ
+text_of rule tree (Some call) = call_text rule tree call
+text_of rule tree None = []
+
 unfoldable pub witness_text : (rule tree : List ℕ) → List ℕ
-unfolding last_call args_text by_word first_text
-witness_text rule tree =
-    let call = last_call tree in
-    by_word (first_text IDENT (children_at rule tree call)) (bytes_between rule 0 (get_or tree (call + 2) 0)) (args_text rule tree call)
+unfolding last_call call_text
+witness_text rule tree = text_of rule tree (last_call tree)

@@ -3,9 +3,8 @@
 
 ghost use Rattle.std.specs.Prelude.{◌≡◌, ◌+◌, ◌≤◌, get_or};
 ghost use Rattle.texts.specs.Append.{Appends};
-ghost use Rattle.witness.specs.Witness.{last_call, later_call, args_text, by_word, witness_text};
+ghost use Rattle.witness.specs.Witness.{last_call, is_call, args_text, by_word, witness_text};
 
-use matching::search::Found;
 use predicate::node;
 use syntax::{kind, text};
 use texts;
@@ -20,7 +19,9 @@ const CALL_LEVEL: u32 = 2;
 pub fn write_witness(rule: &[u8], tree: &[u32], out: &mut [u8], at: usize) -> usize
     ensures { Appends (witness_text rule.now tree.now) out.old at out.new result }
 {
-    let call = last_call(tree);
+    let Some(call) = last_call(tree) else {
+        return at;
+    };
     let before = text::part(rule, 0, number_at(tree, call, 2) as usize);
     let args = args_text(rule, tree, call);
     write_by_word(node::ident(rule, tree, call), before, args, out, at)
@@ -30,13 +31,13 @@ pub fn write_witness(rule: &[u8], tree: &[u32], out: &mut [u8], at: usize) -> us
 fn write_by_word(word: &[u8], before: &[u8], args: &[u8], out: &mut [u8], at: usize) -> usize
     ensures { Appends (by_word word.now before.now args.now) out.old at out.new result }
 {
-    if text::same(word, b"all") {
+    if word == b"all".as_slice() {
         let call = texts::append(before, out, at);
         let predicate = texts::append(b".where(not ", out, call);
         let end = texts::append(args, out, predicate);
         return texts::append(b")", out, end);
     }
-    if text::same(word, b"none") {
+    if word == b"none".as_slice() {
         let call = texts::append(before, out, at);
         let predicate = texts::append(b".where", out, call);
         return texts::append(args, out, predicate);
@@ -44,45 +45,39 @@ fn write_by_word(word: &[u8], before: &[u8], args: &[u8], out: &mut [u8], at: us
     at
 }
 
-// The place of the last DOT_CALL of the pipeline; past the table where there is none.
-fn last_call(tree: &[u32]) -> usize
+// The place of the last DOT_CALL of the pipeline.
+fn last_call(tree: &[u32]) -> Option<usize>
     ensures { result ≡ last_call tree.now }
 {
-    let mut found = tree.len();
-    let mut i = 0;
-    while i < tree.len() / ROW {
-        found = later_call(tree, ROW * i, found);
-        i += 1;
+    let mut found = None;
+    for i in 0..tree.len() / ROW {
+        if is_call(tree, ROW * i) {
+            found = Some(ROW * i);
+        }
     }
     found
 }
 
-// The place itself if a call's row is there, else the one found before.
-fn later_call(tree: &[u32], at: usize, found: usize) -> usize
-    ensures { result ≡ later_call tree.now at found }
+// Whether a call's row is at a place.
+#[tactic(auto, unfolding(crate::specs::Witness::is_call))]
+fn is_call(tree: &[u32], at: usize) -> bool
+    ensures { result ≡ is_call tree.now at }
 {
-    if number_at(tree, at, 1) != CALL_LEVEL {
-        return found;
-    }
-    if number_at(tree, at, 0) != kind::DOT_CALL {
-        return found;
-    }
-    at
+    number_at(tree, at, 1) == CALL_LEVEL && number_at(tree, at, 0) == kind::DOT_CALL
 }
 
 // What stands behind the method of the call whose row is at a place.
 fn args_text<'a>(rule: &'a [u8], tree: &[u32], call: usize) -> &'a [u8]
     ensures { result.now ≡ args_text rule.now tree.now call }
 {
-    let args = node::child_of_kind(tree, call, kind::CALL_ARGS);
-    let Found::At(at) = args else {
-        return &rule[0..0];
-    };
-    text::part(
-        rule,
-        number_at(tree, at, 2) as usize,
-        number_at(tree, at, 3) as usize,
-    )
+    match node::child_of_kind(tree, call, kind::CALL_ARGS) {
+        Some(args) => text::part(
+            rule,
+            number_at(tree, args, 2) as usize,
+            number_at(tree, args, 3) as usize,
+        ),
+        None => &[],
+    }
 }
 
 // A number of the row at a place; 0 where the table does not have it.

@@ -3,8 +3,8 @@ use Rattle.witness.proofs.WitnessLaws.{args_none, args_at}
 use mathlib.Core.Path.{◌∙◌}
 use Rattle.witness.proofs.args_text.Goals as goal
 
-pub returns-in_default : goal.returns-in_default
-returns-in_default c = args_none c.args.rule.now c.args.tree.now c.args.call c.child_of_kind-args.ensures c.in_default.is
+pub returns-in-None : goal.returns-in-None
+returns-in-None c = args_none c.args.rule.now c.args.tree.now c.args.call c.child_of_kind.ensures c.in-None.is
 
-pub returns : goal.returns
-returns c = c.part.ensures ∙ args_at c.args.rule.now c.args.tree.now c.args.call c.child_of_kind-args.ensures c.in-At.is c.number_at.ensures c.number_at-2.ensures
+pub returns-in-Some : goal.returns-in-Some
+returns-in-Some c = c.part.ensures ∙ args_at c.args.rule.now c.args.tree.now c.args.call c.child_of_kind.ensures c.in-Some.is c.number_at.ensures c.number_at-in-Some.ensures
