@@ -20,6 +20,7 @@ pub fn category_matches(category: u32, value: &[u8]) -> bool
     }
 }
 
+// Whether the word is one for this category.
 #[tactic(auto, unfolding(crate::specs::Words::category_matches, crate::specs::Words::category_words))]
 fn is_category(category: ComponentCategory, value: &[u8]) -> bool
     ensures { result ≡ category_matches (category_number category) value.now }
@@ -61,6 +62,7 @@ pub fn feature_kind_matches(kind: u32, value: &[u8]) -> bool
     }
 }
 
+// Whether the word is one for this kind.
 #[tactic(auto, unfolding(crate::specs::Words::feature_kind_matches, crate::specs::Words::feature_kind_words))]
 fn is_feature_kind(kind: FeatureKind, value: &[u8]) -> bool
     ensures { result ≡ feature_kind_matches (feature_kind_number kind) value.now }
@@ -98,6 +100,7 @@ pub fn direction_matches(direction: u32, value: &[u8]) -> bool
     }
 }
 
+// Whether the word is one for this direction.
 #[tactic(auto, unfolding(crate::specs::Words::direction_matches, crate::specs::Words::direction_words))]
 fn is_direction(direction: Direction, value: &[u8]) -> bool
     ensures { result ≡ direction_matches (direction_number direction) value.now }
@@ -121,6 +124,7 @@ pub fn severity_matches(severity: u32, value: &[u8]) -> bool
     }
 }
 
+// Whether the word, as typed, is the one for this severity.
 #[tactic(auto, using(crate::proofs::WordLaws::typed_word), unfolding(crate::specs::Words::severity_matches, crate::specs::Words::severity_words))]
 fn is_severity(severity: Severity, value: &[u8]) -> bool
     ensures { result ≡ severity_matches (severity_number severity) value.now }

@@ -12,7 +12,7 @@ pub fn find(text: &[u8], part: &[u8]) -> Option<usize>
     if text.len() < part.len() {
         return None;
     }
-    // Only places of the part's first byte are compared: `windows` and `position` took 1.7 times as long.
+    // Only places of the part's first byte are compared: `text.windows(n).position(|w| w == part)` takes some 1.4 times as long.
     let first = part[0];
     for at in 0..text.len() - part.len() + 1 {
         if text[at] == first && starts_with(text, at, part) {

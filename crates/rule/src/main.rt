@@ -7,7 +7,6 @@ ghost use Rattle.std.specs.Prelude.{◌≤◌, length, IfOk};
 use calls::value::{Outcome, Verdict};
 use eval::Answer;
 use matching::search;
-use matching::search::Found;
 use report::{answer, error};
 use rows::{ROWS, TOKENS};
 use std::io::{ErrorKind, Write};
@@ -102,8 +101,8 @@ fn write_words(error: io::Error, place: &mut [u8]) -> io::Result<usize> {
 // The words of an error, without the system's number for it.
 fn before_code(words: &[u8]) -> &[u8] {
     match search::find(words, b" (os error ") {
-        Found::At(at) => text::part(words, 0, at),
-        Found::Absent => words,
+        Some(at) => text::part(words, 0, at),
+        None => words,
     }
 }
 
