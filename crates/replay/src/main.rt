@@ -5,7 +5,7 @@
 
 ghost use Rattle.std.specs.Prelude.{◌≡◌, ◌≤◌, length, IfOk};
 
-use message::Message;
+use message::ErrorRow;
 use std::io;
 use std::io::Write;
 use syntax::{refusal, text};
@@ -273,10 +273,15 @@ fn print_error<W: Write>(
 ) -> io::Result<()> {
     print_four(out, form, expected, first, end)?;
     let mut line = [0u8; 4096];
-    let written = message::write_message(rule, form, expected, first, end, &mut line);
-    match written {
-        Message::Written(n) => print_front(out, &line, n)?,
-        Message::NoRoom => print_front(out, b"no room", 7)?,
+    let row = ErrorRow {
+        form,
+        expected,
+        first,
+        end,
+    };
+    match message::write_message(rule, row, &mut line) {
+        Some(n) => print_front(out, &line, n)?,
+        None => print_front(out, b"no room", 7)?,
     }
     out.write_all(b"\n")
 }

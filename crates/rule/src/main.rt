@@ -8,11 +8,13 @@ use calls::value::{Outcome, Value, Verdict};
 use calls::verdict;
 use matching::search;
 use matching::search::Found;
+use message::ErrorRow;
 use report::{answer, error};
 use std::io::{ErrorKind, Write};
 use std::rt::Env;
 use std::{fs, io, str};
 use syntax::text;
+use texts::Writer;
 use trees::Reading;
 
 // One byte more than a rule and an image may have: what fills the buffer is too long, whatever follows.
@@ -195,16 +197,12 @@ fn run_rule<W: Write>(out: &mut W, image: &[u8], rule: &[u8]) -> io::Result<()> 
     }
 }
 
-// Prints the first n bytes, or as many as there are.
-fn print_front<W: Write>(out: &mut W, bytes: &[u8], n: usize) -> io::Result<()> {
-    out.write_all(text::part(bytes, 0, n))
-}
-
 // The verdict's line and the outcome's.
 fn print_head<W: Write>(out: &mut W, outcome: Outcome) -> io::Result<()> {
-    let mut lines = [0u8; 4096];
-    let n = answer::write_head(outcome, &mut lines, 0);
-    print_front(out, &lines, n)
+    let mut space = [0u8; 4096];
+    let mut lines = Writer::new(&mut space);
+    answer::write_head(outcome, &mut lines);
+    out.write_all(lines.written())
 }
 
 // The parse errors, each with the rule's line and a mark under the place.
@@ -237,9 +235,16 @@ fn print_error<W: Write>(
     first: u32,
     end: u32,
 ) -> io::Result<()> {
-    let mut lines = [0u8; 4096];
-    let n = error::write_error(rule, form, expected, first, end, &mut lines, 0);
-    print_front(out, &lines, n)
+    let row = ErrorRow {
+        form,
+        expected,
+        first,
+        end,
+    };
+    let mut space = [0u8; 4096];
+    let mut lines = Writer::new(&mut space);
+    error::write_error(rule, row, &mut lines);
+    out.write_all(lines.written())
 }
 
 // The members of a collection.
@@ -294,9 +299,10 @@ fn print_member<W: Write>(
     first: u32,
     second: u32,
 ) -> io::Result<()> {
-    let mut lines = out_buffer();
-    let n = members::write_member(image, value, first, second, &mut lines, 0);
-    print_front(out, &lines, n)
+    let mut space = out_buffer();
+    let mut lines = Writer::new(&mut space);
+    members::write_member(image, value, first, second, &mut lines);
+    out.write_all(lines.written())
 }
 
 // Where a quantifier is false, the members for which it fails.
@@ -332,31 +338,26 @@ fn print_witness<W: Write>(
     tree: &[u32],
     rows: usize,
 ) -> io::Result<()> {
-    let mut buffer = witness_buffer();
-    let n = write_witness(rule, tree, rows, &mut buffer);
-    if n == 0 {
+    let mut space = witness_buffer();
+    let mut witness = Writer::new(&mut space);
+    write_witness(rule, tree, rows, &mut witness);
+    let failing = witness.written();
+    if failing.is_empty() {
         return Ok(());
     }
     out.write_all(b"it fails for these, by ")?;
-    print_front(out, &buffer, n)?;
+    out.write_all(failing)?;
     out.write_all(b"\n")?;
-    run_witness(out, image, &buffer, n)
+    list_members(out, image, failing)
 }
 
 // The rule that names them, from the first rows of the tree table, or from all.
-fn write_witness(rule: &[u8], tree: &[u32], rows: usize, out: &mut [u8]) -> usize {
+fn write_witness(rule: &[u8], tree: &[u32], rows: usize, out: &mut Writer<'_>) {
     if rows <= tree.len() / 4 {
         let end = rows * 4;
-        return witness::write_witness(rule, &tree[..end], out, 0);
+        return witness::write_witness(rule, &tree[..end], out);
     }
-    witness::write_witness(rule, tree, out, 0)
-}
-
-fn run_witness<W: Write>(out: &mut W, image: &[u8], buffer: &[u8], n: usize) -> io::Result<()> {
-    if n <= buffer.len() {
-        return list_members(out, image, &buffer[..n]);
-    }
-    Ok(())
+    witness::write_witness(rule, tree, out);
 }
 
 // Runs a rule and prints the members that it gives, without a verdict.
@@ -379,8 +380,9 @@ fn list_members<W: Write>(out: &mut W, image: &[u8], rule: &[u8]) -> io::Result<
 }
 
 fn print_outcome<W: Write>(out: &mut W, outcome: Outcome) -> io::Result<()> {
-    let mut line = [0u8; 4096];
-    let n = answer::write_outcome(outcome, &mut line, 0);
-    print_front(out, &line, n)?;
+    let mut space = [0u8; 4096];
+    let mut line = Writer::new(&mut space);
+    answer::write_outcome(outcome, &mut line);
+    out.write_all(line.written())?;
     out.write_all(b"\n")
 }

@@ -3,7 +3,7 @@
 
 ghost use Rattle.std.specs.Prelude.{◌≡◌, length};
 
-use message::Message;
+use message::ErrorRow;
 use std::io;
 use std::io::{Read, Write};
 use syntax::{refusal, text};
@@ -132,10 +132,15 @@ fn print_message<W: Write>(
     end: u32,
 ) -> io::Result<()> {
     let mut line = [0u8; 4096];
-    let written = message::write_message(rule, form, expected, first, end, &mut line);
-    match written {
-        Message::Written(n) => print_front(out, &line, n)?,
-        Message::NoRoom => print_front(out, b"a message too long to print", 27)?,
+    let row = ErrorRow {
+        form,
+        expected,
+        first,
+        end,
+    };
+    match message::write_message(rule, row, &mut line) {
+        Some(n) => print_front(out, &line, n)?,
+        None => print_front(out, b"a message too long to print", 27)?,
     }
     out.write_all(b"\n")
 }

@@ -7,11 +7,13 @@ ghost use Rattle.std.specs.Prelude.{◌≡◌, ◌≤◌, length};
 
 use board::image::Section;
 use calls::value::{Outcome, Value, Verdict};
+use message::ErrorRow;
 use report::{answer, error};
 use std::io;
 use std::io::{Read, Write};
 use syntax::refusal::{Check, Refusal};
 use syntax::text;
+use texts::Writer;
 use trees::Reading;
 
 // The numbers of the token table, and of the tree and the error table, that every rule has room in.
@@ -41,9 +43,10 @@ fn main(rt: HostRuntime) -> io::Result<()> {
 }
 
 fn print_verdict<W: Write>(out: &mut W, verdict: Verdict) -> io::Result<()> {
-    let mut line = [0u8; 4096];
-    let n = answer::write_verdict(verdict, &mut line, 0);
-    print_front(out, &line, n)?;
+    let mut space = [0u8; 4096];
+    let mut line = Writer::new(&mut space);
+    answer::write_verdict(verdict, &mut line);
+    out.write_all(line.written())?;
     out.write_all(b"\n")
 }
 
@@ -56,9 +59,10 @@ fn print_value<W: Write>(out: &mut W, value: Value) -> io::Result<()> {
 }
 
 fn print_head<W: Write>(out: &mut W, outcome: Outcome) -> io::Result<()> {
-    let mut lines = [0u8; 4096];
-    let n = answer::write_head(outcome, &mut lines, 0);
-    print_front(out, &lines, n)
+    let mut space = [0u8; 4096];
+    let mut lines = Writer::new(&mut space);
+    answer::write_head(outcome, &mut lines);
+    out.write_all(lines.written())
 }
 
 fn print_board_refusals<W: Write>(out: &mut W) -> io::Result<()> {
@@ -127,7 +131,9 @@ fn row_table() -> [u32; ROWS]
 // Prints the members of a board that has each word, and then a component whose category is none.
 fn print_board<W: Write>(out: &mut W) -> io::Result<()> {
     let mut image = image_space();
-    let n = write_image(&mut image);
+    let mut writer = Writer::new(&mut image);
+    write_image(&mut writer);
+    let n = writer.written().len();
     print_checked(out, &image, n)?;
     image[COMPONENTS] = 14;
     print_member(out, &image, Value::Components(1), 0, 0)
@@ -174,80 +180,52 @@ fn print_member<W: Write>(
     first: u32,
     second: u32,
 ) -> io::Result<()> {
-    let mut line = [0u8; 4096];
-    let n = members::write_member(image, value, first, second, &mut line, 0);
-    print_front(out, &line, n)
+    let mut space = [0u8; 4096];
+    let mut line = Writer::new(&mut space);
+    members::write_member(image, value, first, second, &mut line);
+    out.write_all(line.written())
 }
 
 // A board with a component of each category, a feature of each kind in each direction, and a diagnostic of each severity.
-fn write_image(out: &mut [u8]) -> usize {
-    let letters = write_words(
+fn write_image(out: &mut Writer<'_>) {
+    write_words(
         &[56, 43, 99, 40, 139, 280, 419, 120, 539, 0, 539, 0, 539, 36],
         out,
-        0,
     );
-    let strings = texts::append(
-        b"probeW\xc3\xa4rmefan stopped\x1b[2J\ntwo lines,\ta tab",
-        out,
-        letters,
-    );
-    let components = write_words(&[0, 5, 5, 6, 11, 0, 11, 15, 26, 17], out, strings);
-    let features = write_components(out, components);
-    let diagnostics = write_features(out, features);
-    write_words(&[0, 0, 3, 0, 1, 4, 0, 2, 1], out, diagnostics)
+    out.append(b"probeW\xc3\xa4rmefan stopped\x1b[2J\ntwo lines,\ta tab");
+    write_words(&[0, 5, 5, 6, 11, 0, 11, 15, 26, 17], out);
+    write_components(out);
+    write_features(out);
+    write_words(&[0, 0, 3, 0, 1, 4, 0, 2, 1], out);
 }
 
 // A component for each category. The first ones have a feature each.
-fn write_components(out: &mut [u8], at: usize) -> usize {
-    let mut next = at;
-    let mut category = 0;
-    while category < CATEGORIES {
-        next = write_component(category, out, next);
-        category += 1;
+fn write_components(out: &mut Writer<'_>) {
+    for category in 0..CATEGORIES {
+        write_component(category, out);
     }
-    next
 }
 
-fn write_component(category: u32, out: &mut [u8], at: usize) -> usize {
+fn write_component(category: u32, out: &mut Writer<'_>) {
     if category < KINDS {
-        return write_words(&[category, 0, category, 1, 0], out, at);
+        write_words(&[category, 0, category, 1, 0], out);
+    } else {
+        write_words(&[category, 1, KINDS, 0, 1], out);
     }
-    write_words(&[category, 1, KINDS, 0, 1], out, at)
 }
 
 // A feature for each kind, with names and directions in turn.
-fn write_features(out: &mut [u8], at: usize) -> usize {
-    let mut next = at;
-    let mut kind = 0;
-    while kind < KINDS {
-        next = write_words(&[kind % 3, kind, kind % 4], out, next);
-        kind += 1;
+fn write_features(out: &mut Writer<'_>) {
+    for kind in 0..KINDS {
+        write_words(&[kind % 3, kind, kind % 4], out);
     }
-    next
 }
 
 // Numbers as an image has them.
-fn write_words(numbers: &[u32], out: &mut [u8], at: usize) -> usize {
-    let mut next = at;
-    let mut i = 0;
-    while i < numbers.len() {
-        next = write_word(numbers[i], out, next);
-        i += 1;
+fn write_words(numbers: &[u32], out: &mut Writer<'_>) {
+    for n in numbers {
+        out.append(&n.to_le_bytes());
     }
-    next
-}
-
-fn write_word(n: u32, out: &mut [u8], at: usize) -> usize {
-    texts::append(
-        &[
-            (n % 0x100) as u8,
-            (n / 0x100 % 0x100) as u8,
-            (n / 0x10000 % 0x100) as u8,
-            (n / 0x1000000) as u8,
-        ],
-        out,
-        at,
-    )
 }
 
 // Prints what is said of the rules on the input, and the parse errors of numbers that are no row of one.
@@ -340,9 +318,10 @@ fn print_rows<W: Write>(out: &mut W, rule: &[u8], errors: &[u32], n: usize) -> i
 
 // Prints the rule that names members, on a line that is empty where there is none. The rows past the tree's are zeros, and no call's.
 fn print_witness<W: Write>(out: &mut W, rule: &[u8], tree: &[u32]) -> io::Result<()> {
-    let mut line = [0u8; 4096];
-    let n = witness::write_witness(rule, tree, &mut line, 0);
-    print_front(out, &line, n)?;
+    let mut space = [0u8; 4096];
+    let mut line = Writer::new(&mut space);
+    witness::write_witness(rule, tree, &mut line);
+    out.write_all(line.written())?;
     out.write_all(b"\n")
 }
 
@@ -354,12 +333,14 @@ fn print_error<W: Write>(
     first: u32,
     end: u32,
 ) -> io::Result<()> {
-    let mut lines = [0u8; 4096];
-    let n = error::write_error(rule, form, expected, first, end, &mut lines, 0);
-    print_front(out, &lines, n)
-}
-
-// Prints the first n bytes, or as many as there are.
-fn print_front<W: Write>(out: &mut W, bytes: &[u8], n: usize) -> io::Result<()> {
-    out.write_all(text::part(bytes, 0, n))
+    let row = ErrorRow {
+        form,
+        expected,
+        first,
+        end,
+    };
+    let mut space = [0u8; 4096];
+    let mut lines = Writer::new(&mut space);
+    error::write_error(rule, row, &mut lines);
+    out.write_all(lines.written())
 }
