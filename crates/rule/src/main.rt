@@ -2,11 +2,12 @@
 // in words: the members of a collection, the parse errors with their places, or the members for which a quantifier failed.
 #![tactic(auto)]
 
-ghost use Rattle.std.specs.Prelude.{◌≤◌, length, IfOk};
+ghost use Rattle.std.specs.Prelude.{◌<◌, ◌≤◌, ◌^◌, length, IfOk};
 
 use calls::value::{Outcome, Verdict};
 use eval::Answer;
 use matching::search;
+use matching::search::Found;
 use report::{answer, error};
 use rows::{ROWS, TOKENS};
 use std::io::{ErrorKind, Write};
@@ -101,8 +102,8 @@ fn write_words(error: io::Error, place: &mut [u8]) -> io::Result<usize> {
 // The words of an error, without the system's number for it.
 fn before_code(words: &[u8]) -> &[u8] {
     match search::find(words, b" (os error ") {
-        Some(at) => text::part(words, 0, at),
-        None => words,
+        Found::At(at) => text::part(words, 0, at),
+        Found::Absent => words,
     }
 }
 
@@ -113,6 +114,7 @@ fn run_board(rt: &HostRuntime, image: &[u8]) -> io::Result<()> {
 }
 
 // The four tables that a rule runs with.
+#[derive(Drop)]
 struct Tables {
     tokens: [u32; TOKENS],
     tree: [u32; ROWS],
@@ -169,7 +171,8 @@ fn print_lines<const ROOM: usize, W: Write, F: FnOnce(&mut [u8], usize) -> usize
     out: &mut W,
     write: F,
 ) -> io::Result<()>
-    requires { F.IsAlwaysCallable write }
+    requires room { ROOM < 2 ^ 63 }
+    requires callable { F.IsAlwaysCallable write }
 {
     let mut lines = [0u8; ROOM];
     let n = write(&mut lines, 0);
