@@ -114,6 +114,7 @@ fn run_board(rt: &HostRuntime, image: &[u8]) -> io::Result<()> {
 }
 
 // The four tables that a rule runs with.
+#[derive(Drop)]
 struct Tables {
     tokens: [u32; TOKENS],
     tree: [u32; ROWS],

@@ -3,363 +3,268 @@
 // members for which a quantifier fails.
 #![tactic(auto)]
 
-ghost use Rattle.std.specs.Prelude.{◌≡◌, ◌≤◌, length};
+ghost use Rattle.std.specs.Prelude.{◌≡◌, ◌<◌, ◌≤◌, length};
+ghost use Rattle.std.specs.Iterator.{at_most};
 
 use board::image::Section;
 use calls::value::{Outcome, Value, Verdict};
 use report::{answer, error};
+use rows::{ROWS, TOKENS};
 use std::io;
 use std::io::{Read, Write};
 use syntax::refusal::{Check, Refusal};
 use syntax::text;
 use trees::Reading;
 
-// The numbers of the token table, and of the tree and the error table, that every rule has room in.
-const TOKENS: usize = 1500;
+// How many bytes the image has, and where its components begin.
+const IMAGE: usize = 575;
 
-const ROWS: usize = 16032;
+const COMPONENTS: usize = 139;
 
-// How many categories and kinds of features there are, and where the components of the image begin.
+// How many categories and kinds of features there are.
 const CATEGORIES: u32 = 14;
 
 const KINDS: u32 = 10;
 
-const COMPONENTS: usize = 139;
-
 fn main(rt: HostRuntime) -> io::Result<()> {
     let mut out = rt.stdout();
-    print_verdict(&mut out, Verdict::Pass)?;
-    print_verdict(&mut out, Verdict::Fail)?;
-    print_verdict(&mut out, Verdict::Refused)?;
-    print_verdict(&mut out, Verdict::Open)?;
-    print_board_refusals(&mut out)?;
-    print_rule_refusals(&mut out)?;
-    print_booleans(&mut out)?;
-    print_counts(&mut out)?;
+    print_verdicts(&mut out)?;
+    print_refusals(&mut out)?;
+    print_values(&mut out)?;
     print_board(&mut out)?;
     print_rules(&mut out, &mut rt.stdin())
 }
 
-fn print_verdict<W: Write>(out: &mut W, verdict: Verdict) -> io::Result<()> {
-    let mut line = [0u8; 4096];
-    let n = answer::write_verdict(verdict, &mut line, 0);
-    print_front(out, &line, n)?;
-    out.write_all(b"\n")
+// Prints what a writer appends to an empty place.
+fn print_lines<W: Write, F: FnOnce(&mut [u8], usize) -> usize>(out: &mut W, write: F) -> io::Result<()>
+    requires { F.IsAlwaysCallable write }
+{
+    let mut lines = [0u8; 4096];
+    let n = write(&mut lines, 0);
+    out.write_all(text::part(&lines, 0, n))
 }
 
-fn print_refusal<W: Write>(out: &mut W, refusal: Refusal) -> io::Result<()> {
-    print_head(out, Outcome::Refused(refusal))
-}
-
-fn print_value<W: Write>(out: &mut W, value: Value) -> io::Result<()> {
-    print_head(out, Outcome::Given(value))
+fn print_verdicts<W: Write>(out: &mut W) -> io::Result<()> {
+    for verdict in [Verdict::Pass, Verdict::Fail, Verdict::Refused, Verdict::Open] {
+        print_lines(out, |lines, at| answer::write_verdict(verdict, lines, at))?;
+        out.write_all(b"\n")?;
+    }
+    Ok(())
 }
 
 fn print_head<W: Write>(out: &mut W, outcome: Outcome) -> io::Result<()> {
-    let mut lines = [0u8; 4096];
-    let n = answer::write_head(outcome, &mut lines, 0);
-    print_front(out, &lines, n)
+    print_lines(out, |lines, at| answer::write_head(outcome, lines, at))
 }
 
-fn print_board_refusals<W: Write>(out: &mut W) -> io::Result<()> {
-    print_refusal(out, Refusal::RuleTooLong)?;
-    print_refusal(out, Refusal::RuleNotUtf8)?;
-    print_refusal(out, Refusal::TableTooShort)?;
-    print_refusal(out, Refusal::TooManyOpeners)?;
-    print_refusal(out, Refusal::ImageBadSections)?;
-    print_refusal(out, Refusal::ImageBadStrings)?;
-    print_refusal(out, Refusal::ImageBadRecords)?;
-    print_refusal(out, Refusal::CollectionTooShort)
+fn print_refusals<W: Write>(out: &mut W) -> io::Result<()> {
+    for refusal in [
+        Refusal::RuleTooLong,
+        Refusal::RuleNotUtf8,
+        Refusal::TableTooShort,
+        Refusal::TooManyOpeners,
+        Refusal::ImageBadSections,
+        Refusal::ImageBadStrings,
+        Refusal::ImageBadRecords,
+        Refusal::CollectionTooShort,
+        Refusal::ParseErrors,
+        Refusal::WhereOnNoCollection,
+        Refusal::QuantifierOnNoCollection,
+        Refusal::CountOnNoCollection,
+        Refusal::FeaturesOnNoComponents,
+        Refusal::DiagnosticsOnNoDiagnostics,
+        Refusal::ComparisonNotCountable,
+        Refusal::IntegerTooLarge,
+    ] {
+        print_head(out, Outcome::Refused(refusal))?;
+    }
+    Ok(())
 }
 
-fn print_rule_refusals<W: Write>(out: &mut W) -> io::Result<()> {
-    print_refusal(out, Refusal::ParseErrors)?;
-    print_refusal(out, Refusal::WhereOnNoCollection)?;
-    print_refusal(out, Refusal::QuantifierOnNoCollection)?;
-    print_refusal(out, Refusal::CountOnNoCollection)?;
-    print_refusal(out, Refusal::FeaturesOnNoComponents)?;
-    print_refusal(out, Refusal::DiagnosticsOnNoDiagnostics)?;
-    print_refusal(out, Refusal::ComparisonNotCountable)?;
-    print_refusal(out, Refusal::IntegerTooLarge)
-}
-
-fn print_booleans<W: Write>(out: &mut W) -> io::Result<()> {
-    print_value(out, Value::Bool(true))?;
-    print_value(out, Value::Bool(false))?;
-    print_value(out, Value::BoolWithWarning(true))?;
-    print_value(out, Value::BoolWithWarning(false))
-}
-
-fn print_counts<W: Write>(out: &mut W) -> io::Result<()> {
-    print_value(out, Value::Count(0))?;
-    print_value(out, Value::Count(1))?;
-    print_value(out, Value::Count(18446744073709551615))?;
-    print_value(out, Value::Components(0))?;
-    print_value(out, Value::Components(1))?;
-    print_value(out, Value::Components(2))?;
-    print_value(out, Value::Features(0))?;
-    print_value(out, Value::Features(1))?;
-    print_value(out, Value::Features(2))?;
-    print_value(out, Value::Diagnostics(0))?;
-    print_value(out, Value::Diagnostics(1))?;
-    print_value(out, Value::Diagnostics(10))
-}
-
-// Each `ensures` gives the length, which lending the array needs.
-fn image_space() -> [u8; 800]
-    ensures { 800 ≡ length result }
-{
-    [0; 800]
-}
-
-fn token_table() -> [u32; TOKENS]
-    ensures { 1500 ≡ length result }
-{
-    [0; TOKENS]
-}
-
-fn row_table() -> [u32; ROWS]
-    ensures { 16032 ≡ length result }
-{
-    [0; ROWS]
+fn print_values<W: Write>(out: &mut W) -> io::Result<()> {
+    for value in [
+        Value::Bool(true),
+        Value::Bool(false),
+        Value::BoolWithWarning(true),
+        Value::BoolWithWarning(false),
+        Value::Count(0),
+        Value::Count(1),
+        Value::Count(18446744073709551615),
+        Value::Components(0),
+        Value::Components(1),
+        Value::Components(2),
+        Value::Features(0),
+        Value::Features(1),
+        Value::Features(2),
+        Value::Diagnostics(0),
+        Value::Diagnostics(1),
+        Value::Diagnostics(10),
+    ] {
+        print_head(out, Outcome::Given(value))?;
+    }
+    Ok(())
 }
 
 // Prints the members of a board that has each word, and then a component whose category is none.
 fn print_board<W: Write>(out: &mut W) -> io::Result<()> {
-    let mut image = image_space();
-    let n = write_image(&mut image);
-    print_checked(out, &image, n)?;
+    let mut image = [0u8; IMAGE];
+    write_image(&mut image)?;
+    print_checked(out, &image)?;
     image[COMPONENTS] = 14;
-    print_member(out, &image, Value::Components(1), 0, 0)
+    print_member(out, &image, Value::Components(1), 0)
 }
 
 // Prints the members of an image that passes the check.
-fn print_checked<W: Write>(out: &mut W, space: &[u8], n: usize) -> io::Result<()> {
-    if space.len() < n {
-        return Ok(());
-    }
-    let image = &space[..n];
+fn print_checked<W: Write>(out: &mut W, image: &[u8]) -> io::Result<()> {
     match board::check_image(image, ROWS) {
         Check::Passed => {
             print_members(out, image, Section::Components, Value::Components(14))?;
             print_members(out, image, Section::Features, Value::Features(10))?;
             print_members(out, image, Section::Diagnostics, Value::Diagnostics(3))?;
-            print_member(out, image, Value::Count(1), 0, 0)
+            print_member(out, image, Value::Count(1), 0)
         }
-        Check::Refused(r) => print_refusal(out, r),
+        Check::Refused(r) => print_head(out, Outcome::Refused(r)),
     }
 }
 
-// The members of a value: all records of a section, of features each with the component that has its index.
+// The members of a value: all records of a section.
 fn print_members<W: Write>(
     out: &mut W,
     image: &[u8],
     section: Section,
     value: Value,
 ) -> io::Result<()> {
-    print_value(out, value)?;
-    let count = board::image::record_count(image, section);
-    let mut i = 0;
-    while i < count {
-        print_member(out, image, value, i, i)?;
-        i += 1;
+    print_head(out, Outcome::Given(value))?;
+    for index in 0..board::image::record_count(image, section) {
+        print_member(out, image, value, index)?;
     }
     Ok(())
 }
 
-fn print_member<W: Write>(
-    out: &mut W,
-    image: &[u8],
-    value: Value,
-    first: u32,
-    second: u32,
-) -> io::Result<()> {
-    let mut line = [0u8; 4096];
-    let n = members::write_member(image, value, first, second, &mut line, 0);
-    print_front(out, &line, n)
+// A member by its index, and of a component that has the same index if it is a feature.
+fn print_member<W: Write>(out: &mut W, image: &[u8], value: Value, index: u32) -> io::Result<()> {
+    print_lines(out, |lines, at| {
+        members::write_member(image, value, index, index, lines, at)
+    })
 }
 
 // A board with a component of each category, a feature of each kind in each direction, and a diagnostic of each severity.
-fn write_image(out: &mut [u8]) -> usize {
-    let letters = write_words(
+fn write_image(place: &mut [u8]) -> io::Result<()> {
+    let mut out = place;
+    write_words(
+        &mut out,
         &[56, 43, 99, 40, 139, 280, 419, 120, 539, 0, 539, 0, 539, 36],
-        out,
-        0,
-    );
-    let strings = texts::append(
-        b"probeW\xc3\xa4rmefan stopped\x1b[2J\ntwo lines,\ta tab",
-        out,
-        letters,
-    );
-    let components = write_words(&[0, 5, 5, 6, 11, 0, 11, 15, 26, 17], out, strings);
-    let features = write_components(out, components);
-    let diagnostics = write_features(out, features);
-    write_words(&[0, 0, 3, 0, 1, 4, 0, 2, 1], out, diagnostics)
+    )?;
+    out.write_all(b"probeW\xc3\xa4rmefan stopped\x1b[2J\ntwo lines,\ta tab")?;
+    write_words(&mut out, &[0, 5, 5, 6, 11, 0, 11, 15, 26, 17])?;
+    write_components(&mut out)?;
+    write_features(&mut out)?;
+    write_words(&mut out, &[0, 0, 3, 0, 1, 4, 0, 2, 1])
 }
 
 // A component for each category. The first ones have a feature each.
-fn write_components(out: &mut [u8], at: usize) -> usize {
-    let mut next = at;
-    let mut category = 0;
-    while category < CATEGORIES {
-        next = write_component(category, out, next);
-        category += 1;
+fn write_components<W: Write>(out: &mut W) -> io::Result<()> {
+    for category in 0..CATEGORIES {
+        if category < KINDS {
+            write_words(out, &[category, 0, category, 1, 0])?;
+        } else {
+            write_words(out, &[category, 1, KINDS, 0, 1])?;
+        }
     }
-    next
-}
-
-fn write_component(category: u32, out: &mut [u8], at: usize) -> usize {
-    if category < KINDS {
-        return write_words(&[category, 0, category, 1, 0], out, at);
-    }
-    write_words(&[category, 1, KINDS, 0, 1], out, at)
+    Ok(())
 }
 
 // A feature for each kind, with names and directions in turn.
-fn write_features(out: &mut [u8], at: usize) -> usize {
-    let mut next = at;
-    let mut kind = 0;
-    while kind < KINDS {
-        next = write_words(&[kind % 3, kind, kind % 4], out, next);
-        kind += 1;
+fn write_features<W: Write>(out: &mut W) -> io::Result<()> {
+    for kind in 0..KINDS {
+        write_words(out, &[kind % 3, kind, kind % 4])?;
     }
-    next
+    Ok(())
 }
 
 // Numbers as an image has them.
-fn write_words(numbers: &[u32], out: &mut [u8], at: usize) -> usize {
-    let mut next = at;
-    let mut i = 0;
-    while i < numbers.len() {
-        next = write_word(numbers[i], out, next);
-        i += 1;
+fn write_words<W: Write>(out: &mut W, numbers: &[u32]) -> io::Result<()> {
+    for number in numbers {
+        out.write_all(&number.to_le_bytes())?;
     }
-    next
-}
-
-fn write_word(n: u32, out: &mut [u8], at: usize) -> usize {
-    texts::append(
-        &[
-            (n % 0x100) as u8,
-            (n / 0x100 % 0x100) as u8,
-            (n / 0x10000 % 0x100) as u8,
-            (n / 0x1000000) as u8,
-        ],
-        out,
-        at,
-    )
+    Ok(())
 }
 
 // Prints what is said of the rules on the input, and the parse errors of numbers that are no row of one.
 fn print_rules<W: Write, R: Read>(out: &mut W, input: &mut R) -> io::Result<()> {
     let mut space = [0u8; 4096];
     let n = streams::read_full(input, &mut space)?;
-    print_each(out, &space[..n])?;
-    print_error(out, b"components", 7, 0, 3, 1000)?;
-    print_error(out, b"components", 6, 0, 1000, 3)
-}
-
-fn print_each<W: Write>(out: &mut W, input: &[u8]) -> io::Result<()> {
-    let mut at = 0;
-    while at < input.len() {
-        let end = rule_end(input, at);
-        print_rule(out, &input[at..end])?;
-        if input.len() - end < 5 {
-            return Ok(());
-        }
-        at = end + 5;
+    for rule in Rules(&space[..n]) {
+        print_rule(out, rule)?;
     }
-    Ok(())
+    print_error(out, b"components", &[7, 0, 3, 1000])?;
+    print_error(out, b"components", &[6, 0, 1000, 3])
 }
 
-// Where the rule ends that begins at a place: at a line of `---`, or with the input.
-fn rule_end(input: &[u8], at: usize) -> usize
-    requires { at ≤ length input.now }
-    ensures { (at ≤ result) × (result ≤ length input.now) }
+// The line that ends a rule.
+const END: &[u8] = b"\n---\n";
+
+// The rules of a text. Each ends at such a line, or with the text.
+#[derive(Drop)]
+struct Rules<'a>(&'a [u8]);
+
+impl<'a> Iterator for Rules<'a> {
+    type Item = &'a [u8];
+
+    ghost remaining = { λ s. at_most (length s.0.now) };
+
+    fn next(&mut self) -> Option<&'a [u8]> {
+        if self.0.is_empty() {
+            return None;
+        }
+        let (rule, rest) = split_rule(self.0);
+        self.0 = rest;
+        Some(rule)
+    }
+}
+
+// The rule at the front of a text, and what is left past its end.
+fn split_rule(text: &[u8]) -> (&[u8], &[u8])
+    requires { 0 < length text.now }
+    ensures { length result.1.now < length text.now }
 {
-    let mut end = at;
-    while end < input.len() {
-        if starts(&input[end..]) {
-            return end;
-        }
-        end += 1;
+    match text.windows(5).position(|piece| piece == END) {
+        Some(at) => (&text[..at], &text[at + 5..]),
+        None => (text, &[]),
     }
-    end
-}
-
-// Whether a text begins with the line that ends a rule.
-fn starts(text: &[u8]) -> bool {
-    if text.len() < 5 {
-        return false;
-    }
-    text::same(&text[..5], b"\n---\n")
 }
 
 // Prints the errors of a rule, the rule that names members for one that has none, or why it is refused.
 fn print_rule<W: Write>(out: &mut W, rule: &[u8]) -> io::Result<()> {
-    let mut tokens = token_table();
-    let mut tree = row_table();
-    let mut errors = row_table();
+    let mut tokens = [0; TOKENS];
+    let mut tree = [0; ROWS];
+    let mut errors = [0; ROWS];
     match parser::parse_expr(rule, &mut tokens, &mut tree, &mut errors) {
         Reading::Rows {
             tokens: _,
             tree: _,
             errors: found,
         } => {
-            print_rows(out, rule, &errors, found)?;
+            for row in rows::first::<4>(&errors, found) {
+                print_error(out, rule, row)?;
+            }
             if found == 0 {
                 return print_witness(out, rule, &tree);
             }
             Ok(())
         }
-        Reading::Refused(r) => print_refusal(out, r),
+        Reading::Refused(r) => print_head(out, Outcome::Refused(r)),
     }
-}
-
-// Prints the errors of the first n rows of a table, or of as many as it has.
-fn print_rows<W: Write>(out: &mut W, rule: &[u8], errors: &[u32], n: usize) -> io::Result<()> {
-    let whole = errors.len() / 4;
-    let mut i = 0;
-    while i < whole {
-        if i == n {
-            return Ok(());
-        }
-        let at = i * 4;
-        print_error(
-            out,
-            rule,
-            errors[at],
-            errors[at + 1],
-            errors[at + 2],
-            errors[at + 3],
-        )?;
-        i += 1;
-    }
-    Ok(())
 }
 
 // Prints the rule that names members, on a line that is empty where there is none. The rows past the tree's are zeros, and no call's.
 fn print_witness<W: Write>(out: &mut W, rule: &[u8], tree: &[u32]) -> io::Result<()> {
-    let mut line = [0u8; 4096];
-    let n = witness::write_witness(rule, tree, &mut line, 0);
-    print_front(out, &line, n)?;
+    print_lines(out, |lines, at| witness::write_witness(rule, tree, lines, at))?;
     out.write_all(b"\n")
 }
 
-fn print_error<W: Write>(
-    out: &mut W,
-    rule: &[u8],
-    form: u32,
-    expected: u32,
-    first: u32,
-    end: u32,
-) -> io::Result<()> {
-    let mut lines = [0u8; 4096];
-    let n = error::write_error(rule, form, expected, first, end, &mut lines, 0);
-    print_front(out, &lines, n)
-}
-
-// Prints the first n bytes, or as many as there are.
-fn print_front<W: Write>(out: &mut W, bytes: &[u8], n: usize) -> io::Result<()> {
-    out.write_all(text::part(bytes, 0, n))
+fn print_error<W: Write>(out: &mut W, rule: &[u8], row: &[u32; 4]) -> io::Result<()> {
+    let [form, expected, first, end] = *row;
+    print_lines(out, |lines, at| {
+        error::write_error(rule, form, expected, first, end, lines, at)
+    })
 }
