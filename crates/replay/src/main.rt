@@ -99,11 +99,17 @@ fn run_in<W: Write>(
             print_tokens(out, tokens, a)?;
             print_tree(out, tree, b)?;
             print_errors(out, rule, errors, c)?;
-            print_kept(out, is_kept::<3>(tokens, a) && is_kept::<4>(tree, b) && is_kept::<4>(errors, c))
+            print_kept(
+                out,
+                is_kept::<3>(tokens, a) && is_kept::<4>(tree, b) && is_kept::<4>(errors, c),
+            )
         }
         Reading::Refused(r) => {
             writeln!(out, "refused {}", refusal::number(r))?;
-            print_kept(out, is_kept::<3>(tokens, 0) && is_kept::<4>(tree, 0) && is_kept::<4>(errors, 0))
+            print_kept(
+                out,
+                is_kept::<3>(tokens, 0) && is_kept::<4>(tree, 0) && is_kept::<4>(errors, 0),
+            )
         }
     }
 }

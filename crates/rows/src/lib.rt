@@ -27,7 +27,9 @@ pub fn members(value: Value, collection: &[u32]) -> &[[u32; 2]]
     ensures { result.now ≡ first_rows 2 (member_count value) collection.now }
 {
     match value {
-        Value::Components(n) | Value::Features(n) | Value::Diagnostics(n) => first::<2>(collection, n),
+        Value::Components(n) | Value::Features(n) | Value::Diagnostics(n) => first::<2>(
+            collection, n,
+        ),
         Value::Bool(_) | Value::BoolWithWarning(_) | Value::Count(_) => &[],
     }
 }

@@ -2,7 +2,7 @@
 // in words: the members of a collection, the parse errors with their places, or the members for which a quantifier failed.
 #![tactic(auto)]
 
-ghost use Rattle.std.specs.Prelude.{◌≤◌, length, IfOk};
+ghost use Rattle.std.specs.Prelude.{◌<◌, ◌≤◌, ◌^◌, length, IfOk};
 
 use calls::value::{Outcome, Verdict};
 use eval::Answer;
@@ -171,7 +171,8 @@ fn print_lines<const ROOM: usize, W: Write, F: FnOnce(&mut [u8], usize) -> usize
     out: &mut W,
     write: F,
 ) -> io::Result<()>
-    requires { F.IsAlwaysCallable write }
+    requires room { ROOM < 2 ^ 63 }
+    requires callable { F.IsAlwaysCallable write }
 {
     let mut lines = [0u8; ROOM];
     let n = write(&mut lines, 0);

@@ -105,9 +105,7 @@ fn predicate_row(rows: &[[u32; 4]]) -> usize
     ensures { result ≤ length rows.now }
 {
     let from = past_last_arguments(rows);
-    let found = rows[from..]
-        .iter()
-        .position(|row| kind::ROOT <= row[0]);
+    let found = rows[from..].iter().position(|row| kind::ROOT <= row[0]);
     match found {
         Some(i) => from + i,
         None => rows.len(),
@@ -142,7 +140,11 @@ impl Predicate<'_> {
 }
 
 // The records of a section, which has components or diagnostics.
-fn print_members<W: Write>(out: &mut W, predicate: Predicate<'_>, section: Section) -> io::Result<()> {
+fn print_members<W: Write>(
+    out: &mut W,
+    predicate: Predicate<'_>,
+    section: Section,
+) -> io::Result<()> {
     for n in 0..image::record_count(predicate.image, section) {
         let member = match section {
             Section::Diagnostics => Member::Diagnostic(n),
@@ -161,7 +163,11 @@ fn print_features<W: Write>(out: &mut W, predicate: Predicate<'_>) -> io::Result
     Ok(())
 }
 
-fn print_features_of<W: Write>(out: &mut W, predicate: Predicate<'_>, component: u32) -> io::Result<()> {
+fn print_features_of<W: Write>(
+    out: &mut W,
+    predicate: Predicate<'_>,
+    component: u32,
+) -> io::Result<()> {
     let image = predicate.image;
     let first = image::field(image, Section::Components, component, image::FIRST_FEATURE);
     for feature in first..instance::features_end(image, component) {

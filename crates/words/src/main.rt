@@ -36,7 +36,10 @@ fn main(rt: HostRuntime) -> io::Result<()> {
 }
 
 // Prints what a writer appends to an empty place.
-fn print_lines<W: Write, F: FnOnce(&mut [u8], usize) -> usize>(out: &mut W, write: F) -> io::Result<()>
+fn print_lines<W: Write, F: FnOnce(&mut [u8], usize) -> usize>(
+    out: &mut W,
+    write: F,
+) -> io::Result<()>
     requires { F.IsAlwaysCallable write }
 {
     let mut lines = [0u8; 4096];
@@ -45,7 +48,12 @@ fn print_lines<W: Write, F: FnOnce(&mut [u8], usize) -> usize>(out: &mut W, writ
 }
 
 fn print_verdicts<W: Write>(out: &mut W) -> io::Result<()> {
-    for verdict in [Verdict::Pass, Verdict::Fail, Verdict::Refused, Verdict::Open] {
+    for verdict in [
+        Verdict::Pass,
+        Verdict::Fail,
+        Verdict::Refused,
+        Verdict::Open,
+    ] {
         print_lines(out, |lines, at| answer::write_verdict(verdict, lines, at))?;
         out.write_all(b"\n")?;
     }
@@ -258,7 +266,10 @@ fn print_rule<W: Write>(out: &mut W, rule: &[u8]) -> io::Result<()> {
 
 // Prints the rule that names members, on a line that is empty where there is none. The rows past the tree's are zeros, and no call's.
 fn print_witness<W: Write>(out: &mut W, rule: &[u8], tree: &[u32]) -> io::Result<()> {
-    print_lines(out, |lines, at| witness::write_witness(rule, tree, lines, at))?;
+    print_lines(
+        out,
+        |lines, at| witness::write_witness(rule, tree, lines, at),
+    )?;
     out.write_all(b"\n")
 }
 

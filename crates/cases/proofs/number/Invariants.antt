@@ -8,7 +8,7 @@ invariant-loop-byte l = record {
   value : number l.value l.rest ≡ number 0 l.fn.input;
   rest : past_number l.value l.rest ≡ past_number 0 l.fn.input;
   small : l.value ≤ 9999999;
-  shorter : length l.rest ≤ length l.fn.input
+  shorter : length l.rest ≤ length l.fn.input;
 }
 
 abbrev pub decreases-loop-byte : goal.decreases-loop-byte

@@ -1,7 +1,7 @@
 -- `first` takes the first of a table's whole rows. Assumes nothing.
 use Rattle.std.proofs.Common.{◌≡◌, ℕ, zero, suc, ◌/◌, ◌<◌, ◌≤◌, min, List, ◌∷◌, length, take, drop, refl, sym, ap, ◌∙◌, arith}
 use Rattle.std.specs.Simd.{first_chunks}
-use Rattle.rows.specs.Rows.{whole_rows, first_rows}
+use Rattle.rows.specs.Rows.{whole_rows}
 use Rattle.rows.proofs.first.Goals as goal
 
 -- the first k of m rows

@@ -6,5 +6,5 @@ use Rattle.cases.proofs.noise.fill.Given as goal
 abbrev pub invariant-loop-at : goal.invariant-loop-at
 invariant-loop-at l = record {
   len : length l.table ≡ length l.initial.table;
-  numbers : (k : ℕ) → k < l.at → slice_index l.table k ≡ noise l.seed k
+  numbers : (k : ℕ) → k < l.at → slice_index l.table k ≡ noise l.seed k;
 }
