@@ -9,22 +9,23 @@ use Rattle.texts.specs.Text.{number_text}
 use Rattle.texts.specs.Place.{place_text}
 use Rattle.message.specs.Message.{kind_name, message_with, message_of}
 use Rattle.calls.specs.declared.value.Value.{Value}
-use Rattle.calls.specs.declared.value.Outcome.{Outcome}
+use Rattle.std.specs.Prelude.{Ok, Err}
+use Rattle.calls.specs.Answer.{Outcome}
 use Rattle.report.specs.Answer.{head_text}
 use Rattle.report.specs.Error.{error_text}
 
-pub three : head_text (Outcome.Given (Value.Count 3)) ≡ ascii "open\ncount: 3\n"
+pub three : head_text (Ok (Value.Count 3)) ≡ ascii "open\ncount: 3\n"
 unfolding number_text
 three = refl
 
-pub one_bus : head_text (Outcome.Given (Value.Components 1)) ≡ ascii "open\n1 component\n"
+pub one_bus : head_text (Ok (Value.Components 1)) ≡ ascii "open\n1 component\n"
 unfolding number_text
 one_bus = refl
 
-pub of_none : head_text (Outcome.Given (Value.BoolWithWarning true)) ≡ ascii "pass\ntrue, of an empty collection: no member was there to be looked at\n"
+pub of_none : head_text (Ok (Value.BoolWithWarning true)) ≡ ascii "pass\ntrue, of an empty collection: no member was there to be looked at\n"
 of_none = refl
 
-pub not_read : head_text (Outcome.Refused ParseErrors) ≡ ascii "refused\nrefusal 9: the rule has parse errors\n"
+pub not_read : head_text (Err ParseErrors) ≡ ascii "refused\nrefusal 9: the rule has parse errors\n"
 unfolding number_text
 not_read = refl
 

@@ -15,7 +15,8 @@ use Rattle.texts.proofs.LengthLaws.{number_length, shown_length, place_length}
 use Rattle.message.specs.Message.{message_of}
 use Rattle.calls.specs.Answer.{verdict_of_answer}
 use Rattle.calls.specs.declared.value.Value.{Value}
-use Rattle.calls.specs.declared.value.Outcome.{Outcome}
+use Rattle.std.specs.Prelude.{Ok, Err}
+use Rattle.calls.specs.Answer.{Outcome}
 use Rattle.calls.specs.declared.value.Verdict.{Verdict}
 use Rattle.report.specs.Answer.{verdict_text, counted, truth_text, value_text, reason_text, outcome_text, head_text}
 use Rattle.report.specs.Error.{ROOM, message_text, error_text}
@@ -61,8 +62,8 @@ reason_length ComparisonNotCountable = omega arith
 reason_length IntegerTooLarge = omega arith
 
 outcome_length : (outcome : Outcome) → length (outcome_text outcome) ≤ 110
-outcome_length (Outcome.Given value) = value_length value
-outcome_length (Outcome.Refused r) = simp length-append (omega (arith, number_length (refusal_number r), reason_length r))
+outcome_length (Ok value) = value_length value
+outcome_length (Err r) = simp length-append (omega (arith, number_length (refusal_number r), reason_length r))
 
 -- the first two lines
 pub head_length : (outcome : Outcome) → length (head_text outcome) ≤ 120

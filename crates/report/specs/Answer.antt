@@ -7,7 +7,8 @@ use Rattle.syntax.specs.declared.refusal.Refusal.TheVariants.{RuleTooLong, RuleN
 use Rattle.texts.specs.Text.{number_text, line}
 use Rattle.calls.specs.Answer.{verdict_of_answer}
 use Rattle.calls.specs.declared.value.Value.{Value}
-use Rattle.calls.specs.declared.value.Outcome.{Outcome}
+use Rattle.std.specs.Prelude.{Ok, Err}
+use Rattle.calls.specs.Answer.{Outcome}
 use Rattle.calls.specs.declared.value.Verdict.{Verdict}
 
 abbrev pub verdict_text : Verdict → List ℕ
@@ -57,8 +58,8 @@ abbrev pub refusal_text : Refusal → List ℕ
 refusal_text refusal = ascii "refusal " ++ number_text (refusal_number refusal) ++ ascii ": " ++ reason_text refusal
 
 abbrev pub outcome_text : Outcome → List ℕ
-outcome_text (Outcome.Given value) = value_text value
-outcome_text (Outcome.Refused refusal) = refusal_text refusal
+outcome_text (Ok value) = value_text value
+outcome_text (Err refusal) = refusal_text refusal
 
 -- the first two lines
 abbrev pub head_text : Outcome → List ℕ

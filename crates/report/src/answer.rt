@@ -36,8 +36,8 @@ pub fn write_outcome(outcome: Outcome, out: &mut Writer<'_>)
     ensures { Wrote (outcome_text outcome) out.old out.new }
 {
     match outcome {
-        Outcome::Given(value) => write_value(value, out),
-        Outcome::Refused(refusal) => write_refusal(refusal, out),
+        Ok(value) => write_value(value, out),
+        Err(refusal) => write_refusal(refusal, out),
     }
 }
 

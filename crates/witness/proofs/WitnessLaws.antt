@@ -11,7 +11,6 @@ use Rattle.syntax.specs.Kind.{IDENT, CALL_ARGS}
 use Rattle.syntax.specs.Text.{ascii, same, bytes_between}
 use Rattle.syntax.proofs.BoolLaws.{whether}
 use Rattle.syntax.proofs.TextLaws.{same_eq}
-use Rattle.matching.specs.declared.search.Found.{Found}
 use Rattle.predicate.specs.Truth.{first_text}
 use Rattle.predicate.specs.Rows.{ROW, level_at, children_at, forest_from, of_kind, first_row}
 use Rattle.predicate.proofs.RowLaws.{drop_row, few, short_forest}
@@ -73,12 +72,12 @@ unfolding last_call
 past_none {tree} {i} p h = let z : i ≡ 0 = omega arith in sym (rw z at (p.rest None))
 
 -- what stands behind a method, by the row found
-module _ (rule tree : List ℕ) (call : ℕ) {found : Found} (e : found ≡ first_row (of_kind CALL_ARGS) tree (level_at tree call + 1) (call + ROW)) where
-  pub args_none : found ≡ Found.Absent → [] ≡ args_text rule tree call
+module _ (rule tree : List ℕ) (call : ℕ) {found : Option ℕ} (e : found ≡ first_row (of_kind CALL_ARGS) tree (level_at tree call + 1) (call + ROW)) where
+  pub args_none : found ≡ None → [] ≡ args_text rule tree call
   unfolding args_text
   args_none h = sym (ap (text_in rule tree) (sym e ∙ h))
 
-  pub args_at : {at first end : ℕ} → found ≡ Found.At at → first ≡ get_or tree (at + 2) 0 → end ≡ get_or tree (at + 3) 0 → bytes_between rule first end ≡ args_text rule tree call
+  pub args_at : {at first end : ℕ} → found ≡ Some at → first ≡ get_or tree (at + 2) 0 → end ≡ get_or tree (at + 3) 0 → bytes_between rule first end ≡ args_text rule tree call
   unfolding args_text
   args_at h f g = (λ i. bytes_between rule (f i) (g i)) ∙ sym (ap (text_in rule tree) (sym e ∙ h))
 

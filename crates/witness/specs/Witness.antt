@@ -6,7 +6,6 @@ use Rattle.std.specs.declared.option.Option.{Option}
 use Rattle.std.specs.declared.option.Option.TheVariants.{None, Some}
 use Rattle.syntax.specs.Kind.{IDENT, DOT_CALL, CALL_ARGS}
 use Rattle.syntax.specs.Text.{ascii, same, bytes_between}
-use Rattle.matching.specs.declared.search.Found.{Found}
 use Rattle.predicate.specs.Truth.{first_text}
 use Rattle.predicate.specs.Rows.{ROW, kind_at, level_at, text_at, children_at, of_kind, first_row}
 
@@ -32,9 +31,9 @@ unfolding last_from
 last_call tree = last_from 0 None tree
 
 -- what stands behind a call's method
-abbrev pub text_in : (rule tree : List ℕ) → Found → List ℕ
-text_in rule tree (Found.At at) = text_at rule tree at
-text_in rule tree Found.Absent = []
+abbrev pub text_in : (rule tree : List ℕ) → Option ℕ → List ℕ
+text_in rule tree (Some at) = text_at rule tree at
+text_in rule tree None = []
 
 unfoldable pub args_text : (rule tree : List ℕ) → ℕ → List ℕ
 unfolding first_row

@@ -5,7 +5,6 @@ ghost use Rattle.std.specs.Prelude.{◌≡◌, ◌+◌, get_or};
 ghost use Rattle.texts.specs.Append.{Wrote};
 ghost use Rattle.witness.specs.Witness.{is_call, last_call, args_text, by_word, witness_text};
 
-use matching::search::Found;
 use predicate::node;
 use syntax::{kind, text};
 use texts::Writer;
@@ -69,12 +68,12 @@ fn args_text<'a>(rule: &'a [u8], tree: &[u32], call: usize) -> &'a [u8]
     ensures { result.now ≡ args_text rule.now tree.now call }
 {
     match node::child_of_kind(tree, call, kind::CALL_ARGS) {
-        Found::At(at) => text::part(
+        Some(at) => text::part(
             rule,
             number_at(tree, at, 2) as usize,
             number_at(tree, at, 3) as usize,
         ),
-        Found::Absent => b"",
+        None => b"",
     }
 }
 

@@ -3,8 +3,8 @@ use mathlib.Core.Path.{◌∙◌}
 use Rattle.witness.proofs.WitnessLaws.{args_none, args_at}
 use Rattle.witness.proofs.args_text.Goals as goal
 
-pub returns-in-At : goal.returns-in-At
-returns-in-At c = c.part.ensures ∙ args_at c.args.rule.now c.args.tree.now c.args.call c.child_of_kind.ensures c.in-At.is c.number_at.ensures c.number_at-in-At.ensures
+pub returns-in-Some : goal.returns-in-Some
+returns-in-Some c = c.part.ensures ∙ args_at c.args.rule.now c.args.tree.now c.args.call c.child_of_kind.ensures c.in-Some.is c.number_at.ensures c.number_at-in-Some.ensures
 
-pub returns-in-Absent : goal.returns-in-Absent
-returns-in-Absent c = args_none c.args.rule.now c.args.tree.now c.args.call c.child_of_kind.ensures c.in-Absent.is
+pub returns-in-None : goal.returns-in-None
+returns-in-None c = args_none c.args.rule.now c.args.tree.now c.args.call c.child_of_kind.ensures c.in-None.is
