@@ -6,11 +6,11 @@
 ghost use Rattle.std.specs.Prelude.{◌≤◌};
 
 use cases::{Cases, noise};
-use message::Message;
+use message::ErrorRow;
 use std::io;
 use std::io::Write;
-use syntax::{refusal, text};
-use trees::Reading;
+use syntax::text;
+use trees::Rows;
 
 // The most numbers that a token table, and a tree table or an error table, has in a case.
 const TOKENS: usize = 1520;
@@ -91,11 +91,13 @@ fn run_in<W: Write>(
     errors: &mut [u32],
 ) -> io::Result<()> {
     match parser::parse_expr(rule, tokens, tree, errors) {
-        Reading::Rows {
-            tokens: a,
-            tree: b,
-            errors: c,
-        } => {
+        Ok(
+            Rows {
+                tokens: a,
+                tree: b,
+                errors: c,
+            },
+        ) => {
             print_tokens(out, tokens, a)?;
             print_tree(out, tree, b)?;
             print_errors(out, rule, errors, c)?;
@@ -104,8 +106,8 @@ fn run_in<W: Write>(
                 is_kept::<3>(tokens, a) && is_kept::<4>(tree, b) && is_kept::<4>(errors, c),
             )
         }
-        Reading::Refused(r) => {
-            writeln!(out, "refused {}", refusal::number(r))?;
+        Err(refusal) => {
+            writeln!(out, "refused {}", u32::from(refusal))?;
             print_kept(
                 out,
                 is_kept::<3>(tokens, 0) && is_kept::<4>(tree, 0) && is_kept::<4>(errors, 0),
@@ -138,9 +140,15 @@ fn print_errors<W: Write>(out: &mut W, rule: &[u8], table: &[u32], n: usize) -> 
         let [form, expected, first, end] = *row;
         writeln!(out, "{form} {expected} {first} {end}")?;
         let mut line = [0u8; 4096];
-        match message::write_message(rule, form, expected, first, end, &mut line) {
-            Message::Written(n) => out.write_all(text::part(&line, 0, n))?,
-            Message::NoRoom => out.write_all(b"no room")?,
+        let row = ErrorRow {
+            form,
+            expected,
+            first,
+            end,
+        };
+        match message::write_message(rule, row, &mut line) {
+            Some(n) => out.write_all(text::part(&line, 0, n))?,
+            None => out.write_all(b"no room")?,
         }
         out.write_all(b"\n")?;
     }

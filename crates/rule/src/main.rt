@@ -7,14 +7,15 @@ ghost use Rattle.std.specs.Prelude.{◌<◌, ◌≤◌, ◌^◌, length, IfOk};
 use calls::value::{Outcome, Verdict};
 use eval::Answer;
 use matching::search;
-use matching::search::Found;
+use message::ErrorRow;
 use report::{answer, error};
 use rows::{ROWS, TOKENS};
 use std::io::{ErrorKind, Write};
 use std::rt::Env;
 use std::{fs, io, str};
 use syntax::text;
-use trees::Reading;
+use texts::Writer;
+use trees::Rows;
 
 // One byte more than a rule and an image may have: what fills the buffer is too long, whatever follows.
 const RULE: usize = 501;
@@ -102,8 +103,8 @@ fn write_words(error: io::Error, place: &mut [u8]) -> io::Result<usize> {
 // The words of an error, without the system's number for it.
 fn before_code(words: &[u8]) -> &[u8] {
     match search::find(words, b" (os error ") {
-        Found::At(at) => text::part(words, 0, at),
-        Found::Absent => words,
+        Some(at) => text::part(words, 0, at),
+        None => words,
     }
 }
 
@@ -148,14 +149,14 @@ impl Tables {
 fn run_rule<W: Write>(out: &mut W, image: &[u8], rule: &[u8]) -> io::Result<()> {
     let mut tables = Tables::new();
     let ran = tables.run(rule, image);
-    print_lines::<LINES, _, _>(out, |lines, at| answer::write_head(ran.outcome, lines, at))?;
+    print_lines::<LINES, _, _>(out, |lines| answer::write_head(ran.outcome, lines))?;
     match ran.reading {
-        Reading::Refused(_) => Ok(()),
-        Reading::Rows {
+        Err(_) => Ok(()),
+        Ok(Rows {
             tokens: _,
             tree,
             errors,
-        } => {
+        }) => {
             print_errors(out, rule, rows::first::<4>(&tables.errors, errors))?;
             print_members(out, image, ran.outcome, &tables.collection)?;
             if matches!(ran.verdict, Verdict::Fail) {
@@ -166,26 +167,31 @@ fn run_rule<W: Write>(out: &mut W, image: &[u8], rule: &[u8]) -> io::Result<()> 
     }
 }
 
-// Prints what a writer appends to an empty place with so much room.
-fn print_lines<const ROOM: usize, W: Write, F: FnOnce(&mut [u8], usize) -> usize>(
+// Prints what is written to an empty place with so much room.
+fn print_lines<const ROOM: usize, W: Write, F: FnOnce(&mut Writer<'_>)>(
     out: &mut W,
     write: F,
 ) -> io::Result<()>
     requires room { ROOM < 2 ^ 63 }
     requires callable { F.IsAlwaysCallable write }
 {
-    let mut lines = [0u8; ROOM];
-    let n = write(&mut lines, 0);
-    out.write_all(text::part(&lines, 0, n))
+    let mut space = [0u8; ROOM];
+    let mut lines = Writer::new(&mut space);
+    write(&mut lines);
+    out.write_all(lines.written())
 }
 
 // The parse errors, each with the rule's line and a mark under the place.
 fn print_errors<W: Write>(out: &mut W, rule: &[u8], errors: &[[u32; 4]]) -> io::Result<()> {
     for row in errors {
         let [form, expected, first, end] = *row;
-        print_lines::<LINES, _, _>(out, |lines, at| {
-            error::write_error(rule, form, expected, first, end, lines, at)
-        })?;
+        let row = ErrorRow {
+            form,
+            expected,
+            first,
+            end,
+        };
+        print_lines::<LINES, _, _>(out, |lines| error::write_error(rule, row, lines))?;
     }
     Ok(())
 }
@@ -197,14 +203,15 @@ fn print_members<W: Write>(
     outcome: Outcome,
     collection: &[u32],
 ) -> io::Result<()> {
-    let Outcome::Given(value) = outcome else {
+    let Ok(value) = outcome else {
         return Ok(());
     };
     for row in rows::members(value, collection) {
         let [first, second] = *row;
-        print_lines::<MEMBER, _, _>(out, |lines, at| {
-            members::write_member(image, value, first, second, lines, at)
-        })?;
+        print_lines::<MEMBER, _, _>(
+            out,
+            |lines| members::write_member(image, value, first, second, lines),
+        )?;
     }
     Ok(())
 }
@@ -216,9 +223,10 @@ fn print_failing<W: Write>(
     rule: &[u8],
     tree: &[[u32; 4]],
 ) -> io::Result<()> {
-    let mut buffer = [0u8; WITNESS];
-    let n = witness::write_witness(rule, tree.as_flattened(), &mut buffer, 0);
-    let witness = text::part(&buffer, 0, n);
+    let mut space = [0u8; WITNESS];
+    let mut lines = Writer::new(&mut space);
+    witness::write_witness(rule, tree.as_flattened(), &mut lines);
+    let witness = lines.written();
     if witness.is_empty() {
         return Ok(());
     }
@@ -232,7 +240,7 @@ fn print_failing<W: Write>(
 fn list_members<W: Write>(out: &mut W, image: &[u8], rule: &[u8]) -> io::Result<()> {
     let mut tables = Tables::new();
     let outcome = tables.run(rule, image).outcome;
-    print_lines::<LINES, _, _>(out, |lines, at| answer::write_outcome(outcome, lines, at))?;
+    print_lines::<LINES, _, _>(out, |lines| answer::write_outcome(outcome, lines))?;
     out.write_all(b"\n")?;
     print_members(out, image, outcome, &tables.collection)
 }

@@ -10,8 +10,7 @@ use calls::value::{Outcome, Value, Verdict};
 use cases::{Cases, noise};
 use std::io;
 use std::io::Write;
-use syntax::refusal;
-use trees::Reading;
+use trees::{Reading, Rows};
 
 // The most numbers that each table has in a run: tokens, tree and errors, collection.
 const TOKENS: usize = 1520;
@@ -133,21 +132,21 @@ fn print_run<W: Write>(
     write!(out, "{} {} ", digest(tokens), digest(tree))?;
     writeln!(out, "{} {}", digest(errors), digest(collection))?;
     match answer.outcome {
-        Outcome::Given(value) => print_members(out, rows::members(value, collection)),
-        Outcome::Refused(_) => Ok(()),
+        Ok(value) => print_members(out, rows::members(value, collection)),
+        Err(_) => Ok(()),
     }
 }
 
 // What the rule comes to, its amount, and whether it is warned.
 fn print_outcome<W: Write>(out: &mut W, outcome: Outcome) -> io::Result<()> {
     match outcome {
-        Outcome::Given(Value::Components(n)) => write!(out, "1 {n} 0 "),
-        Outcome::Given(Value::Features(n)) => write!(out, "2 {n} 0 "),
-        Outcome::Given(Value::Diagnostics(n)) => write!(out, "3 {n} 0 "),
-        Outcome::Given(Value::Bool(holds)) => write!(out, "4 {} 0 ", u8::from(holds)),
-        Outcome::Given(Value::BoolWithWarning(holds)) => write!(out, "4 {} 1 ", u8::from(holds)),
-        Outcome::Given(Value::Count(n)) => write!(out, "5 {n} 0 "),
-        Outcome::Refused(r) => write!(out, "0 {} 0 ", refusal::number(r)),
+        Ok(Value::Components(n)) => write!(out, "1 {n} 0 "),
+        Ok(Value::Features(n)) => write!(out, "2 {n} 0 "),
+        Ok(Value::Diagnostics(n)) => write!(out, "3 {n} 0 "),
+        Ok(Value::Bool(holds)) => write!(out, "4 {} 0 ", u8::from(holds)),
+        Ok(Value::BoolWithWarning(holds)) => write!(out, "4 {} 1 ", u8::from(holds)),
+        Ok(Value::Count(n)) => write!(out, "5 {n} 0 "),
+        Err(refusal) => write!(out, "0 {} 0 ", u32::from(refusal)),
     }
 }
 
@@ -163,12 +162,12 @@ fn verdict_number(verdict: Verdict) -> u8 {
 // Whether there are numbers of rows, and those of token, tree and error rows.
 fn print_reading<W: Write>(out: &mut W, reading: Reading) -> io::Result<()> {
     match reading {
-        Reading::Rows {
+        Ok(Rows {
             tokens,
             tree,
             errors,
-        } => writeln!(out, "1 {tokens} {tree} {errors}"),
-        Reading::Refused(_) => writeln!(out, "0 0 0 0"),
+        }) => writeln!(out, "1 {tokens} {tree} {errors}"),
+        Err(_) => writeln!(out, "0 0 0 0"),
     }
 }
 

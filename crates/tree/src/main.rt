@@ -1,12 +1,12 @@
 // Reads a rule from standard input and prints its tree rows, the number of parse errors and their messages, or why it is refused.
 #![tactic(auto)]
 
-use message::Message;
+use message::ErrorRow;
 use rows::{ROWS, TOKENS};
 use std::io;
 use std::io::Write;
-use syntax::{refusal, text};
-use trees::Reading;
+use syntax::text;
+use trees::Rows;
 
 // One byte more than a rule may have: a rule that fills the buffer is too long, whatever follows.
 const BUFFER: usize = 501;
@@ -24,16 +24,18 @@ fn print_reading<W: Write>(out: &mut W, rule: &[u8]) -> io::Result<()> {
     let mut tree = [0; ROWS];
     let mut errors = [0; ROWS];
     match parser::parse_expr(rule, &mut tokens, &mut tree, &mut errors) {
-        Reading::Rows {
-            tokens: _,
-            tree: n,
-            errors: found,
-        } => {
+        Ok(
+            Rows {
+                tokens: _,
+                tree: n,
+                errors: found,
+            },
+        ) => {
             print_tree(out, &tree, n)?;
             writeln!(out, "errors {found}")?;
             print_messages(out, rule, &errors, found)
         }
-        Reading::Refused(r) => writeln!(out, "refused {}", refusal::number(r)),
+        Err(refusal) => writeln!(out, "refused {}", u32::from(refusal)),
     }
 }
 
@@ -51,9 +53,15 @@ fn print_messages<W: Write>(out: &mut W, rule: &[u8], errors: &[u32], n: usize) 
     for row in rows::first::<4>(errors, n) {
         let [form, expected, first, end] = *row;
         let mut line = [0u8; 4096];
-        match message::write_message(rule, form, expected, first, end, &mut line) {
-            Message::Written(n) => out.write_all(text::part(&line, 0, n))?,
-            Message::NoRoom => out.write_all(b"a message too long to print")?,
+        let row = ErrorRow {
+            form,
+            expected,
+            first,
+            end,
+        };
+        match message::write_message(rule, row, &mut line) {
+            Some(n) => out.write_all(text::part(&line, 0, n))?,
+            None => out.write_all(b"a message too long to print")?,
         }
         out.write_all(b"\n")?;
     }

@@ -13,9 +13,9 @@ use predicate::atom::Member;
 use rows::{ROWS, TOKENS};
 use std::io;
 use std::io::Write;
-use syntax::refusal::{Check, Refusal};
-use syntax::{kind, refusal};
-use trees::Reading;
+use syntax::kind;
+use syntax::refusal::Refusal;
+use trees::Rows;
 
 // The numbers of a collection table that every board has room in.
 const COLLECTION: usize = 65536;
@@ -63,14 +63,16 @@ fn run_case<W: Write>(out: &mut W, case: Case<'_>) -> io::Result<()> {
     let mut tree = [0; ROWS];
     let mut errors = [0; ROWS];
     match parser::parse_expr(case.rule, &mut tokens, &mut tree, &mut errors) {
-        Reading::Refused(r) => print_refusal(out, r),
-        Reading::Rows {
-            tokens: _,
-            tree: n,
-            errors: found,
-        } => match board::check_image(case.image, COLLECTION) {
-            Check::Refused(r) => print_refusal(out, r),
-            Check::Passed => {
+        Err(refusal) => print_refusal(out, refusal),
+        Ok(
+            Rows {
+                tokens: _,
+                tree: n,
+                errors: found,
+            },
+        ) => match board::check_image(case.image, COLLECTION) {
+            Err(refusal) => print_refusal(out, refusal),
+            Ok(()) => {
                 if found != 0 {
                     return writeln!(out, "errors {found}");
                 }
@@ -80,8 +82,8 @@ fn run_case<W: Write>(out: &mut W, case: Case<'_>) -> io::Result<()> {
     }
 }
 
-fn print_refusal<W: Write>(out: &mut W, r: Refusal) -> io::Result<()> {
-    writeln!(out, "refused {}", refusal::number(r))
+fn print_refusal<W: Write>(out: &mut W, refusal: Refusal) -> io::Result<()> {
+    writeln!(out, "refused {}", u32::from(refusal))
 }
 
 // Prints the truths of the predicate that a tree's last call has.

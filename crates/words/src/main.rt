@@ -8,13 +8,14 @@ ghost use Rattle.std.specs.Iterator.{at_most};
 
 use board::image::Section;
 use calls::value::{Outcome, Value, Verdict};
+use message::ErrorRow;
 use report::{answer, error};
 use rows::{ROWS, TOKENS};
 use std::io;
 use std::io::{Read, Write};
-use syntax::refusal::{Check, Refusal};
-use syntax::text;
-use trees::Reading;
+use syntax::refusal::Refusal;
+use texts::Writer;
+use trees::Rows;
 
 // How many bytes the image has, and where its components begin.
 const IMAGE: usize = 575;
@@ -35,16 +36,14 @@ fn main(rt: HostRuntime) -> io::Result<()> {
     print_rules(&mut out, &mut rt.stdin())
 }
 
-// Prints what a writer appends to an empty place.
-fn print_lines<W: Write, F: FnOnce(&mut [u8], usize) -> usize>(
-    out: &mut W,
-    write: F,
-) -> io::Result<()>
+// Prints what is written to an empty place.
+fn print_lines<W: Write, F: FnOnce(&mut Writer<'_>)>(out: &mut W, write: F) -> io::Result<()>
     requires { F.IsAlwaysCallable write }
 {
-    let mut lines = [0u8; 4096];
-    let n = write(&mut lines, 0);
-    out.write_all(text::part(&lines, 0, n))
+    let mut space = [0u8; 4096];
+    let mut lines = Writer::new(&mut space);
+    write(&mut lines);
+    out.write_all(lines.written())
 }
 
 fn print_verdicts<W: Write>(out: &mut W) -> io::Result<()> {
@@ -54,14 +53,14 @@ fn print_verdicts<W: Write>(out: &mut W) -> io::Result<()> {
         Verdict::Refused,
         Verdict::Open,
     ] {
-        print_lines(out, |lines, at| answer::write_verdict(verdict, lines, at))?;
+        print_lines(out, |lines| answer::write_verdict(verdict, lines))?;
         out.write_all(b"\n")?;
     }
     Ok(())
 }
 
 fn print_head<W: Write>(out: &mut W, outcome: Outcome) -> io::Result<()> {
-    print_lines(out, |lines, at| answer::write_head(outcome, lines, at))
+    print_lines(out, |lines| answer::write_head(outcome, lines))
 }
 
 fn print_refusals<W: Write>(out: &mut W) -> io::Result<()> {
@@ -83,7 +82,7 @@ fn print_refusals<W: Write>(out: &mut W) -> io::Result<()> {
         Refusal::ComparisonNotCountable,
         Refusal::IntegerTooLarge,
     ] {
-        print_head(out, Outcome::Refused(refusal))?;
+        print_head(out, Err(refusal))?;
     }
     Ok(())
 }
@@ -107,7 +106,7 @@ fn print_values<W: Write>(out: &mut W) -> io::Result<()> {
         Value::Diagnostics(1),
         Value::Diagnostics(10),
     ] {
-        print_head(out, Outcome::Given(value))?;
+        print_head(out, Ok(value))?;
     }
     Ok(())
 }
@@ -124,13 +123,13 @@ fn print_board<W: Write>(out: &mut W) -> io::Result<()> {
 // Prints the members of an image that passes the check.
 fn print_checked<W: Write>(out: &mut W, image: &[u8]) -> io::Result<()> {
     match board::check_image(image, ROWS) {
-        Check::Passed => {
+        Ok(()) => {
             print_members(out, image, Section::Components, Value::Components(14))?;
             print_members(out, image, Section::Features, Value::Features(10))?;
             print_members(out, image, Section::Diagnostics, Value::Diagnostics(3))?;
             print_member(out, image, Value::Count(1), 0)
         }
-        Check::Refused(r) => print_head(out, Outcome::Refused(r)),
+        Err(refusal) => print_head(out, Err(refusal)),
     }
 }
 
@@ -141,7 +140,7 @@ fn print_members<W: Write>(
     section: Section,
     value: Value,
 ) -> io::Result<()> {
-    print_head(out, Outcome::Given(value))?;
+    print_head(out, Ok(value))?;
     for index in 0..board::image::record_count(image, section) {
         print_member(out, image, value, index)?;
     }
@@ -150,9 +149,10 @@ fn print_members<W: Write>(
 
 // A member by its index, and of a component that has the same index if it is a feature.
 fn print_member<W: Write>(out: &mut W, image: &[u8], value: Value, index: u32) -> io::Result<()> {
-    print_lines(out, |lines, at| {
-        members::write_member(image, value, index, index, lines, at)
-    })
+    print_lines(
+        out,
+        |lines| members::write_member(image, value, index, index, lines),
+    )
 }
 
 // A board with a component of each category, a feature of each kind in each direction, and a diagnostic of each severity.
@@ -247,11 +247,13 @@ fn print_rule<W: Write>(out: &mut W, rule: &[u8]) -> io::Result<()> {
     let mut tree = [0; ROWS];
     let mut errors = [0; ROWS];
     match parser::parse_expr(rule, &mut tokens, &mut tree, &mut errors) {
-        Reading::Rows {
-            tokens: _,
-            tree: _,
-            errors: found,
-        } => {
+        Ok(
+            Rows {
+                tokens: _,
+                tree: _,
+                errors: found,
+            },
+        ) => {
             for row in rows::first::<4>(&errors, found) {
                 print_error(out, rule, row)?;
             }
@@ -260,22 +262,23 @@ fn print_rule<W: Write>(out: &mut W, rule: &[u8]) -> io::Result<()> {
             }
             Ok(())
         }
-        Reading::Refused(r) => print_head(out, Outcome::Refused(r)),
+        Err(refusal) => print_head(out, Err(refusal)),
     }
 }
 
 // Prints the rule that names members, on a line that is empty where there is none. The rows past the tree's are zeros, and no call's.
 fn print_witness<W: Write>(out: &mut W, rule: &[u8], tree: &[u32]) -> io::Result<()> {
-    print_lines(
-        out,
-        |lines, at| witness::write_witness(rule, tree, lines, at),
-    )?;
+    print_lines(out, |lines| witness::write_witness(rule, tree, lines))?;
     out.write_all(b"\n")
 }
 
 fn print_error<W: Write>(out: &mut W, rule: &[u8], row: &[u32; 4]) -> io::Result<()> {
     let [form, expected, first, end] = *row;
-    print_lines(out, |lines, at| {
-        error::write_error(rule, form, expected, first, end, lines, at)
-    })
+    let row = ErrorRow {
+        form,
+        expected,
+        first,
+        end,
+    };
+    print_lines(out, |lines| error::write_error(rule, row, lines))
 }
