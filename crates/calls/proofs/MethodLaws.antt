@@ -1,5 +1,5 @@
--- A word that is none of the first six methods', by its length or its first byte; and `features`, byte by byte. Assumes nothing.
-use mathlib.Core.Path.{◌≡◌, refl, ap}
+-- A word that is none of the first six methods', by its length or its first byte; and the longer methods, byte by byte. Assumes nothing.
+use mathlib.Core.Path.{◌≡◌, refl, ap, ◌∙◌}
 use mathlib.Core.Bool.{false, and-false}
 use mathlib.Core.List.{List, [], ◌∷◌}
 use Prim.Native.Nat.{ℕ, suc}
@@ -8,7 +8,7 @@ use lib.Dec.{eqb}
 use lib.ListN.{length, get_or}
 use borrow.Author.Tests.{ne_eqb}
 use Rattle.syntax.specs.Text.{same, ascii}
-use Rattle.meaning.specs.declared.Method.TheVariants.{Features, Diagnostics}
+use Rattle.meaning.specs.declared.Method.TheVariants.{Where, Count, Features, Diagnostics}
 use Rattle.meaning.specs.Pipeline.{method_of}
 
 -- texts of two lengths, and texts whose first bytes differ
@@ -50,7 +50,27 @@ unfolding method_of
 other_of_eight word l f =
     rw (lengths_differ word (ascii "where") (λ e. omega arith), lengths_differ word (ascii "all") (λ e. omega arith), lengths_differ word (ascii "any") (λ e. omega arith), lengths_differ word (ascii "none") (λ e. omega arith), lengths_differ word (ascii "count") (λ e. omega arith), firsts_differ word (ascii "features") f)
 
--- and it is the sixth by its bytes
+-- a text of five bytes
+of_five : (word : List ℕ) → length word ≡ 5 → word ≡ get_or word 0 0 ∷ get_or word 1 0 ∷ get_or word 2 0 ∷ get_or word 3 0 ∷ get_or word 4 0 ∷ []
+of_five (a ∷ b ∷ c ∷ d ∷ e ∷ []) l = refl
+of_five [] l = absurd (omega arith)
+of_five (a ∷ []) l = absurd (omega arith)
+of_five (a ∷ b ∷ []) l = absurd (omega arith)
+of_five (a ∷ b ∷ c ∷ []) l = absurd (omega arith)
+of_five (a ∷ b ∷ c ∷ d ∷ []) l = absurd (omega arith)
+of_five (a ∷ b ∷ c ∷ d ∷ e ∷ f ∷ word) l = absurd (omega arith)
+
+-- and it is `where`, `count` or `features` by its bytes
+pub is_where : (word : List ℕ) → length word ≡ 5
+    → get_or word 0 0 ≡ 119 → get_or word 1 0 ≡ 104 → get_or word 2 0 ≡ 101 → get_or word 3 0 ≡ 114 → get_or word 4 0 ≡ 101 → method_of word ≡ Where
+unfolding method_of
+is_where word l b0 b1 b2 b3 b4 = ap method_of (of_five word l) ∙ rw (b0, b1, b2, b3, b4) refl
+
+pub is_count : (word : List ℕ) → length word ≡ 5
+    → get_or word 0 0 ≡ 99 → get_or word 1 0 ≡ 111 → get_or word 2 0 ≡ 117 → get_or word 3 0 ≡ 110 → get_or word 4 0 ≡ 116 → method_of word ≡ Count
+unfolding method_of
+is_count word l b0 b1 b2 b3 b4 = ap method_of (of_five word l) ∙ rw (b0, b1, b2, b3, b4) refl
+
 pub is_features : (word : List ℕ) → length word ≡ 8
     → get_or word 0 0 ≡ 102 → get_or word 1 0 ≡ 101 → get_or word 2 0 ≡ 97 → get_or word 3 0 ≡ 116 → get_or word 4 0 ≡ 117 → get_or word 5 0 ≡ 114 → get_or word 6 0 ≡ 101 → get_or word 7 0 ≡ 115
     → method_of word ≡ Features
@@ -67,4 +87,4 @@ is_features (a ∷ b ∷ c ∷ d ∷ e ∷ f ∷ g ∷ []) l b0 b1 b2 b3 b4 b5 b
 is_features (a ∷ b ∷ c ∷ d ∷ e ∷ f ∷ g ∷ i ∷ j ∷ word) l b0 b1 b2 b3 b4 b5 b6 b7 = absurd (omega arith)
 
 -- what the proof of `method_of` tries
-pub ruleset words = (other_length, other_of_three, other_of_four, other_of_five, other_of_eight, is_features)
+pub ruleset words = (other_length, other_of_three, other_of_four, other_of_five, other_of_eight, is_where, is_count, is_features)

@@ -1,4 +1,4 @@
--- What a rule comes to and the verdict on it, as the code's enums. Assumes nothing: these are definitions.
+-- What a rule comes to and the verdict on it, as the code's types. Assumes nothing: these are definitions.
 use Rattle.std.specs.Prelude.{ℕ, Bool, true, false, length, Result, Ok, Err}
 use Rattle.syntax.specs.declared.refusal.Refusal.{Refusal}
 use Rattle.meaning.specs.Value as meaning
@@ -20,7 +20,7 @@ abbrev pub boolean_of : (value warned : Bool) → Value
 boolean_of value true = Value.BoolWithWarning value
 boolean_of value false = Value.Bool value
 
--- an outcome of the definitions as the code's enum
+-- an outcome of the definitions as the code's
 abbrev pub answer_of : meaning.Outcome → Outcome
 answer_of (meaning.collection sort members) = Ok (collection_of sort (length members))
 answer_of (meaning.boolean value warned) = Ok (boolean_of value warned)
