@@ -11,7 +11,8 @@ use board::image::Section;
 use instance;
 use matching::search;
 
-// The mark of a component that has the property, and of another that has the feature.
+// The mark of a component that has the property, and of another that has the feature. Marks are bytes, as the memory is that a caller lends
+// for them.
 const OF_PROPERTY: u8 = 1;
 
 const OF_FEATURE: u8 = 2;
