@@ -25,41 +25,44 @@ fn main(rt: HostRuntime) -> io::Result<()> {
     replay(&mut rt.stdout(), &input[..n])
 }
 
-// Runs the cases past the boards, and stops at one that is not in the format.
+// Runs the cases past the boards, and stops at one that is not in the format. One whose rule is cut short runs an empty rule first.
 fn replay<W: Write>(out: &mut W, input: &[u8]) -> io::Result<()> {
     let (count, boards) = cases::number(input);
-    let Some(runs) = past_boards(boards, count) else {
-        return writeln!(out, "not a case");
-    };
+    let runs = past_boards(input, boards, count);
     for (i, case) in Cases::<Case>::new(runs).enumerate() {
         let Some(case) = case else {
             return writeln!(out, "not a case");
         };
         let number = i + 1;
         writeln!(out, "case {number}")?;
-        let image = board(boards, case.board).unwrap_or(&[]);
-        run_case(out, image, case, number % 65536)?;
+        let image = text(past_boards(input, boards, case.board)).unwrap_or(&[]);
+        run_case(out, image, &case, number % 65536)?;
+        if case.rule.is_none() {
+            return writeln!(out, "not a case");
+        }
     }
     Ok(())
 }
 
-// What is left of the boards past the first n; none where there are fewer.
-fn past_boards(boards: &[u8], n: usize) -> Option<&[u8]> {
+// What is left of the input past the first n boards. Where one is cut short, the next is looked for from the input's beginning.
+fn past_boards<'a>(input: &'a [u8], boards: &'a [u8], n: usize) -> &'a [u8] {
     let mut rest = boards;
     for _ in 0..n {
-        let (_, after) = cases::text(rest)?;
-        rest = after;
+        rest = match cases::text(rest) {
+            Some((_, after)) => after,
+            None => input,
+        };
     }
-    Some(rest)
+    rest
 }
 
-// The image of a board by its index.
-fn board(boards: &[u8], index: usize) -> Option<&[u8]> {
-    let (image, _) = cases::text(past_boards(boards, index)?)?;
-    Some(image)
+// The text at the front of the input.
+fn text(input: &[u8]) -> Option<&[u8]> {
+    let (text, _) = cases::text(input)?;
+    Some(text)
 }
 
-// A rule, the index of its board, and the lengths of the tables that it runs with.
+// A rule, none if the file ends in it, the index of its board, and the lengths of the tables that it runs with.
 #[derive(Drop)]
 struct Case<'a> {
     board: usize,
@@ -67,18 +70,24 @@ struct Case<'a> {
     tree: usize,
     errors: usize,
     collection: usize,
-    rule: &'a [u8],
+    rule: Option<&'a [u8]>,
     ghost fits: { (tokens ≤ 1520) × (tree ≤ 16672) × (errors ≤ 16672) × (collection ≤ 12000) },
 }
 
 impl<'a> cases::Case<'a> for Case<'a> {
     fn read(input: &'a [u8]) -> Option<(Case<'a>, &'a [u8])> {
+        if input.is_empty() {
+            return None;
+        }
         let (board, rest) = cases::number(input);
         let (tokens, rest) = cases::number(rest);
         let (tree, rest) = cases::number(rest);
         let (errors, rest) = cases::number(rest);
         let (collection, rest) = cases::number(rest);
-        let (rule, rest) = cases::text(rest)?;
+        let (rule, rest) = match cases::text(rest) {
+            Some((rule, rest)) => (Some(rule), rest),
+            None => (None, &input[..0]),
+        };
         if TOKENS < tokens || ROWS < tree || ROWS < errors || COLLECTION < collection {
             return None;
         }
@@ -97,7 +106,7 @@ impl<'a> cases::Case<'a> for Case<'a> {
 }
 
 // Runs the rule on an image with tables of so many numbers.
-fn run_case<W: Write>(out: &mut W, image: &[u8], case: Case<'_>, seed: usize) -> io::Result<()>
+fn run_case<W: Write>(out: &mut W, image: &[u8], case: &Case<'_>, seed: usize) -> io::Result<()>
     requires { seed < 65536 }
 {
     let mut tokens = noise::table::<TOKENS>(seed);
@@ -106,7 +115,7 @@ fn run_case<W: Write>(out: &mut W, image: &[u8], case: Case<'_>, seed: usize) ->
     let mut collection = noise::table::<COLLECTION>(seed + 24);
     print_run(
         out,
-        case.rule,
+        case.rule.unwrap_or(&[]),
         image,
         &mut tokens[..case.tokens],
         &mut tree[..case.tree],
