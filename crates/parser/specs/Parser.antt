@@ -1,7 +1,9 @@
 -- What the parser's methods ask of a parser and leave in it. Assumes nothing: these are definitions.
-use Rattle.std.specs.Prelude.{◌≡◌, ℕ, ◌+◌, ◌-◌, ◌<◌, ◌≤◌, ◌^◌, List, length, drop}
+use Rattle.std.specs.Prelude.{◌≡◌, ℕ, ◌+◌, ◌-◌, ◌<◌, ◌≤◌, ◌^◌, List, [], ◌∷◌, length, drop}
+use Rattle.std.proofs.lemmas.List.Edits.{sets}
 use Rattle.lexer.specs.Lex.{Token, lex}
-use Rattle.trees.specs.Parse.{Parser, in_node}
+use Rattle.trees.specs.Parse.{Parser}
+use Rattle.trees.specs.Rows.{error_rows}
 use Rattle.trees.specs.Writing.{NoOpsFrom}
 use Rattle.trees.specs.Writing as tables
 use Rattle.parser.specs.declared.ExprParser.{ExprParser}
@@ -54,3 +56,11 @@ pub record Finished (s n : ExprParser) (row : ℕ) : Type 0 where
 pub record Inside (s : ExprParser) (row : ℕ) : Type 0 where
   pub room : row + 4 ≤ length s.tree.now
   pub level : 0 < s.level
+
+-- an error row was written: the first of the tokens us was found
+pub record Reported (s n : ExprParser) (form expected : ℕ) (us : List Token) : Type 0 where
+  pub keeps : Keeps s n
+  pub level : n.level ≡ s.level
+  pub tree : n.tree.now ≡ s.tree.now
+  pub at : n.at ≡ record { token = s.at.token; byte = s.at.byte; row = s.at.row; error = s.at.error + 4 }
+  pub errors : n.errors.now ≡ sets s.errors.now s.at.error (error_rows (length s.rule.now) (record { form = form; expected = expected; left = us } ∷ []))

@@ -3,14 +3,74 @@
 
 ghost use Rattle.std.specs.Prelude.{◌≡◌, List, [], ◌∷◌, ℕ, ◌+◌, ◌*◌, ◌≤◌, ◌<◌, ◌^◌, ◌&&◌, leb, length, drop};
 ghost use Rattle.std.proofs.lemmas.List.Edits.{sets};
+ghost use Rattle.syntax.specs.Kind.{NONE};
 ghost use Rattle.syntax.specs.Kinds.{number};
-ghost use Rattle.trees.specs.Look.{head_kind};
-ghost use Rattle.trees.specs.Parse.{Parser, in_node, next, eat_ws, bump, expect, ident_expr};
-ghost use Rattle.parser.specs.Parser.{left, Ready, Asks, Did, Started, Finished, Inside};
+ghost use Rattle.syntax.specs.Forms as forms;
+ghost use Rattle.syntax.specs.Text.{ascii};
+ghost use Rattle.lexer.specs.Lex.{lex, token_rows};
+ghost use Rattle.lexer.specs.Read.{check_rule};
+ghost use Rattle.trees.specs.Look.{skip_ws, tail_of, first_kind, current_text, at_kind, at_text, at_ident, peek_kind, at_message_dot, at_field, at_predicate_method, at_plain_method, is_comparison, has_count_compare_ahead, has_binary_op_at_level};
+ghost use Rattle.trees.specs.Parse.{Parser, in_node, next, next_is, fails, fails_ahead, eat_ws, bump, expect, expect_ident, literal, call_expr, ident_expr, contains_expr, compare_expr, simple_atom, predicate_args, no_args, no_method, parse_method, parse_dot_call, parse, OrExpr, OrRest, AndExpr, AndRest, Atom, Calls, parse_source, parse_pipeline, parse_pipeline_or_count_compare, remaining, left_over, parse_root};
+ghost use Rattle.trees.specs.Read.{check_tables, Reads};
+ghost use Rattle.trees.specs.Writing.{NoneFrom, NoOpsFrom};
+ghost use Rattle.trees.specs.Writing as tables;
+ghost use Rattle.parser.specs.Parser.{left, Ready, Asks, Did, Started, Inside, Finished, Reported};
 
+use reader::Reader;
+use syntax::form::Form;
 use syntax::kind::Kind;
-use trees::{Cursor, Ops};
+use syntax::refusal::Refusal;
+use trees::{Cursor, Ops, Reading, Rows};
 
+// Reads a rule that passes refusals 1 to 4 into the three tables; a refusal leaves them as they are.
+pub fn parse_expr(rule: &[u8], tokens: &mut [u32], tree: &mut [u32], errors: &mut [u32]) -> Reading
+    ensures { Reads (check_rule rule.now (length tokens.old) (length tree.old) (length errors.old)) rule.now tokens.old tokens.new tree.old tree.new errors.old errors.new result }
+{
+    lexer::check_rule(rule, tokens.len(), tree.len(), errors.len())?;
+    parse_rule(rule, tokens, tree, errors)
+}
+
+// Reads any bytes into the three tables. It refuses only what it has no room for, and then leaves the tables as they are.
+pub fn parse_rule(rule: &[u8], tokens: &mut [u32], tree: &mut [u32], errors: &mut [u32]) -> Reading
+    ensures { Reads (check_tables (length rule.now) (length tokens.old) (length tree.old) (length errors.old)) rule.now tokens.old tokens.new tree.old tree.new errors.old errors.new result }
+{
+    if lexer::limits::MAX_RULE < rule.len() {
+        return Err(Refusal::RuleTooLong);
+    }
+    if lexer::tables_short(rule.len(), tokens.len(), tree.len(), errors.len()) {
+        return Err(Refusal::TableTooShort);
+    }
+    let n = lexer::lex(rule, tokens)?;
+    let end = parse_tokens(rule, &tokens[..3 * n], tree, errors);
+    Ok(Rows {
+        tokens: n,
+        tree: end.row / 4,
+        errors: end.error / 4,
+    })
+}
+
+// Reads the token rows of a rule into the other two tables, and gives where it stands then.
+fn parse_tokens(rule: &[u8], tokens: &[u32], tree: &mut [u32], errors: &mut [u32]) -> Cursor
+    requires asks { tables.Asks (lex rule.now) tokens.now tree.old errors.old 0 START parse_root }
+    requires short { length rule.now < 2 ^ 32 }
+    ensures { tables.Did (lex rule.now) tree.old tree.new errors.old errors.new 0 START result parse_root }
+{
+    let ops = last_ops(rule, tokens);
+    let mut parser = ExprParser {
+        rule,
+        tokens,
+        tree,
+        errors,
+        level: 0,
+        at: START,
+        ops,
+    };
+    parser.parse_root();
+    parser.at
+}
+
+// The rule and its token rows, the two tables that are written, the level of the tree's next row, where the parser stands, and from where on
+// no `and` and no `or` comes.
 #[derive(Drop)]
 struct ExprParser<'a> {
     rule: &'a [u8],
@@ -22,15 +82,148 @@ struct ExprParser<'a> {
     ops: Ops,
 }
 
+// At the first token, and at the front of both tables.
+const START: Cursor = Cursor {
+    token: 0,
+    byte: 0,
+    row: 0,
+    error: 0,
+};
+
+fn last_ops(rule: &[u8], tokens: &[u32]) -> Ops
+    requires { tokens.now ≡ token_rows 0 (lex rule.now) }
+    ensures { NoOpsFrom (lex rule.now) result }
+{
+    Ops {
+        ands: past_last(rule, tokens, Kind::AndKw),
+        ors: past_last(rule, tokens, Kind::OrKw),
+    }
+}
+
+// The place past the last token of a kind, 0 where there is none: a scan for that kind can end there.
+fn past_last(rule: &[u8], tokens: &[u32], kind: Kind) -> usize
+    requires { tokens.now ≡ token_rows 0 (lex rule.now) }
+    ensures { NoneFrom (number kind) (lex rule.now) result }
+{
+    let wanted = u32::from(kind);
+    for i in (0..tokens.len() / 3).rev() {
+        if tokens[3 * i] == wanted {
+            return i + 1;
+        }
+    }
+    0
+}
+
+// A row of four numbers from `at` on.
+fn put_row(table: &mut [u32], at: usize, row: [u32; 4])
+    requires { at + 4 ≤ length table.old }
+    ensures { table.new ≡ sets table.old at row }
+{
+    table[at..at + 4].copy_from_slice(&row);
+}
+
+// `>= > <= < == !=`
+fn is_comparison(kind: Kind) -> bool
+    ensures { result ≡ is_comparison (number kind) }
+{
+    matches!(
+        kind,
+        Kind::Ge | Kind::Gt | Kind::Le | Kind::Lt | Kind::EqEq | Kind::Neq
+    )
+}
+
+// Token helpers.
 impl<'a> ExprParser<'a> {
-    // connected and components
-    fn ident_expr(&mut self)
-        requires { Asks self.old ident_expr }
-        ensures { Did self.old self.new ident_expr }
+    // A reader of the tokens that are left.
+    fn reader(&self) -> Reader<'a>
+        ensures { (result.rows ≡ self.now.tokens) × (result.place ≡ self.now.at.token) }
     {
-        let node = self.start_node(Kind::IdentExpr);
-        self.bump();
-        self.finish_node(node);
+        Reader::new(self.tokens, self.at.token)
+    }
+
+    // The kind of the first token that is no blank.
+    fn current_kind(&self) -> Option<u32>
+        requires { Ready self.now }
+        ensures { result ≡ first_kind (skip_ws (left self.now)) }
+    {
+        self.reader().current_kind()
+    }
+
+    // Its bytes; at the end of text it has none.
+    fn current_text(&self) -> &'a [u8]
+        requires { Ready self.now }
+        ensures { result.now ≡ current_text (left self.now) }
+    {
+        let Some(row) = self.reader().skip_ws().row() else {
+            return b"";
+        };
+        &self.rule[row.first as usize..row.end as usize]
+    }
+
+    fn at_kind(&self, kind: Kind) -> bool
+        requires { Ready self.now }
+        ensures { result ≡ at_kind (number kind) (left self.now) }
+    {
+        self.current_kind() == Some(u32::from(kind))
+    }
+
+    fn at_ident(&self, text: &[u8]) -> bool
+        requires { Ready self.now }
+        ensures { result ≡ at_ident text.now (left self.now) }
+    {
+        self.at_kind(Kind::Ident) && self.at_text(text)
+    }
+
+    fn at_text(&self, text: &[u8]) -> bool
+        requires { Ready self.now }
+        ensures { result ≡ at_text text.now (left self.now) }
+    {
+        self.current_text() == text
+    }
+
+    fn at_eof(&self) -> bool
+        requires { Ready self.now }
+        ensures { result ≡ at_kind NONE (left self.now) }
+    {
+        self.current_kind().is_none()
+    }
+
+    // `message` with a `.` after it: `peek_kind(1)`, the kind of the second token that is no blank, is asked.
+    fn at_message_dot(&self) -> bool
+        requires { Ready self.now }
+        ensures { result ≡ at_message_dot (left self.now) }
+    {
+        self.at_ident(b"message") && self.peek_kind() == Some(Kind::Dot as u32)
+    }
+
+    // The kind of the second token that is no blank.
+    fn peek_kind(&self) -> Option<u32>
+        requires { Ready self.now }
+        ensures { result ≡ first_kind (skip_ws (tail_of (skip_ws (left self.now)))) }
+    {
+        let current = self.reader().skip_ws();
+        Reader::new(self.tokens, current.place + 1).current_kind()
+    }
+
+    // Whether the next token is of this kind.
+    fn next_is(&self, kind: Kind) -> bool
+        requires { Ready self.now }
+        ensures { result ≡ next_is (number kind) (left self.now) }
+    {
+        self.reader().kind() == Some(u32::from(kind))
+    }
+}
+
+// Token consumption.
+impl ExprParser<'_> {
+    // The blanks that come next.
+    fn eat_ws(&mut self)
+        requires { Asks self.old eat_ws }
+        ensures { Did self.old self.new eat_ws }
+    {
+        while self.next_is(Kind::Whitespace) {
+            self.put_token();
+        }
     }
 
     // Blanks, and the token after them.
@@ -42,25 +235,40 @@ impl<'a> ExprParser<'a> {
         self.put_token();
     }
 
-    // The blanks that come next.
-    fn eat_ws(&mut self)
-        requires { Asks self.old eat_ws }
-        ensures { Did self.old self.new eat_ws }
+    // Blanks, and the token after them if it is of this kind, else an error.
+    fn expect(&mut self, kind: Kind)
+        requires { Asks self.old (expect (number kind)) }
+        ensures { Did self.old self.new (expect (number kind)) }
     {
-        while self.next_kind() == Some(Kind::Whitespace as u32) {
+        self.eat_ws();
+        if self.next_is(kind) {
             self.put_token();
+        } else {
+            self.fail(Form::Expect, u32::from(kind));
         }
     }
 
-    // The kind of the next token.
-    fn next_kind(&self) -> Option<u32>
-        requires { Ready self.now }
+    // Blanks, and this word after them, else an error.
+    fn expect_ident(&mut self, text: &[u8])
+        requires { Asks self.old (expect_ident text.now) }
+        ensures { Did self.old self.new (expect_ident text.now) }
     {
-        let i = self.at.token;
-        if 3 * i < self.tokens.len() {
-            return Some(self.tokens[3 * i]);
+        self.eat_ws();
+        if self.at_ident(text) {
+            self.put_token();
+        } else {
+            self.fail(Form::ExpectIdent, 0);
         }
-        None
+    }
+
+    // All tokens left.
+    fn take_remaining(&mut self)
+        requires { Asks self.old remaining }
+        ensures { Did self.old self.new remaining }
+    {
+        while self.reader().kind().is_some() {
+            self.put_token();
+        }
     }
 
     // The next token, as a leaf; at the end of text nothing.
@@ -68,31 +276,30 @@ impl<'a> ExprParser<'a> {
         requires { Asks self.old next }
         ensures { Did self.old self.new next }
     {
-        let i = self.at.token;
-        if self.tokens.len() <= 3 * i {
+        let Some(token) = self.reader().row() else {
             return;
-        }
-        let kind = self.tokens[3 * i];
-        let end = self.tokens[3 * i + 2];
-        put_row(self.tree, self.at.row, kind, self.level, self.at.byte, end);
-        self.at.token = i + 1;
-        self.at.byte = end;
+        };
+        let row = [token.kind, self.level, self.at.byte, token.end];
+        put_row(self.tree, self.at.row, row);
+        self.at.token += 1;
+        self.at.byte = token.end;
         self.at.row += 4;
     }
 
-    // A node's row, whose end `finish_node` sets; what follows stands inside it.
+    // A node's row, whose end `finish_node` sets; what comes next stands inside it.
     fn start_node(&mut self, kind: Kind) -> usize
         requires { (p : Parser) × Asks self.old (in_node (number kind) p) }
         ensures { Started self.old self.new (number kind) result }
     {
         let node = self.at.row;
-        put_row(self.tree, node, kind as u32, self.level, self.at.byte, self.at.byte);
+        let row = [kind as u32, self.level, self.at.byte, self.at.byte];
+        put_row(self.tree, node, row);
         self.at.row += 4;
         self.level += 1;
         node
     }
 
-    // Sets the end of a node, and steps out of it.
+    // Sets the end of the node whose row is `node`, and steps out of it.
     fn finish_node(&mut self, node: usize)
         requires { Inside self.old node }
         ensures { Finished self.old self.new node }
@@ -100,12 +307,422 @@ impl<'a> ExprParser<'a> {
         self.tree[node + 3] = self.at.byte;
         self.level -= 1;
     }
+
+    // An error at the next token, or at the end of text.
+    fn fail(&mut self, form: Form, expected: u32)
+        requires { Asks self.old (fails (forms.number form) expected) }
+        ensures { Did self.old self.new (fails (forms.number form) expected) }
+    {
+        self.put_error(form, expected, self.at.token);
+    }
+
+    // An error at the first token that is no blank, or at the end of text.
+    fn fail_ahead(&mut self, form: Form)
+        requires { Asks self.old (fails_ahead (forms.number form)) }
+        ensures { Did self.old self.new (fails_ahead (forms.number form)) }
+    {
+        let found = self.reader().skip_ws().place;
+        self.put_error(form, 0, found);
+    }
+
+    // An error row at the token `found`, or at the end of text.
+    fn put_error(&mut self, form: Form, expected: u32, found: usize)
+        requires ready { Ready self.old }
+        requires room { self.old.at.error + 4 ≤ length self.old.errors.now }
+        ensures { Reported self.old self.new (forms.number form) expected (drop found (lex self.old.rule.now)) }
+    {
+        let form = u32::from(form);
+        let end = self.rule.len() as u32;
+        let row = match Reader::new(self.tokens, found).row() {
+            Some(token) => [form, expected, token.first, token.end],
+            None => [form, expected, end, end],
+        };
+        put_row(self.errors, self.at.error, row);
+        self.at.error += 4;
+    }
 }
 
-// A row of four numbers from `at` on.
-fn put_row(table: &mut [u32], at: usize, a: u32, b: u32, c: u32, d: u32)
-    requires { at + 4 ≤ length table.old }
-    ensures { table.new ≡ sets table.old at (a ∷ b ∷ c ∷ d ∷ []) }
-{
-    table[at..at + 4].copy_from_slice(&[a, b, c, d]);
+// Grammar rules.
+impl ExprParser<'_> {
+    // The whole rule: a pipeline or a comparison, and what is left over.
+    fn parse_root(&mut self)
+        requires { Asks self.old parse_root }
+        ensures { Did self.old self.new parse_root }
+    {
+        let node = self.start_node(Kind::Root);
+        self.parse_pipeline_or_count_compare();
+        self.eat_ws();
+        self.left_over();
+        self.finish_node(node);
+    }
+
+    // Tokens left over: an error, and they stand in the root.
+    fn left_over(&mut self)
+        requires { Asks self.old left_over }
+        ensures { Did self.old self.new left_over }
+    {
+        if !self.at_eof() {
+            self.fail(Form::LeftOver, 0);
+            self.take_remaining();
+        }
+    }
+
+    // A pipeline, and an operator and an integer after it if the rule ends in them.
+    fn parse_pipeline_or_count_compare(&mut self)
+        requires { Asks self.old parse_pipeline_or_count_compare }
+        ensures { Did self.old self.new parse_pipeline_or_count_compare }
+    {
+        if self.has_count_compare_ahead() {
+            let node = self.start_node(Kind::CountCompareExpr);
+            self.parse_pipeline();
+            self.bump();
+            self.bump();
+            self.finish_node(node);
+        } else {
+            self.parse_pipeline();
+        }
+    }
+
+    // Whether the last two tokens that are no blanks are a comparison operator and an integer, looked for from the end.
+    fn has_count_compare_ahead(&self) -> bool
+        requires { Ready self.now }
+        ensures { result ≡ has_count_compare_ahead (left self.now) }
+    {
+        let mut integer = false;
+        for i in (self.at.token..self.tokens.len() / 3).rev() {
+            let kind = self.tokens[3 * i];
+            if kind == Kind::Whitespace as u32 {
+                continue;
+            }
+            if integer {
+                return Kind::try_from(kind).is_ok_and(is_comparison);
+            }
+            if kind != Kind::IntLit as u32 {
+                return false;
+            }
+            integer = true;
+        }
+        false
+    }
+
+    // pipeline = source ( '.' method )*
+    fn parse_pipeline(&mut self)
+        requires { Asks self.old parse_pipeline }
+        ensures { Did self.old self.new parse_pipeline }
+    {
+        let node = self.start_node(Kind::PipelineExpr);
+        self.parse_source();
+        self.parse_calls();
+        self.finish_node(node);
+    }
+
+    // source = 'components' | 'analysis' '(' STRING ')'
+    fn parse_source(&mut self)
+        requires { Asks self.old parse_source }
+        ensures { Did self.old self.new parse_source }
+    {
+        if self.at_ident(b"components") {
+            self.ident_expr();
+        } else if self.at_ident(b"analysis") {
+            self.call_expr();
+        } else {
+            self.fail_ahead(Form::Source);
+        }
+    }
+
+    // ( '.' method )*: the blanks after the last call stay in the pipeline.
+    fn parse_calls(&mut self)
+        requires { Asks self.old (parse Calls) }
+        ensures { Did self.old self.new (parse Calls) }
+    {
+        loop {
+            self.eat_ws();
+            if !self.at_kind(Kind::Dot) {
+                break;
+            }
+            self.parse_dot_call();
+        }
+    }
+
+    // dot_call = '.' ident [ '(' args ')' ]
+    fn parse_dot_call(&mut self)
+        requires { Asks self.old (parse_dot_call (parse OrExpr)) }
+        ensures { Did self.old self.new (parse_dot_call (parse OrExpr)) }
+    {
+        let node = self.start_node(Kind::DotCall);
+        self.expect(Kind::Dot);
+        self.parse_method();
+        self.finish_node(node);
+    }
+
+    // The method's name decides, whatever kind of token has it.
+    fn parse_method(&mut self)
+        requires { Asks self.old (parse_method (parse OrExpr)) }
+        ensures { Did self.old self.new (parse_method (parse OrExpr)) }
+    {
+        if self.at_predicate_method() {
+            self.bump();
+            self.predicate_args();
+        } else if self.at_text(b"count") {
+            self.bump();
+            self.no_args();
+        } else if self.at_plain_method() {
+            self.bump();
+        } else {
+            self.no_method();
+        }
+    }
+
+    fn at_predicate_method(&self) -> bool
+        requires { Ready self.now }
+        ensures { result ≡ at_predicate_method (left self.now) }
+    {
+        self.at_text(b"where") || self.at_text(b"all") || self.at_text(b"any") || self.at_text(b"none")
+    }
+
+    fn at_plain_method(&self) -> bool
+        requires { Ready self.now }
+        ensures { result ≡ at_plain_method (left self.now) }
+    {
+        self.at_text(b"features") || self.at_text(b"diagnostics")
+    }
+
+    // '(' or_expr ')'
+    fn predicate_args(&mut self)
+        requires { Asks self.old (predicate_args (parse OrExpr)) }
+        ensures { Did self.old self.new (predicate_args (parse OrExpr)) }
+    {
+        let node = self.start_node(Kind::CallArgs);
+        self.expect(Kind::LParen);
+        self.parse_or_expr();
+        self.expect(Kind::RParen);
+        self.finish_node(node);
+    }
+
+    // '(' ')'
+    fn no_args(&mut self)
+        requires { Asks self.old no_args }
+        ensures { Did self.old self.new no_args }
+    {
+        let node = self.start_node(Kind::CallArgs);
+        self.expect(Kind::LParen);
+        self.expect(Kind::RParen);
+        self.finish_node(node);
+    }
+
+    // No method: an error, and the next token is passed over. At the end of text nothing is taken, not even blanks.
+    fn no_method(&mut self)
+        requires { Asks self.old no_method }
+        ensures { Did self.old self.new no_method }
+    {
+        self.fail_ahead(Form::Method);
+        if !self.at_eof() {
+            self.bump();
+        }
+    }
+}
+
+// Boolean expression grammar.
+//
+// or_expr  = and_expr ( 'or' and_expr )*
+// and_expr = atom ( 'and' atom )*
+// atom     = 'not' atom
+//          | 'has' '(' STRING ')'
+//          | 'connected'
+//          | field '==' STRING
+//          | 'message' '.' 'contains' '(' STRING ')'
+//          | '(' or_expr ')'
+//
+// An operand alone is its own node; more than one stand in a BINARY_EXPR.
+impl ExprParser<'_> {
+    // A node only where an `or` stands ahead.
+    #[cycle(parse_or_expr)]
+    fn parse_or_expr(&mut self)
+        requires { Asks self.old (parse OrExpr) }
+        ensures { Did self.old self.new (parse OrExpr) }
+    {
+        if self.past_ops() {
+            return self.parse_atom();
+        }
+        let end = self.ops.ors;
+        if !self.has_binary_op_at_level(Kind::OrKw, end) {
+            return self.parse_and_expr();
+        }
+        let node = self.start_node(Kind::BinaryExpr);
+        self.parse_and_expr();
+        while self.at_kind(Kind::OrKw) {
+            self.bump();
+            self.parse_and_expr();
+        }
+        self.finish_node(node);
+    }
+
+    // Whether neither `and` nor `or` is left: an or_expr is then an atom.
+    fn past_ops(&self) -> bool
+        ensures { result ≡ leb self.now.ops.ors self.now.at.token && leb self.now.ops.ands self.now.at.token }
+    {
+        self.ops.ors <= self.at.token && self.ops.ands <= self.at.token
+    }
+
+    // A node only where an `and` stands ahead, even past an `or`.
+    #[cycle(parse_or_expr)]
+    fn parse_and_expr(&mut self)
+        requires { Asks self.old (parse AndExpr) }
+        ensures { Did self.old self.new (parse AndExpr) }
+    {
+        let end = self.ops.ands;
+        if !self.has_binary_op_at_level(Kind::AndKw, end) {
+            return self.parse_atom();
+        }
+        let node = self.start_node(Kind::BinaryExpr);
+        self.parse_atom();
+        while self.at_kind(Kind::AndKw) {
+            self.bump();
+            self.parse_atom();
+        }
+        self.finish_node(node);
+    }
+
+    // Whether `op` stands ahead outside brackets, before the bracket that closes this place and after something that is no blank. From the
+    // token at `end` on there is none.
+    fn has_binary_op_at_level(&self, op: Kind, end: usize) -> bool
+        requires ready { Ready self.now }
+        requires none_from { NoneFrom (number op) (lex self.now.rule.now) end }
+        ensures { result ≡ has_binary_op_at_level (number op) (left self.now) }
+    {
+        let wanted = u32::from(op);
+        let mut depth: usize = 0;
+        let mut found_first_atom = false;
+        for i in self.at.token..end {
+            let kind = self.tokens[3 * i];
+            if kind == Kind::Whitespace as u32 {
+                continue;
+            }
+            if kind == Kind::RParen as u32 {
+                if depth == 0 {
+                    return false;
+                }
+                depth -= 1;
+                continue;
+            }
+            if kind == Kind::LParen as u32 {
+                depth += 1;
+            } else if kind == wanted && depth == 0 && found_first_atom {
+                return true;
+            }
+            found_first_atom = true;
+        }
+        false
+    }
+
+    #[cycle(parse_or_expr)]
+    fn parse_atom(&mut self)
+        requires { Asks self.old (parse Atom) }
+        ensures { Did self.old self.new (parse Atom) }
+    {
+        self.eat_ws();
+        if self.at_kind(Kind::NotKw) {
+            let node = self.start_node(Kind::UnaryExpr);
+            self.bump();
+            self.parse_atom();
+            self.finish_node(node);
+        } else if self.at_kind(Kind::LParen) {
+            let node = self.start_node(Kind::ParenExpr);
+            self.bump();
+            self.parse_or_expr();
+            self.expect(Kind::RParen);
+            self.finish_node(node);
+        } else {
+            self.simple_atom();
+        }
+    }
+
+    // 'has' '(' STRING ')' | 'connected' | 'message' '.' 'contains' '(' STRING ')' | field '==' STRING
+    fn simple_atom(&mut self)
+        requires { Asks self.old simple_atom }
+        ensures { Did self.old self.new simple_atom }
+    {
+        if self.at_ident(b"has") {
+            self.call_expr();
+        } else if self.at_ident(b"connected") {
+            self.ident_expr();
+        } else if self.at_message_dot() {
+            self.contains_expr();
+        } else if self.at_field() {
+            self.compare_expr();
+        } else {
+            self.fail_ahead(Form::Atom);
+        }
+    }
+
+    fn at_field(&self) -> bool
+        requires { Ready self.now }
+        ensures { result ≡ at_field (left self.now) }
+    {
+        self.at_ident(b"category")
+            || self.at_ident(b"kind")
+            || self.at_ident(b"direction")
+            || self.at_ident(b"severity")
+            || self.at_ident(b"message")
+    }
+
+    // has('..') and analysis('..')
+    fn call_expr(&mut self)
+        requires { Asks self.old call_expr }
+        ensures { Did self.old self.new call_expr }
+    {
+        let node = self.start_node(Kind::CallExpr);
+        self.bump();
+        self.expect(Kind::LParen);
+        self.literal();
+        self.expect(Kind::RParen);
+        self.finish_node(node);
+    }
+
+    // connected and components
+    fn ident_expr(&mut self)
+        requires { Asks self.old ident_expr }
+        ensures { Did self.old self.new ident_expr }
+    {
+        let node = self.start_node(Kind::IdentExpr);
+        self.bump();
+        self.finish_node(node);
+    }
+
+    // message.contains('..')
+    fn contains_expr(&mut self)
+        requires { Asks self.old contains_expr }
+        ensures { Did self.old self.new contains_expr }
+    {
+        let node = self.start_node(Kind::ContainsExpr);
+        self.bump();
+        self.expect(Kind::Dot);
+        self.expect_ident(b"contains");
+        self.expect(Kind::LParen);
+        self.literal();
+        self.expect(Kind::RParen);
+        self.finish_node(node);
+    }
+
+    // field == '..'
+    fn compare_expr(&mut self)
+        requires { Asks self.old compare_expr }
+        ensures { Did self.old self.new compare_expr }
+    {
+        let node = self.start_node(Kind::CompareExpr);
+        self.bump();
+        self.expect(Kind::EqEq);
+        self.literal();
+        self.finish_node(node);
+    }
+
+    // A string literal as a node; blanks before it are inside, even where it is missing.
+    fn literal(&mut self)
+        requires { Asks self.old literal }
+        ensures { Did self.old self.new literal }
+    {
+        let node = self.start_node(Kind::Literal);
+        self.expect(Kind::StringLit);
+        self.finish_node(node);
+    }
 }

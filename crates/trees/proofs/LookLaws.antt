@@ -1,14 +1,14 @@
 -- Looks ahead and blanks, token by token, and the loops over them. Assumes nothing.
 use mathlib.Core.Path.{◌≡◌, refl, sym, ap, ◌∙◌}
 use mathlib.Core.List.{List, [], ◌∷◌}
-use mathlib.Core.Bool.{Bool, true, false, ◌&&◌, and-true, and-false}
+use mathlib.Core.Bool.{Bool, true, false, ◌&&◌, and-true, and-false, false≢true}
 use Prim.Native.Nat.{ℕ, zero, suc, ◌+◌, ◌*◌, ◌-◌, ◌≤◌, ◌<◌}
 use native.Mathlib.Omega.{arith}
 use borrow.Author.Tests.{eq-eqb, ne_eqb, eqb-true, eqb-false}
 use lib.Dec.{eqb}
 use lib.ListN.{length, drop, get_or, length-drop, drop_of_length-le}
 use lib.Seq.{drop-drop}
-use Rattle.std.specs.Prelude.{Some, is_none}
+use Rattle.std.specs.Prelude.{Some, is_some, not}
 use Rattle.std.specs.Option.{option_eq}
 use Rattle.syntax.specs.Kinds.{number}
 use Rattle.syntax.specs.declared.kind.Kind.{Kind}
@@ -276,7 +276,7 @@ none_back {k} {ts = ts} {i = i} e b h n =
 -- ---- tests of the code as tests of the definitions
 
 -- so a test for a kind fails at the end of text
-head_test : (k : ℕ) → k < NONE → (us : List Token) → option_eq eqb (first_kind us) (Some k) ≡ eqb (head_kind us) k
+pub head_test : (k : ℕ) → k < NONE → (us : List Token) → option_eq eqb (first_kind us) (Some k) ≡ eqb (head_kind us) k
 head_test k h [] = sym (ne_eqb NONE k (λ e. omega arith))
 head_test k h (u ∷ us) = refl
 
@@ -289,12 +289,26 @@ module _ (k : Kind) (ts : List Token) where
   unfolding next_is
   next_test = head_test (number k) (kind_named k) ts
 
+-- a token that has a kind is there
+pub some_there : (us : List Token) → is_some (first_kind us) ≡ true → 0 < length us
+some_there [] e = absurd (false≢true e)
+some_there (u ∷ us) e = omega arith
+
+pub none_there : (us : List Token) → is_some (first_kind us) ≡ false → length us ≤ 0
+none_there [] e = omega arith
+none_there (u ∷ us) e = absurd (false≢true (sym e))
+
 -- and the test for the end passes nowhere else in a rule, whose tokens are of kinds
-pub end_test : (rule : List ℕ) (i : ℕ) → is_none (first_kind (skip_ws (drop i (lex rule)))) ≡ at_kind NONE (drop i (lex rule))
+pub end_test : (rule : List ℕ) (i : ℕ) {r : Bool} → is_some (first_kind (skip_ws (drop i (lex rule)))) ≡ not r → r ≡ at_kind NONE (drop i (lex rule))
 unfolding at_kind Kinds
-end_test rule i = go (skip_ws (drop i (lex rule))) (kinds_skip (drop i (lex rule)) (kinds_drop i (lex rule) (kinds_lex rule)))
+end_test rule i {r} e =
+    let us = skip_ws (drop i (lex rule)) in
+    other (is_some (first_kind us)) r e ∙ go us (kinds_skip (drop i (lex rule)) (kinds_drop i (lex rule) (kinds_lex rule)))
   where
-    go : (us : List Token) → Kinds us → is_none (first_kind us) ≡ eqb (head_kind us) NONE
+    other : (a r : Bool) → a ≡ not r → r ≡ not a
+    other a true e = rw e
+    other a false e = rw e
+    go : (us : List Token) → Kinds us → not (is_some (first_kind us)) ≡ eqb (head_kind us) NONE
     go [] k = refl
     go (u ∷ us) k = sym (ne_eqb u.kind NONE (λ e. let h = k.0 in omega arith))
 

@@ -3,10 +3,11 @@ use mathlib.Core.Path.{◌≡◌, refl, sym, ap, ◌∙◌}
 use mathlib.Core.List.{List, [], ◌∷◌}
 use mathlib.Core.Bool.{true, false}
 use Prim.Native.Nat.{ℕ, zero, suc, ◌+◌, ◌*◌, ◌-◌, ◌≤◌, ◌<◌}
+use native.Mathlib.Numerals.{add-one}
 use native.Mathlib.Omega.{arith}
 use borrow.Author.Tests.{eq-eqb, ne_eqb, eqb-true, eqb-false, ltb-true, ltb-false}
 use lib.Dec.{eqb, ltb}
-use lib.ListN.{length, take, drop, get_or}
+use lib.ListN.{length, take, drop, get_or, drop_of_length-le}
 use Rattle.std.specs.Prelude.{Option, Some, None}
 use Rattle.syntax.specs.Kind.{WHITESPACE}
 use Rattle.syntax.proofs.BoolLaws.{whether}
@@ -16,7 +17,7 @@ use Rattle.reader.specs.Reader.{rows_of, row_at, kind_at, blanks, past_ws}
 use Rattle.reader.specs.Reader as reader
 use Rattle.reader.proofs.ReaderLaws.{row_here, row_some, row_none}
 use Rattle.trees.specs.Green.{width}
-use Rattle.trees.specs.Look.{skip_ws, first_kind}
+use Rattle.trees.specs.Look.{skip_ws, first_kind, tail_of}
 use Rattle.trees.proofs.TokenLaws as tokens
 
 -- ---- past blanks
@@ -30,14 +31,29 @@ skip_rows at (t ∷ ts) =
     (λ y. rw (y, skip_ws, blanks) (r.0, omega (arith, r.1)))
     (λ n. rw (n, skip_ws, blanks) (refl, omega arith))
 
-past_rows : (at : ℕ) (ts : List Token) (i : ℕ) → i ≤ length ts → let n = i + blanks (drop i (rows_of (token_rows at ts))) in (drop n ts ≡ skip_ws (drop i ts)) × (n ≤ length ts)
+past_rows : (at : ℕ) (ts : List Token) (i : ℕ) → drop (i + blanks (drop i (rows_of (token_rows at ts)))) ts ≡ skip_ws (drop i ts)
+unfolding token_rows rows_of blanks skip_ws
+past_rows at ts zero = ap (λ (n : ℕ). drop n ts) (omega arith) ∙ (skip_rows at ts).0
+past_rows at [] (suc i) = drop_of_length-le [] {i = suc i + 0} (omega arith)
+past_rows at (t ∷ ts) (suc i) =
+    let n = blanks (drop i (rows_of (token_rows (at + length t.text) ts))) in
+    let e : suc i + n ≡ suc (i + n) = omega arith in
+    ap (λ (m : ℕ). drop m (t ∷ ts)) e ∙ past_rows (at + length t.text) ts i
+
+rows_within : (at : ℕ) (ts : List Token) (i : ℕ) → i ≤ length ts → i + blanks (drop i (rows_of (token_rows at ts))) ≤ length ts
 unfolding token_rows rows_of
-past_rows at ts zero h = let r = skip_rows at ts in (ap (λ (n : ℕ). drop n ts) (omega arith) ∙ r.0, omega (arith, r.1))
-past_rows at [] (suc i) h = absurd (omega arith)
-past_rows at (t ∷ ts) (suc i) h =
-    let r = past_rows (at + length t.text) ts i (omega arith) in
-    let e : suc i + blanks (drop i (rows_of (token_rows (at + length t.text) ts))) ≡ suc (i + blanks (drop i (rows_of (token_rows (at + length t.text) ts)))) = omega arith in
-    (ap (λ (n : ℕ). drop n (t ∷ ts)) e ∙ r.0, omega (arith, r.1))
+rows_within at ts zero h = omega (arith, (skip_rows at ts).1)
+rows_within at [] (suc i) h = absurd (omega arith)
+rows_within at (t ∷ ts) (suc i) h = omega (arith, rows_within (at + length t.text) ts i (omega arith))
+
+pub tail_drop : (ts : List Token) (i : ℕ) → drop (i + 1) ts ≡ tail_of (drop i ts)
+tail_drop ts i = rw add-one (go ts i)
+  where
+    go : (us : List Token) (i : ℕ) → drop (suc i) us ≡ tail_of (drop i us)
+    go [] zero = refl
+    go [] (suc i) = refl
+    go (u ∷ us) zero = refl
+    go (u ∷ us) (suc i) = go us i
 
 kind_rows : (at : ℕ) (ts : List Token) (i : ℕ) → kind_at (token_rows at ts) i ≡ first_kind (drop i ts)
 unfolding kind_at row_at rows_of token_rows
@@ -50,18 +66,17 @@ module _ (ts : List Token) {rows : List ℕ} (e : rows ≡ token_rows 0 ts) (i :
   pub kind_is : kind_at rows i ≡ first_kind (drop i ts)
   kind_is = rw e (kind_rows 0 ts i)
 
-  module _ (h : i ≤ length ts) where
-    pub past_here : drop (past_ws rows i) ts ≡ skip_ws (drop i ts)
-    unfolding past_ws
-    past_here = rw e (past_rows 0 ts i h).0
+  pub past_here : drop (past_ws rows i) ts ≡ skip_ws (drop i ts)
+  unfolding past_ws
+  past_here = rw e (past_rows 0 ts i)
 
-    pub past_within : past_ws rows i ≤ length ts
-    unfolding past_ws
-    past_within = rw e (past_rows 0 ts i h).1
+  pub past_within : i ≤ length ts → past_ws rows i ≤ length ts
+  unfolding past_ws
+  past_within h = rw e (rows_within 0 ts i h)
 
-    pub current_is : reader.current_kind rows i ≡ first_kind (skip_ws (drop i ts))
-    unfolding reader.current_kind
-    current_is = rw e (kind_rows 0 ts (past_ws (token_rows 0 ts) i) ∙ ap first_kind (rw e at past_here))
+  pub current_is : reader.current_kind rows i ≡ first_kind (skip_ws (drop i ts))
+  unfolding reader.current_kind
+  current_is = rw e (kind_rows 0 ts (past_ws (token_rows 0 ts) i) ∙ ap first_kind (rw e at past_here))
 
 -- ---- the row of a token
 

@@ -1,0 +1,11 @@
+-- `current_kind` is what the reader finds. Assumes nothing.
+use mathlib.Core.Path.{◌≡◌, refl, sym, ap, ◌∙◌}
+use mathlib.Core.List.{List, [], ◌∷◌}
+use native.Mathlib.Omega.{arith}
+use Rattle.std.proofs.Common.{rules}
+use Rattle.lexer.specs.Lex.{lex}
+use Rattle.parser.proofs.ParserLaws.{current_here}
+use Rattle.parser.proofs.ExprParser.current_kind.Goals as goal
+
+pub returns : goal.returns
+returns c = (rw (c.reader.ensures.0, c.reader.ensures.1) at c.current_kind.ensures) ∙ current_here c.requires

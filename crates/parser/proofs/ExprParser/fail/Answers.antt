@@ -1,0 +1,14 @@
+-- `fail` writes an error at the next token. Assumes nothing.
+use mathlib.Core.Path.{◌≡◌, refl, sym, ap, ◌∙◌}
+use mathlib.Core.List.{List, [], ◌∷◌}
+use native.Mathlib.Omega.{arith}
+use Rattle.std.proofs.Common.{rules}
+use Rattle.lexer.specs.Lex.{lex}
+use Rattle.parser.proofs.ParserLaws.{fail_room, did_fail}
+use Rattle.parser.proofs.ExprParser.fail.Goals as goal
+
+pub put_error-requires-clause-room : goal.put_error-requires-clause-room
+put_error-requires-clause-room c = fail_room _ _ c.requires
+
+pub returns : goal.returns
+returns c = did_fail _ _ c.requires.ready c.put_error.ensures

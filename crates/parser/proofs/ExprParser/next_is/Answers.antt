@@ -1,0 +1,12 @@
+-- `next_is` is a test for a kind. Assumes nothing.
+use mathlib.Core.Path.{◌≡◌, refl, sym, ap, ◌∙◌}
+use mathlib.Core.List.{List, [], ◌∷◌}
+use native.Mathlib.Omega.{arith}
+use Rattle.std.proofs.Common.{rules}
+use Rattle.lexer.specs.Lex.{lex}
+use Rattle.trees.proofs.LookLaws.{next_test}
+use Rattle.parser.proofs.ParserLaws.{next_here}
+use Rattle.parser.proofs.ExprParser.next_is.Goals as goal
+
+pub returns : goal.returns
+returns c = c.eq.ensures ∙ rw (rw (c.reader.ensures.0, c.reader.ensures.1) at c.kind.ensures, next_here c.requires, c.from.ensures) (next_test c.args.kind _)
