@@ -477,7 +477,10 @@ impl ExprParser<'_> {
         requires { Ready self.now }
         ensures { result ≡ at_predicate_method (left self.now) }
     {
-        self.at_text(b"where") || self.at_text(b"all") || self.at_text(b"any") || self.at_text(b"none")
+        self.at_text(b"where")
+            || self.at_text(b"all")
+            || self.at_text(b"any")
+            || self.at_text(b"none")
     }
 
     fn at_plain_method(&self) -> bool
@@ -495,7 +498,7 @@ impl ExprParser<'_> {
         let node = self.start_node(Kind::CallArgs);
         self.expect(Kind::LParen);
         self.parse_or_expr();
-        self.expect(Kind::RParen);
+        self.expect(Kind::RParen); // The bracket that closes the call.
         self.finish_node(node);
     }
 

@@ -1,5 +1,5 @@
 -- The row at a place as the numbers have it, and blanks passed one by one. Assumes nothing.
-use mathlib.Core.Path.{◌≡◌, refl, sym, ap, ◌∙◌}
+use mathlib.Core.Path.{◌≡◌, refl, sym, ap}
 use mathlib.Core.Bool.{true, false}
 use mathlib.Core.List.{List, [], ◌∷◌}
 use Prim.Native.Nat.{ℕ, zero, suc, ◌+◌, ◌*◌, ◌≤◌, ◌<◌}
@@ -13,7 +13,7 @@ use Rattle.std.specs.Option.{option_map, option_eq}
 use Rattle.syntax.specs.Kind.{WHITESPACE}
 use Rattle.syntax.proofs.BoolLaws.{whether}
 use Rattle.reader.specs.declared.Row.{Row}
-use Rattle.reader.specs.Reader.{rows_of, row_at, kind_at, blanks, past_ws, current_kind}
+use Rattle.reader.specs.Reader.{rows_of, row_at, kind_at, blanks, past_ws}
 
 -- the row at a place: three numbers
 abbrev pub row_here : List ℕ → ℕ → Row

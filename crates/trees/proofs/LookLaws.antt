@@ -6,18 +6,17 @@ use Prim.Native.Nat.{ℕ, zero, suc, ◌+◌, ◌*◌, ◌-◌, ◌≤◌, ◌<�
 use native.Mathlib.Omega.{arith}
 use borrow.Author.Tests.{eq-eqb, ne_eqb, eqb-true, eqb-false}
 use lib.Dec.{eqb}
-use lib.ListN.{length, drop, get_or, length-drop, drop_of_length-le}
+use lib.ListN.{length, drop, get_or, drop_of_length-le}
 use lib.Seq.{drop-drop}
 use Rattle.std.specs.Prelude.{Some, is_some, not}
 use Rattle.std.specs.Option.{option_eq}
 use Rattle.syntax.specs.Kinds.{number}
 use Rattle.syntax.specs.declared.kind.Kind.{Kind}
 use Rattle.syntax.specs.Kind.{WHITESPACE, L_PAREN, R_PAREN, INT_LIT, NONE}
-use Rattle.syntax.proofs.BoolLaws.{whether}
 use Rattle.lexer.specs.Lex.{Token, lex, token_rows}
 use Rattle.trees.specs.Look.{skip_ws, head_kind, first_kind, at_kind, is_comparison, ends_in_comparison, has_count_compare_ahead, op_ahead, has_binary_op_at_level}
 use Rattle.trees.specs.Green.{size}
-use Rattle.trees.specs.Parse.{Parser, done, next, fails, fails_ahead, ◌▹◌, eat_ws, next_is, remaining}
+use Rattle.trees.specs.Parse.{done, next, fails, fails_ahead, ◌▹◌, eat_ws, next_is, remaining}
 use Rattle.trees.specs.Writing.{Ready, Fits, Asks, Without, none, more, NoneFrom}
 use Rattle.trees.specs.declared.Cursor.{Cursor}
 use Rattle.trees.proofs.TokenLaws.{Row, row_in, rows_length, table_length}
@@ -308,6 +307,7 @@ end_test rule i {r} e =
     other : (a r : Bool) → a ≡ not r → r ≡ not a
     other a true e = rw e
     other a false e = rw e
+
     go : (us : List Token) → Kinds us → not (is_some (first_kind us)) ≡ eqb (head_kind us) NONE
     go [] k = refl
     go (u ∷ us) k = sym (ne_eqb u.kind NONE (λ e. let h = k.0 in omega arith))

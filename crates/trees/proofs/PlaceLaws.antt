@@ -1,11 +1,10 @@
 -- What a reader finds in the token rows of a rule. Assumes nothing.
 use mathlib.Core.Path.{◌≡◌, refl, sym, ap, ◌∙◌}
 use mathlib.Core.List.{List, [], ◌∷◌}
-use mathlib.Core.Bool.{true, false}
 use Prim.Native.Nat.{ℕ, zero, suc, ◌+◌, ◌*◌, ◌-◌, ◌≤◌, ◌<◌}
 use native.Mathlib.Numerals.{add-one}
 use native.Mathlib.Omega.{arith}
-use borrow.Author.Tests.{eq-eqb, ne_eqb, eqb-true, eqb-false, ltb-true, ltb-false}
+use borrow.Author.Tests.{ltb-true, ltb-false}
 use lib.Dec.{eqb, ltb}
 use lib.ListN.{length, take, drop, get_or, drop_of_length-le}
 use Rattle.std.specs.Prelude.{Option, Some, None}
@@ -103,19 +102,19 @@ module _ (rule : List ℕ) {rows : List ℕ} (e : rows ≡ token_rows 0 (lex rul
       whether (ltb (length rows) (3 * i + 3))
       (λ t. let q : ◌≡◌ {A = Option Row} (Some r) None = s ∙ sym (row_none rows i (ltb-true _ _ t)) in absurd (cc))
       (λ t.
-        let q : ◌≡◌ {A = Option Row} (Some r) (Some (row_here rows i)) = s ∙ sym (row_some rows i (ltb-false _ _ t)) in
-        let same : r ≡ row_here rows i = cc in
-        let w = tokens.row_in (lex rule) e i (omega (arith, ltb-false _ _ t)) in
-        let first : get_or rows (3 * i + 1) 0 ≡ width (take i (lex rule)) = omega (arith, w.first) in
-        let long : get_or rows (3 * i + 2) 0 - get_or rows (3 * i + 1) 0 ≡ length w.token.text = omega (arith, w.first, w.end) in
-        rw same (record {
-          token = w.token;
-          here = w.here;
-          before = omega (arith, tokens.rows_length (lex rule) e, ltb-false _ _ t);
-          kind = w.kind;
-          first = first;
-          end = omega (arith, w.first, w.end);
-          next = omega (arith, w.next, w.end);
-          within = omega (arith, w.end, tokens.text_within rule w);
-          text = rw (long, first) (tokens.text_part rule w);
-        }))
+      let q : ◌≡◌ {A = Option Row} (Some r) (Some (row_here rows i)) = s ∙ sym (row_some rows i (ltb-false _ _ t)) in
+      let same : r ≡ row_here rows i = cc in
+      let w = tokens.row_in (lex rule) e i (omega (arith, ltb-false _ _ t)) in
+      let first : get_or rows (3 * i + 1) 0 ≡ width (take i (lex rule)) = omega (arith, w.first) in
+      let long : get_or rows (3 * i + 2) 0 - get_or rows (3 * i + 1) 0 ≡ length w.token.text = omega (arith, w.first, w.end) in
+      rw same (record {
+        token = w.token;
+        here = w.here;
+        before = omega (arith, tokens.rows_length (lex rule) e, ltb-false _ _ t);
+        kind = w.kind;
+        first = first;
+        end = omega (arith, w.first, w.end);
+        next = omega (arith, w.next, w.end);
+        within = omega (arith, w.end, tokens.text_within rule w);
+        text = rw (long, first) (tokens.text_part rule w);
+      }))

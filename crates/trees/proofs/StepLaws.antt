@@ -4,7 +4,7 @@ use mathlib.Core.List.{List, [], ◌∷◌}
 use mathlib.Core.Bool.{Bool, true}
 use Prim.Native.Nat.{ℕ, zero, suc, ◌+◌, ◌*◌, ◌≤◌, ◌<◌}
 use native.Mathlib.Omega.{arith}
-use borrow.Author.Tests.{eqb-true, eq-eqb}
+use borrow.Author.Tests.{eqb-true}
 use lib.Dec.{eqb}
 use lib.ListN.{length, drop, length-append, length-drop}
 use Rattle.syntax.specs.Kind.{DOT, L_PAREN, R_PAREN, AND_KW, OR_KW, NOT_KW, BINARY_EXPR, UNARY_EXPR, PAREN_EXPR, DOT_CALL, CALL_ARGS, NONE}

@@ -3,10 +3,10 @@
 use mathlib.Core.Path.{◌≡◌, refl, sym, ap, ◌∙◌, subst}
 use mathlib.Core.List.{List, [], ◌∷◌, append-nil}
 use mathlib.Core.Bool.{Bool, true, false}
-use Prim.Native.Nat.{ℕ, suc, ◌+◌, ◌*◌, ◌-◌, ◌<◌, ◌≤◌, ◌^◌, max}
+use Prim.Native.Nat.{ℕ, suc, ◌+◌, ◌-◌, ◌<◌, ◌≤◌, ◌^◌, max}
 use native.Mathlib.Numerals.{towards_suc}
 use native.Mathlib.Omega.{arith}
-use lib.ListN.{length, drop, set, get_or, length-append, length-set}
+use lib.ListN.{length, drop, set, length-append}
 use lib.Seq.{sets, set-set, set_comm, length-sets}
 use Rattle.syntax.proofs.TableLaws.{sets_append}
 use Rattle.lexer.specs.Lex.{Token, lex}
@@ -270,14 +270,6 @@ module _ {ts : List Token} {tokens t e : List ℕ} {l : ℕ} {c : Cursor} (k : �
 pub started_long : {t₀ t₁ : List ℕ} {k l : ℕ} {c d : Cursor} → Started t₀ t₁ k l c d → length t₁ ≡ length t₀
 started_long o = ap length o.tree ∙ simp length-sets
 
-pub finished_long : {t₀ t₁ : List ℕ} {at : ℕ} {r s : Cursor} → Finished t₀ t₁ at r s → length t₁ ≡ length t₀
-finished_long f = ap length f.tree ∙ simp length-set
-
--- room to set the node's end after what is inside was written
-pub finish_room : {ts : List Token} {t₀ t₁ t₂ e₀ e₁ : List ℕ} {k l m : ℕ} {c d r : Cursor} {p : Parser}
-    → c.row + 4 ≤ length t₀ → Started t₀ t₁ k l c d → Did ts t₁ t₂ e₀ e₁ m d r p → c.row + 4 ≤ length t₂
-finish_room h o a = omega (arith, started_long o, tree_long a)
-
 -- ---- a choice, and a definition for another that reads alike
 
 module _ (test : List Token → Bool) (p q : Parser) (ts : List Token) where
@@ -305,25 +297,8 @@ pub did_meet : {ts : List Token} {t₀ t₁ t₂ e₀ e₁ e₂ : List ℕ} {l :
     → Did ts t₀ t₁ e₀ e₁ l c r p
 did_meet t e q a = rw (t, e, q) a
 
-module _ {ts : List Token} {tokens t es : List ℕ} {l : ℕ} {c : Cursor} (test : List Token → Bool) (p q : Parser) where
-  pub asks_true : test (drop c.token ts) ≡ true → Asks ts tokens t es l c (choose test p q) → Asks ts tokens t es l c p
-  asks_true e f = asks_as (choose_true test p q (drop c.token ts) e) f
-
-  pub asks_false : test (drop c.token ts) ≡ false → Asks ts tokens t es l c (choose test p q) → Asks ts tokens t es l c q
-  asks_false e f = asks_as (choose_false test p q (drop c.token ts) e) f
-
-module _ {ts : List Token} {t₀ t₁ e₀ e₁ : List ℕ} {l : ℕ} {c r : Cursor} (test : List Token → Bool) (p q : Parser) where
-  pub did_true : test (drop c.token ts) ≡ true → Did ts t₀ t₁ e₀ e₁ l c r p → Did ts t₀ t₁ e₀ e₁ l c r (choose test p q)
-  did_true e a = did_as (choose_true test p q (drop c.token ts) e) a
-
-  pub did_false : test (drop c.token ts) ≡ false → Did ts t₀ t₁ e₀ e₁ l c r q → Did ts t₀ t₁ e₀ e₁ l c r (choose test p q)
-  did_false e a = did_as (choose_false test p q (drop c.token ts) e) a
-
 -- one definition for another that is the same
 module _ {p q : Parser} (e : p ≡ q) where
-  pub fits_is : {ts : List Token} {tokens t : List ℕ} {c : Cursor} → Fits ts tokens t c p → Fits ts tokens t c q
-  fits_is {ts} {tokens} {t} {c} f = subst (λ (x : Parser). Fits ts tokens t c x) e f
-
   pub asks_is : {ts : List Token} {tokens t es : List ℕ} {l : ℕ} {c : Cursor} → Asks ts tokens t es l c p → Asks ts tokens t es l c q
   asks_is {ts} {tokens} {t} {es} {l} {c} f = subst (λ (x : Parser). Asks ts tokens t es l c x) e f
 

@@ -1,9 +1,5 @@
 -- `is_comparison` is true of six kinds. Assumes nothing.
-use mathlib.Core.Path.{◌≡◌, refl, sym, ap, ◌∙◌}
-use mathlib.Core.List.{List, [], ◌∷◌}
-use native.Mathlib.Omega.{arith}
 use Rattle.std.proofs.Common.{rules}
-use Rattle.lexer.specs.Lex.{lex}
 use Rattle.std.proofs.Common.{tests}
 use Rattle.trees.specs.Look.{is_comparison}
 use Rattle.parser.proofs.is_comparison.Goals as goal

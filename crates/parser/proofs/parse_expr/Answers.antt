@@ -1,9 +1,5 @@
 -- `parse_expr` gives what `parse_rule` gives of a rule that passed, and the refusal of another. Assumes nothing.
-use mathlib.Core.Path.{◌≡◌, refl, sym, ap, ◌∙◌}
-use mathlib.Core.List.{List, [], ◌∷◌}
-use native.Mathlib.Omega.{arith}
-use Rattle.std.proofs.Common.{rules}
-use Rattle.lexer.specs.Lex.{lex}
+use mathlib.Core.Path.{sym, ◌∙◌}
 use lib.ListN.{length}
 use Rattle.trees.proofs.ReadLaws.{passed_has_room, passed_reads}
 use Rattle.parser.proofs.parse_expr.Goals as goal

@@ -1,9 +1,6 @@
 -- `parse_rule` meets its contract: test by test, and what the root's rows are in the tables. Assumes nothing.
-use mathlib.Core.Path.{◌≡◌, refl, sym, ap, ◌∙◌}
-use mathlib.Core.List.{List, [], ◌∷◌}
+use mathlib.Core.Path.{refl, sym, ◌∙◌}
 use native.Mathlib.Omega.{arith}
-use Rattle.std.proofs.Common.{rules}
-use Rattle.lexer.specs.Lex.{lex}
 use borrow.Author.Tests.{lt-ltb, le-ltb}
 use Rattle.trees.specs.Read.{check_tables}
 use Rattle.trees.proofs.BoundLaws.{asks_root}

@@ -1,9 +1,6 @@
 -- `parse_tokens` begins at the front, and follows `parse_root`. Assumes nothing.
-use mathlib.Core.Path.{◌≡◌, refl, sym, ap, ◌∙◌}
-use mathlib.Core.List.{List, [], ◌∷◌}
-use native.Mathlib.Omega.{arith}
+use mathlib.Core.Path.{refl}
 use Rattle.std.proofs.Common.{rules}
-use Rattle.lexer.specs.Lex.{lex}
 use Rattle.trees.proofs.WritingLaws.{did_meet}
 use Rattle.parser.proofs.parse_tokens.Goals as goal
 

@@ -1,8 +1,6 @@
 -- `past_last` goes back from the end over tokens of other kinds. Assumes nothing.
-use mathlib.Core.Path.{◌≡◌, refl, sym, ap, ◌∙◌}
-use mathlib.Core.List.{List, [], ◌∷◌}
+use mathlib.Core.Path.{◌≡◌, sym, ◌∙◌}
 use native.Mathlib.Omega.{arith}
-use Rattle.std.proofs.Common.{rules}
 use Rattle.lexer.specs.Lex.{lex}
 use Prim.Native.Nat.{◌/◌}
 use lib.ListN.{length}

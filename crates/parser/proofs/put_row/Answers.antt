@@ -1,9 +1,4 @@
 -- `put_row` puts its four numbers in the place of those that stand there. Assumes nothing.
-use mathlib.Core.Path.{◌≡◌, refl, sym, ap, ◌∙◌}
-use mathlib.Core.List.{List, [], ◌∷◌}
-use native.Mathlib.Omega.{arith}
-use Rattle.std.proofs.Common.{rules}
-use Rattle.lexer.specs.Lex.{lex}
 use Rattle.parser.proofs.ParserLaws.{put_is}
 use Rattle.parser.proofs.put_row.Goals as goal
 

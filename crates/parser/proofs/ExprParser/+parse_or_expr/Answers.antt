@@ -1,9 +1,6 @@
 -- The functions that call each other follow their definitions, one step each, and their loops from each of their steps on; tokens left fall around the cycle. Assumes nothing.
-use mathlib.Core.Path.{◌≡◌, refl, sym, ap, ◌∙◌}
-use mathlib.Core.List.{List, [], ◌∷◌}
+use mathlib.Core.Path.{sym, ap, ◌∙◌}
 use native.Mathlib.Omega.{arith}
-use Rattle.std.proofs.Common.{rules}
-use Rattle.lexer.specs.Lex.{lex}
 use lib.ListN.{length}
 use Rattle.syntax.specs.declared.kind.Kind.{Kind}
 use Rattle.trees.specs.Parse.{◌▹◌, bump, parse, AndExpr, Atom, OrRest, AndRest}

@@ -1,9 +1,4 @@
 -- `at_eof` is the test for the end. Assumes nothing.
-use mathlib.Core.Path.{◌≡◌, refl, sym, ap, ◌∙◌}
-use mathlib.Core.List.{List, [], ◌∷◌}
-use native.Mathlib.Omega.{arith}
-use Rattle.std.proofs.Common.{rules}
-use Rattle.lexer.specs.Lex.{lex}
 use Rattle.trees.proofs.LookLaws.{end_test}
 use Rattle.parser.proofs.ExprParser.at_eof.Goals as goal
 

@@ -1,9 +1,5 @@
 -- `at_field` asks for one word after the other. Assumes nothing.
-use mathlib.Core.Path.{◌≡◌, refl, sym, ap, ◌∙◌}
-use mathlib.Core.List.{List, [], ◌∷◌}
-use native.Mathlib.Omega.{arith}
-use Rattle.std.proofs.Common.{rules}
-use Rattle.lexer.specs.Lex.{lex}
+use mathlib.Core.Path.{◌≡◌, refl, ◌∙◌}
 use mathlib.Core.Bool.{◌||◌}
 use Rattle.syntax.specs.Text.{ascii}
 use Rattle.trees.specs.Look.{at_field, at_ident}
@@ -17,20 +13,20 @@ unfolding at_field
 returns-then-at_ident-4 c =
     let us = left c.args.self.now in
     let v1 : c.if-at_ident.value ≡ (at_ident (ascii "category") us || at_ident (ascii "kind") us) =
-        elim c.if-at_ident.branch [
-          | then-at_ident w ↦ or_then _ c.at_ident.ensures w.if-at_ident.true w.value-is
-          | else-at_ident w ↦ or_else c.at_ident.ensures w.if-at_ident.false w.value-is w.at_ident-else-at_ident.ensures
-        ] in
+    elim c.if-at_ident.branch [
+      | then-at_ident w ↦ or_then _ c.at_ident.ensures w.if-at_ident.true w.value-is
+      | else-at_ident w ↦ or_else c.at_ident.ensures w.if-at_ident.false w.value-is w.at_ident-else-at_ident.ensures
+    ] in
     let v2 : c.if-at_ident-2.value ≡ (c.if-at_ident.value || at_ident (ascii "direction") us) =
-        elim c.if-at_ident-2.branch [
-          | then-at_ident-2 w ↦ or_then _ refl w.if-at_ident-2.true w.value-is
-          | else-at_ident-2 w ↦ or_else refl w.if-at_ident-2.false w.value-is w.at_ident-else-at_ident-2.ensures
-        ] in
+    elim c.if-at_ident-2.branch [
+      | then-at_ident-2 w ↦ or_then _ refl w.if-at_ident-2.true w.value-is
+      | else-at_ident-2 w ↦ or_else refl w.if-at_ident-2.false w.value-is w.at_ident-else-at_ident-2.ensures
+    ] in
     let v3 : c.if-at_ident-3.value ≡ (c.if-at_ident-2.value || at_ident (ascii "severity") us) =
-        elim c.if-at_ident-3.branch [
-          | then-at_ident-3 w ↦ or_then _ refl w.if-at_ident-3.true w.value-is
-          | else-at_ident-3 w ↦ or_else refl w.if-at_ident-3.false w.value-is w.at_ident-else-at_ident-3.ensures
-        ] in
+    elim c.if-at_ident-3.branch [
+      | then-at_ident-3 w ↦ or_then _ refl w.if-at_ident-3.true w.value-is
+      | else-at_ident-3 w ↦ or_else refl w.if-at_ident-3.false w.value-is w.at_ident-else-at_ident-3.ensures
+    ] in
     or_then (at_ident (ascii "message") us) (rw v1 at (rw v2 at v3)) c.if-at_ident-4.true refl ∙ simp or_right
 
 pub returns-else-at_ident-4 : goal.returns-else-at_ident-4
@@ -38,18 +34,18 @@ unfolding at_field
 returns-else-at_ident-4 c =
     let us = left c.args.self.now in
     let v1 : c.if-at_ident.value ≡ (at_ident (ascii "category") us || at_ident (ascii "kind") us) =
-        elim c.if-at_ident.branch [
-          | then-at_ident w ↦ or_then _ c.at_ident.ensures w.if-at_ident.true w.value-is
-          | else-at_ident w ↦ or_else c.at_ident.ensures w.if-at_ident.false w.value-is w.at_ident-else-at_ident.ensures
-        ] in
+    elim c.if-at_ident.branch [
+      | then-at_ident w ↦ or_then _ c.at_ident.ensures w.if-at_ident.true w.value-is
+      | else-at_ident w ↦ or_else c.at_ident.ensures w.if-at_ident.false w.value-is w.at_ident-else-at_ident.ensures
+    ] in
     let v2 : c.if-at_ident-2.value ≡ (c.if-at_ident.value || at_ident (ascii "direction") us) =
-        elim c.if-at_ident-2.branch [
-          | then-at_ident-2 w ↦ or_then _ refl w.if-at_ident-2.true w.value-is
-          | else-at_ident-2 w ↦ or_else refl w.if-at_ident-2.false w.value-is w.at_ident-else-at_ident-2.ensures
-        ] in
+    elim c.if-at_ident-2.branch [
+      | then-at_ident-2 w ↦ or_then _ refl w.if-at_ident-2.true w.value-is
+      | else-at_ident-2 w ↦ or_else refl w.if-at_ident-2.false w.value-is w.at_ident-else-at_ident-2.ensures
+    ] in
     let v3 : c.if-at_ident-3.value ≡ (c.if-at_ident-2.value || at_ident (ascii "severity") us) =
-        elim c.if-at_ident-3.branch [
-          | then-at_ident-3 w ↦ or_then _ refl w.if-at_ident-3.true w.value-is
-          | else-at_ident-3 w ↦ or_else refl w.if-at_ident-3.false w.value-is w.at_ident-else-at_ident-3.ensures
-        ] in
+    elim c.if-at_ident-3.branch [
+      | then-at_ident-3 w ↦ or_then _ refl w.if-at_ident-3.true w.value-is
+      | else-at_ident-3 w ↦ or_else refl w.if-at_ident-3.false w.value-is w.at_ident-else-at_ident-3.ensures
+    ] in
     or_else (rw v1 at (rw v2 at v3)) c.if-at_ident-4.false refl c.at_ident-else-at_ident-4.ensures ∙ simp or_right

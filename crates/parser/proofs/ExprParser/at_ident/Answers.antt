@@ -1,9 +1,5 @@
 -- `at_ident` asks for the kind and the text. Assumes nothing.
-use mathlib.Core.Path.{◌≡◌, refl, sym, ap, ◌∙◌}
-use mathlib.Core.List.{List, [], ◌∷◌}
-use native.Mathlib.Omega.{arith}
-use Rattle.std.proofs.Common.{rules}
-use Rattle.lexer.specs.Lex.{lex}
+use mathlib.Core.Path.{sym, ◌∙◌}
 use Rattle.trees.specs.Look.{at_ident, at_kind, at_text}
 use Rattle.parser.proofs.ExprParser.at_ident.Goals as goal
 

@@ -1,9 +1,5 @@
 -- `at_kind` is a test for a kind. Assumes nothing.
-use mathlib.Core.Path.{◌≡◌, refl, sym, ap, ◌∙◌}
-use mathlib.Core.List.{List, [], ◌∷◌}
-use native.Mathlib.Omega.{arith}
-use Rattle.std.proofs.Common.{rules}
-use Rattle.lexer.specs.Lex.{lex}
+use mathlib.Core.Path.{◌∙◌}
 use Rattle.trees.proofs.LookLaws.{kind_test}
 use Rattle.parser.proofs.ExprParser.at_kind.Goals as goal
 

@@ -1,9 +1,6 @@
 -- `at_message_dot` asks for the word and then for the dot. Assumes nothing.
-use mathlib.Core.Path.{◌≡◌, refl, sym, ap, ◌∙◌}
-use mathlib.Core.List.{List, [], ◌∷◌}
+use mathlib.Core.Path.{sym, ◌∙◌}
 use native.Mathlib.Omega.{arith}
-use Rattle.std.proofs.Common.{rules}
-use Rattle.lexer.specs.Lex.{lex}
 use Rattle.syntax.specs.Kind.{DOT}
 use Rattle.trees.specs.Look.{skip_ws, tail_of, at_message_dot, peek_kind}
 use Rattle.parser.specs.Parser.{left}

@@ -1,9 +1,5 @@
 -- `at_plain_method` asks for one word after the other. Assumes nothing.
-use mathlib.Core.Path.{◌≡◌, refl, sym, ap, ◌∙◌}
-use mathlib.Core.List.{List, [], ◌∷◌}
-use native.Mathlib.Omega.{arith}
-use Rattle.std.proofs.Common.{rules}
-use Rattle.lexer.specs.Lex.{lex}
+use mathlib.Core.Path.{sym, ◌∙◌}
 use Rattle.trees.specs.Look.{at_plain_method}
 use Rattle.parser.proofs.ExprParser.at_plain_method.Goals as goal
 

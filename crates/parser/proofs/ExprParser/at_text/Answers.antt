@@ -1,9 +1,5 @@
 -- `at_text` compares the text. Assumes nothing.
-use mathlib.Core.Path.{◌≡◌, refl, sym, ap, ◌∙◌}
-use mathlib.Core.List.{List, [], ◌∷◌}
-use native.Mathlib.Omega.{arith}
-use Rattle.std.proofs.Common.{rules}
-use Rattle.lexer.specs.Lex.{lex}
+use mathlib.Core.Path.{◌∙◌}
 use Rattle.trees.specs.Look.{at_text}
 use Rattle.parser.proofs.ParserLaws.{compared}
 use Rattle.parser.proofs.ExprParser.at_text.Goals as goal

@@ -1,9 +1,4 @@
 -- `bump` eats blanks and then takes a token. Assumes nothing.
-use mathlib.Core.Path.{◌≡◌, refl, sym, ap, ◌∙◌}
-use mathlib.Core.List.{List, [], ◌∷◌}
-use native.Mathlib.Omega.{arith}
-use Rattle.std.proofs.Common.{rules}
-use Rattle.lexer.specs.Lex.{lex}
 use Rattle.trees.proofs.ParseLaws.{bump_is}
 use Rattle.parser.proofs.ParserLaws.{asks_is, asks_first, asks_then, did_is, did_then}
 use Rattle.parser.proofs.ExprParser.bump.Goals as goal

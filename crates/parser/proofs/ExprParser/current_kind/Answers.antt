@@ -1,9 +1,5 @@
 -- `current_kind` is what the reader finds. Assumes nothing.
-use mathlib.Core.Path.{◌≡◌, refl, sym, ap, ◌∙◌}
-use mathlib.Core.List.{List, [], ◌∷◌}
-use native.Mathlib.Omega.{arith}
-use Rattle.std.proofs.Common.{rules}
-use Rattle.lexer.specs.Lex.{lex}
+use mathlib.Core.Path.{◌∙◌}
 use Rattle.parser.proofs.ParserLaws.{current_here}
 use Rattle.parser.proofs.ExprParser.current_kind.Goals as goal
 

@@ -1,9 +1,5 @@
 -- `current_text` is the part of the rule that the row of the first token that is no blank names. Assumes nothing.
-use mathlib.Core.Path.{◌≡◌, refl, sym, ap, ◌∙◌}
-use mathlib.Core.List.{List, [], ◌∷◌}
-use native.Mathlib.Omega.{arith}
-use Rattle.std.proofs.Common.{rules}
-use Rattle.lexer.specs.Lex.{lex}
+use mathlib.Core.Path.{sym, ◌∙◌}
 use Rattle.parser.proofs.ParserLaws.{text_here, text_end, text_within}
 use Rattle.parser.proofs.ExprParser.current_text.Goals as goal
 

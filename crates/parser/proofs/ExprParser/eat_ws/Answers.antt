@@ -1,9 +1,5 @@
 -- `eat_ws` writes blanks, and going on from each place ends as the whole does. Assumes nothing.
-use mathlib.Core.Path.{◌≡◌, refl, sym, ap, ◌∙◌}
-use mathlib.Core.List.{List, [], ◌∷◌}
-use native.Mathlib.Omega.{arith}
-use Rattle.std.proofs.Common.{rules}
-use Rattle.lexer.specs.Lex.{lex}
+use mathlib.Core.Path.{sym, ◌∙◌}
 use Rattle.syntax.specs.declared.kind.Kind.{Kind}
 use Rattle.trees.specs.Parse.{next, eat_ws}
 use Rattle.trees.proofs.LookLaws.{next_there, eat_blank, eat_stop}

@@ -1,9 +1,5 @@
 -- `expect_ident` eats blanks, and takes a word or reports an error. Assumes nothing.
-use mathlib.Core.Path.{◌≡◌, refl, sym, ap, ◌∙◌}
-use mathlib.Core.List.{List, [], ◌∷◌}
-use native.Mathlib.Omega.{arith}
-use Rattle.std.proofs.Common.{rules}
-use Rattle.lexer.specs.Lex.{lex}
+use mathlib.Core.Path.{sym, ◌∙◌}
 use Rattle.trees.proofs.ParseLaws.{expect_ident_is}
 use Rattle.parser.proofs.ParserLaws.{asks_is, asks_first, asks_then, asks_true, asks_false, did_is, did_then, did_true, did_false, eaten_ident}
 use Rattle.parser.proofs.ExprParser.expect_ident.Goals as goal

@@ -1,9 +1,4 @@
 -- `fail` writes an error at the next token. Assumes nothing.
-use mathlib.Core.Path.{◌≡◌, refl, sym, ap, ◌∙◌}
-use mathlib.Core.List.{List, [], ◌∷◌}
-use native.Mathlib.Omega.{arith}
-use Rattle.std.proofs.Common.{rules}
-use Rattle.lexer.specs.Lex.{lex}
 use Rattle.parser.proofs.ParserLaws.{fail_room, did_fail}
 use Rattle.parser.proofs.ExprParser.fail.Goals as goal
 

@@ -1,9 +1,4 @@
 -- `fail_ahead` writes an error at the first token that is no blank. Assumes nothing.
-use mathlib.Core.Path.{◌≡◌, refl, sym, ap, ◌∙◌}
-use mathlib.Core.List.{List, [], ◌∷◌}
-use native.Mathlib.Omega.{arith}
-use Rattle.std.proofs.Common.{rules}
-use Rattle.lexer.specs.Lex.{lex}
 use Rattle.parser.proofs.ParserLaws.{fail_ahead_room, did_fail_ahead, ahead_here}
 use Rattle.parser.proofs.ExprParser.fail_ahead.Goals as goal
 

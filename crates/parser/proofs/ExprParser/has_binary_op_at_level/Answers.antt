@@ -1,9 +1,6 @@
 -- `has_binary_op_at_level` scans the tokens left up to `end`, and going on from each token ends as the whole does. Assumes nothing.
-use mathlib.Core.Path.{◌≡◌, refl, sym, ap, ◌∙◌}
-use mathlib.Core.List.{List, [], ◌∷◌}
+use mathlib.Core.Path.{refl, sym, ◌∙◌}
 use native.Mathlib.Omega.{arith}
-use Rattle.std.proofs.Common.{rules}
-use Rattle.lexer.specs.Lex.{lex}
 use Rattle.trees.specs.Look.{has_binary_op_at_level}
 use Rattle.trees.proofs.TokenLaws.{table_length}
 use Rattle.trees.proofs.LookLaws.{row_before, op_blank, op_open, op_shut, op_close, op_past, op_deep, op_first, op_here, op_end}

@@ -1,8 +1,6 @@
 -- `has_count_compare_ahead` goes back over blanks and an integer to what decides. Assumes nothing.
-use mathlib.Core.Path.{◌≡◌, refl, sym, ap, ◌∙◌}
-use mathlib.Core.List.{List, [], ◌∷◌}
+use mathlib.Core.Path.{◌≡◌}
 use native.Mathlib.Omega.{arith}
-use Rattle.std.proofs.Common.{rules}
 use Rattle.lexer.specs.Lex.{lex}
 use Prim.Native.Nat.{◌/◌}
 use lib.ListN.{length}

@@ -1,9 +1,5 @@
 -- `left_over` follows its definition. Assumes nothing.
-use mathlib.Core.Path.{◌≡◌, refl, sym, ap, ◌∙◌}
-use mathlib.Core.List.{List, [], ◌∷◌}
-use native.Mathlib.Omega.{arith}
-use Rattle.std.proofs.Common.{rules}
-use Rattle.lexer.specs.Lex.{lex}
+use mathlib.Core.Path.{sym, ◌∙◌}
 use Rattle.trees.proofs.ParseLaws.{left_over_is}
 use Rattle.parser.proofs.ParserLaws.{asks_is, asks_first, asks_then, asks_false, did_is, did_then, did_true, did_false, did_done}
 use Rattle.parser.proofs.ExprParser.left_over.Goals as goal

@@ -1,11 +1,6 @@
 -- `literal` follows its definition. Assumes nothing.
-use mathlib.Core.Path.{◌≡◌, refl, sym, ap, ◌∙◌}
-use mathlib.Core.List.{List, [], ◌∷◌}
-use native.Mathlib.Omega.{arith}
-use Rattle.std.proofs.Common.{rules}
-use Rattle.lexer.specs.Lex.{lex}
 use Rattle.trees.proofs.ParseLaws.{literal_is}
-use Rattle.parser.proofs.ParserLaws.{asks_is, asks_node, asks_first, asks_then, inside, did_is, did_node, did_then}
+use Rattle.parser.proofs.ParserLaws.{asks_is, asks_node, inside, did_is, did_node}
 use Rattle.parser.proofs.ExprParser.literal.Goals as goal
 
 pub start_node-node-requires : goal.start_node-node-requires

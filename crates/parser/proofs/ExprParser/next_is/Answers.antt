@@ -1,9 +1,5 @@
 -- `next_is` is a test for a kind. Assumes nothing.
-use mathlib.Core.Path.{◌≡◌, refl, sym, ap, ◌∙◌}
-use mathlib.Core.List.{List, [], ◌∷◌}
-use native.Mathlib.Omega.{arith}
-use Rattle.std.proofs.Common.{rules}
-use Rattle.lexer.specs.Lex.{lex}
+use mathlib.Core.Path.{◌∙◌}
 use Rattle.trees.proofs.LookLaws.{next_test}
 use Rattle.parser.proofs.ParserLaws.{next_here}
 use Rattle.parser.proofs.ExprParser.next_is.Goals as goal

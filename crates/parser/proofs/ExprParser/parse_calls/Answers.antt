@@ -1,9 +1,6 @@
 -- `parse_calls` follows its definition: going on from each call ends as the whole does. Assumes nothing.
-use mathlib.Core.Path.{◌≡◌, refl, sym, ap, ◌∙◌}
-use mathlib.Core.List.{List, [], ◌∷◌}
+use mathlib.Core.Path.{sym, ◌∙◌}
 use native.Mathlib.Omega.{arith}
-use Rattle.std.proofs.Common.{rules}
-use Rattle.lexer.specs.Lex.{lex}
 use Rattle.syntax.specs.Kind.{DOT}
 use Rattle.trees.specs.Look.{at_kind}
 use Rattle.trees.specs.Parse.{done, ◌▹◌, choose, eat_ws, parse_dot_call, parse, OrExpr, Calls}

@@ -1,9 +1,5 @@
 -- `parse_pipeline_or_count_compare` follows its definition. Assumes nothing.
-use mathlib.Core.Path.{◌≡◌, refl, sym, ap, ◌∙◌}
-use mathlib.Core.List.{List, [], ◌∷◌}
-use native.Mathlib.Omega.{arith}
-use Rattle.std.proofs.Common.{rules}
-use Rattle.lexer.specs.Lex.{lex}
+use mathlib.Core.Path.{sym, ◌∙◌}
 use Rattle.trees.proofs.ParseLaws.{parse_compare_is}
 use Rattle.parser.proofs.ParserLaws.{asks_is, asks_node, asks_first, asks_then, asks_true, asks_false, inside, did_is, did_node, did_then, did_true, did_false}
 use Rattle.parser.proofs.ExprParser.parse_pipeline_or_count_compare.Goals as goal

@@ -1,9 +1,6 @@
 -- `peek_kind` is what the reader finds past the first token. Assumes nothing.
-use mathlib.Core.Path.{◌≡◌, refl, sym, ap, ◌∙◌}
-use mathlib.Core.List.{List, [], ◌∷◌}
+use mathlib.Core.Path.{◌∙◌}
 use native.Mathlib.Omega.{arith}
-use Rattle.std.proofs.Common.{rules}
-use Rattle.lexer.specs.Lex.{lex}
 use Rattle.parser.proofs.ParserLaws.{peek_here, place_small, ahead_within}
 use Rattle.parser.proofs.ExprParser.peek_kind.Goals as goal
 

@@ -1,9 +1,6 @@
 -- `put_token` writes the next token as a leaf. Assumes nothing.
-use mathlib.Core.Path.{◌≡◌, refl, sym, ap, ◌∙◌}
-use mathlib.Core.List.{List, [], ◌∷◌}
+use mathlib.Core.Path.{refl, sym, ◌∙◌}
 use native.Mathlib.Omega.{arith}
-use Rattle.std.proofs.Common.{rules}
-use Rattle.lexer.specs.Lex.{lex}
 use Rattle.parser.proofs.ParserLaws.{did_end, did_token, token_room, token_small}
 use Rattle.parser.proofs.ExprParser.put_token.Goals as goal
 

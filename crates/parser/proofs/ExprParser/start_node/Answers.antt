@@ -1,9 +1,5 @@
 -- `start_node` writes the row of a node. Assumes nothing.
-use mathlib.Core.Path.{◌≡◌, refl, sym, ap, ◌∙◌}
-use mathlib.Core.List.{List, [], ◌∷◌}
 use native.Mathlib.Omega.{arith}
-use Rattle.std.proofs.Common.{rules}
-use Rattle.lexer.specs.Lex.{lex}
 use Rattle.parser.proofs.ParserLaws.{node_room, node_level}
 use Rattle.parser.proofs.ExprParser.start_node.Goals as goal
 

@@ -1,9 +1,5 @@
 -- `take_remaining` writes all tokens left, and going on from each place ends as the whole does. Assumes nothing.
-use mathlib.Core.Path.{◌≡◌, refl, sym, ap, ◌∙◌}
-use mathlib.Core.List.{List, [], ◌∷◌}
-use native.Mathlib.Omega.{arith}
-use Rattle.std.proofs.Common.{rules}
-use Rattle.lexer.specs.Lex.{lex}
+use mathlib.Core.Path.{sym}
 use Rattle.trees.specs.Parse.{next, remaining}
 use Rattle.parser.specs.Parser.{left}
 use Rattle.trees.proofs.LookLaws.{some_there, none_there, remaining_next, remaining_end}

@@ -1,8 +1,6 @@
 -- `skip_ws` passes blanks, and from each place on the same place is looked for. Assumes nothing.
-use mathlib.Core.Path.{◌≡◌, sym, ap, ◌∙◌}
+use mathlib.Core.Path.{sym, ◌∙◌}
 use native.Mathlib.Omega.{arith}
-use Rattle.std.specs.Prelude.{Some}
-use Rattle.reader.specs.Reader.{kind_at, past_ws}
 use Rattle.reader.proofs.ReaderLaws.{is_kind, is_other, blank_within, past_blank, past_stop}
 use Rattle.reader.proofs.Reader.skip_ws.Goals as goal
 
