@@ -1,14 +1,21 @@
-// A reader holds the lent token rows and its place in them. What it is asked is done by functions on rows and place,
-// which are covered; those that take or make a reader are thin.
+// The token rows of a rule, looked at by place: what parser.rs `ExprParser` asks of its tokens and its place in them.
 #![tactic(auto)]
 
 ghost use Rattle.std.specs.Prelude.{◌≡◌};
-ghost use Rattle.reader.specs.Reader.{kind_at, past_ws, current_kind};
+ghost use Rattle.reader.specs.Reader.{row_at, kind_at, past_ws, current_kind};
 
-use syntax::kind;
+use syntax::kind::Kind;
 
-// The numbers of a token row: kind, first byte, end byte.
+// The numbers of a token row.
 const TOKEN_ROW: usize = 3;
+
+// A token as its row has it: the number of its kind, and its first and end byte.
+#[derive(Clone, Copy)]
+pub struct Row {
+    pub kind: u32,
+    pub first: u32,
+    pub end: u32,
+}
 
 // The token rows, and the number of the next token.
 #[derive(Clone, Copy)]
@@ -17,54 +24,51 @@ pub struct Reader<'a> {
     pub place: usize,
 }
 
-// parser.rs `current_kind`, for callers that hold no reader: the kind of the first token from here on that is no blank.
-pub fn current_kind(rows: &[u32], place: usize) -> u32
-    ensures { result ≡ current_kind rows.now place }
-{
-    kind(skip_ws(new(rows, place)))
-}
-
-// A reader of these rows that stands at a place.
-pub fn new<'a>(rows: &'a [u32], place: usize) -> Reader<'a>
-    ensures { (result.rows ≡ rows.entry) × (result.place ≡ place) }
-{
-    Reader { rows, place }
-}
-
-// The kind of the next token; NONE past the last.
-pub fn kind<'a>(r: Reader<'a>) -> u32
-    ensures { result ≡ kind_at r.entry.rows.now r.entry.place }
-{
-    kind_at(r.rows, r.place)
-}
-
-// The reader past the blanks that stand next.
-pub fn skip_ws<'a>(r: Reader<'a>) -> Reader<'a>
-    ensures { (result.rows ≡ r.entry.rows) × (result.place ≡ past_ws r.entry.rows.now r.entry.place) }
-{
-    Reader {
-        rows: r.rows,
-        place: past_ws(r.rows, r.place),
+impl<'a> Reader<'a> {
+    // A reader of these rows that stands at a place.
+    pub fn new(rows: &'a [u32], place: usize) -> Reader<'a>
+        ensures { (result.rows ≡ rows.entry) × (result.place ≡ place) }
+    {
+        Reader { rows, place }
     }
-}
 
-// The kind of the token at a place; NONE past the last whole row.
-pub fn kind_at(rows: &[u32], place: usize) -> u32
-    ensures { result ≡ kind_at rows.now place }
-{
-    if place < rows.len() / TOKEN_ROW {
-        return rows[TOKEN_ROW * place];
+    // parser.rs `current_kind`: the kind of the first token from here on that is no blank.
+    pub fn current_kind(self) -> Option<u32>
+        ensures { result ≡ current_kind self.entry.rows.now self.entry.place }
+    {
+        self.skip_ws().kind()
     }
-    kind::NONE
-}
 
-// The place of the first token from here on that is no blank, or past the last.
-pub fn past_ws(rows: &[u32], place: usize) -> usize
-    ensures { result ≡ past_ws rows.now place }
-{
-    let mut i = place;
-    while kind_at(rows, i) == kind::WHITESPACE {
-        i += 1;
+    // The reader past the blanks that stand next.
+    pub fn skip_ws(self) -> Reader<'a>
+        ensures { (result.rows ≡ self.entry.rows) × (result.place ≡ past_ws self.entry.rows.now self.entry.place) }
+    {
+        let mut reader = self;
+        while reader.kind() == Some(Kind::Whitespace as u32) {
+            reader.place += 1;
+        }
+        reader
     }
-    i
+
+    // The kind of the next token.
+    pub fn kind(self) -> Option<u32>
+        ensures { result ≡ kind_at self.entry.rows.now self.entry.place }
+    {
+        self.row().map(|row| row.kind)
+    }
+
+    // The next token; none past the last whole row.
+    pub fn row(self) -> Option<Row>
+        ensures { result ≡ row_at self.entry.rows.now self.entry.place }
+    {
+        if self.rows.len() / TOKEN_ROW <= self.place {
+            return None;
+        }
+        let at = TOKEN_ROW * self.place;
+        Some(Row {
+            kind: self.rows[at],
+            first: self.rows[at + 1],
+            end: self.rows[at + 2],
+        })
+    }
 }

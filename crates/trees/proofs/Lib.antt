@@ -1,5 +1,6 @@
 pub mod GreenLaws
 pub mod TokenLaws
+pub mod PlaceLaws
 pub mod ParseLaws
 pub mod WritingLaws
 pub mod LookLaws

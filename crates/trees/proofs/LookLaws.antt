@@ -1,151 +1,115 @@
 -- Looks ahead and blanks, token by token, and the loops over them. Assumes nothing.
 use mathlib.Core.Path.{◌≡◌, refl, sym, ap, ◌∙◌}
 use mathlib.Core.List.{List, [], ◌∷◌}
-use mathlib.Core.Bool.{Bool, true, false, ◌&&◌, and-true, and-false}
+use mathlib.Core.Bool.{Bool, true, false, ◌&&◌, and-true, and-false, false≢true}
 use Prim.Native.Nat.{ℕ, zero, suc, ◌+◌, ◌*◌, ◌-◌, ◌≤◌, ◌<◌}
 use native.Mathlib.Omega.{arith}
 use borrow.Author.Tests.{eq-eqb, ne_eqb, eqb-true, eqb-false}
 use lib.Dec.{eqb}
-use lib.ListN.{length, drop, get_or, length-drop, drop_of_length-le}
+use lib.ListN.{length, drop, get_or, drop_of_length-le}
 use lib.Seq.{drop-drop}
+use Rattle.std.specs.Prelude.{Some, is_some, not}
+use Rattle.std.specs.Option.{option_eq}
+use Rattle.syntax.specs.Kinds.{number}
+use Rattle.syntax.specs.declared.kind.Kind.{Kind}
 use Rattle.syntax.specs.Kind.{WHITESPACE, L_PAREN, R_PAREN, INT_LIT, NONE}
-use Rattle.syntax.proofs.BoolLaws.{whether}
-use Rattle.lexer.specs.Lex.{Token, token_rows}
-use Rattle.reader.specs.Reader as reader
-use Rattle.reader.proofs.ReaderLaws.{current_later, current_blank, current_solid}
-use Rattle.trees.specs.Look.{skip_ws, head_kind, tail_of, current_kind, at_kind, is_comparison, ends_in_comparison, has_count_compare_ahead, op_ahead, has_binary_op_at_level}
+use Rattle.lexer.specs.Lex.{Token, lex, token_rows}
+use Rattle.trees.specs.Look.{skip_ws, head_kind, first_kind, at_kind, is_comparison, ends_in_comparison, has_count_compare_ahead, op_ahead, has_binary_op_at_level}
 use Rattle.trees.specs.Green.{size}
-use Rattle.trees.specs.Parse.{Parser, done, next, fails, fails_ahead, ◌▹◌, eat_ws, next_is, remaining}
-use Rattle.trees.specs.Writing.{Ready, Past, Skipped, Fits, Asks, Did, Without, none, more, NoneFrom}
+use Rattle.trees.specs.Parse.{done, next, fails, fails_ahead, ◌▹◌, eat_ws, next_is, remaining}
+use Rattle.trees.specs.Writing.{Ready, Fits, Asks, Without, none, more, NoneFrom}
 use Rattle.trees.specs.declared.Cursor.{Cursor}
-use Rattle.trees.proofs.TokenLaws.{Row, row, row_in, rows_length, at_end, table_length}
-use Rattle.trees.proofs.WritingLaws.{did_done, did_then, did_as, fits_as, fits_first, fits_then, tree_long}
+use Rattle.trees.proofs.TokenLaws.{Row, row_in, rows_length, table_length}
+use Rattle.trees.proofs.TreeLaws.{Kinds, kinds_lex, kinds_drop, kinds_skip}
 
--- ---- blanks
+-- ---- blanks and what is left
+
+-- no kind has the number of none
+pub kind_named : (k : Kind) → number k < NONE
+kind_named Kind.Whitespace = omega arith
+kind_named Kind.Ident = omega arith
+kind_named Kind.StringLit = omega arith
+kind_named Kind.Dot = omega arith
+kind_named Kind.LParen = omega arith
+kind_named Kind.RParen = omega arith
+kind_named Kind.EqEq = omega arith
+kind_named Kind.Neq = omega arith
+kind_named Kind.Ge = omega arith
+kind_named Kind.Gt = omega arith
+kind_named Kind.Le = omega arith
+kind_named Kind.Lt = omega arith
+kind_named Kind.IntLit = omega arith
+kind_named Kind.Comma = omega arith
+kind_named Kind.AndKw = omega arith
+kind_named Kind.OrKw = omega arith
+kind_named Kind.NotKw = omega arith
+kind_named Kind.Error = omega arith
+kind_named Kind.Root = omega arith
+kind_named Kind.PipelineExpr = omega arith
+kind_named Kind.DotCall = omega arith
+kind_named Kind.CallArgs = omega arith
+kind_named Kind.BinaryExpr = omega arith
+kind_named Kind.UnaryExpr = omega arith
+kind_named Kind.CompareExpr = omega arith
+kind_named Kind.CallExpr = omega arith
+kind_named Kind.ParenExpr = omega arith
+kind_named Kind.Literal = omega arith
+kind_named Kind.IdentExpr = omega arith
+kind_named Kind.ContainsExpr = omega arith
+kind_named Kind.CountCompareExpr = omega arith
+
+-- a token that is next is there
+pub next_there : (k : Kind) (ts : List Token) → next_is (number k) ts ≡ true → 0 < length ts
+unfolding next_is
+next_there k ts e = go ts (eqb-true _ _ e)
+  where
+    go : (us : List Token) → head_kind us ≡ number k → 0 < length us
+    go [] q = let h = kind_named k in absurd (omega arith)
+    go (u ∷ us) q = omega arith
 
 module _ (ts : List Token) where
-  pub skip_blank : head_kind ts ≡ WHITESPACE → skip_ws ts ≡ skip_ws (tail_of ts)
-  unfolding skip_ws
-  skip_blank e = go ts e
-    where
-      go : (us : List Token) → head_kind us ≡ WHITESPACE → skip_ws us ≡ skip_ws (tail_of us)
-      go [] q = refl
-      go (t ∷ us) q = rw (eq-eqb _ _ q, skip_ws)
-
-  pub skip_stop : (head_kind ts ≡ WHITESPACE → ⊥) → skip_ws ts ≡ ts
-  unfolding skip_ws
-  skip_stop n = go ts n
-    where
-      go : (us : List Token) → (head_kind us ≡ WHITESPACE → ⊥) → skip_ws us ≡ us
-      go [] q = refl
-      go (t ∷ us) q = rw (ne_eqb _ _ q, skip_ws)
-
-  pub eat_blank : head_kind ts ≡ WHITESPACE → eat_ws ts ≡ (next ▹ eat_ws) ts
-  unfolding eat_ws ◌▹◌ next
-  eat_blank e = go ts e
+  pub eat_blank : next_is WHITESPACE ts ≡ true → eat_ws ts ≡ (next ▹ eat_ws) ts
+  unfolding next_is eat_ws ◌▹◌ next
+  eat_blank e = go ts (eqb-true _ _ e)
     where
       go : (us : List Token) → head_kind us ≡ WHITESPACE → eat_ws us ≡ (next ▹ eat_ws) us
       go [] q = let z : ◌≡◌ {A = ℕ} NONE WHITESPACE = q in absurd (omega arith)
       go (t ∷ us) q = rw (eq-eqb _ _ q, eat_ws)
 
-  pub eat_stop : (head_kind ts ≡ WHITESPACE → ⊥) → eat_ws ts ≡ done ts
-  unfolding eat_ws done
-  eat_stop n = go ts n
+  pub eat_stop : next_is WHITESPACE ts ≡ false → eat_ws ts ≡ done ts
+  unfolding next_is eat_ws done
+  eat_stop n = go ts (eqb-false _ _ n)
     where
       go : (us : List Token) → (head_kind us ≡ WHITESPACE → ⊥) → eat_ws us ≡ done us
       go [] q = refl
       go (t ∷ us) q = rw (ne_eqb _ _ q, eat_ws)
 
--- what a reader of the rows of tokens finds: the kind of the first from its place on that is no blank
-reader_kind : (at : ℕ) (ts : List Token) (i : ℕ) → reader.current_kind (token_rows at ts) i ≡ current_kind (drop i ts)
-unfolding reader.current_kind token_rows skip_ws
-reader_kind at [] zero = refl
-reader_kind at [] (suc i) = refl
-reader_kind at (t ∷ ts) zero =
-    let end = at + length t.text in
-    whether (eqb t.kind WHITESPACE)
-    (λ y. let e = eqb-true _ _ y in current_blank t.kind at end (token_rows end ts) e ∙ (reader_kind end ts zero ∙ ap head_kind (sym (skip_blank (t ∷ ts) e))))
-    (λ n. let e = eqb-false _ _ n in current_solid t.kind at end (token_rows end ts) e ∙ ap head_kind (sym (skip_stop (t ∷ ts) e)))
-reader_kind at (t ∷ ts) (suc i) =
-    let end = at + length t.text in
-    current_later t.kind at end (token_rows end ts) i ∙ reader_kind end ts i
-
-pub reader_current : {ts : List Token} {tokens : List ℕ} {c : Cursor} → Ready ts tokens c → reader.current_kind tokens c.token ≡ current_kind (drop c.token ts)
-reader_current {ts} {c = c} r = ap (λ (rows : List ℕ). reader.current_kind rows c.token) r.rows ∙ reader_kind 0 ts c.token
-
--- the place of the first token that is no blank is looked for from d on as from c on
-pub record Skipping (ts : List Token) (tokens : List ℕ) (c d : Cursor) : Type 0 where
-  pub ready : Ready ts tokens d
-  pub same : skip_ws (drop d.token ts) ≡ skip_ws (drop c.token ts)
-  pub error : d.error ≡ c.error
-
-pub skipping_start : {ts : List Token} {tokens : List ℕ} {c : Cursor} → Ready ts tokens c → Skipping ts tokens c c
-skipping_start r = record { ready = r; same = refl; error = refl }
-
-module _ {ts : List Token} {tokens : List ℕ} {c d : Cursor} (s : Skipping ts tokens c d) where
-  pub skipping_past : {a : Cursor} → head_kind (drop d.token ts) ≡ WHITESPACE → Past ts tokens d a → Skipping ts tokens c a
-  skipping_past e p =
-      record {
-        ready = p.ready;
-        same = ap skip_ws p.here ∙ sym (skip_blank (drop d.token ts) e) ∙ s.same;
-        error = p.error ∙ s.error;
-      }
-
-  pub skipping_end : (head_kind (drop d.token ts) ≡ WHITESPACE → ⊥) → Skipped ts tokens c d
-  skipping_end n = record { ready = s.ready; here = sym (skip_stop (drop d.token ts) n) ∙ s.same; error = s.error }
-
--- ---- a loop over tokens: doing p from d on ends as doing it from c on
-
-pub record Going (ts : List Token) (tokens t₀ t : List ℕ) (l : ℕ) (c d : Cursor) (p : Parser) : Type 0 where
-  pub fits : Fits ts tokens t d p
-  pub rest : (e u : List ℕ) (r : Cursor) → Did ts t u e e l d r p → Did ts t₀ u e e l c r p
-  pub long : length t ≡ length t₀
-
-pub going_start : {ts : List Token} {tokens t : List ℕ} {l : ℕ} {c : Cursor} {p : Parser} → Fits ts tokens t c p → Going ts tokens t t l c c p
-going_start f = record { fits = f; rest = λ e u r a. a; long = refl }
-
-module _ {ts : List Token} {tokens t₀ t : List ℕ} {l : ℕ} {c d : Cursor} {p : Parser} (g : Going ts tokens t₀ t l c d p) where
-  pub going_end : p (drop d.token ts) ≡ done (drop d.token ts) → (e : List ℕ) → Did ts t₀ t e e l c d p
-  going_end h e = g.rest e t d (did_as h (did_done g.fits.ready))
-
-  pub going_next : {t₁ : List ℕ} {a : Cursor} → p (drop d.token ts) ≡ (next ▹ p) (drop d.token ts)
-      → ((e : List ℕ) → Did ts t t₁ e e l d a next) → Going ts tokens t₀ t₁ l c a p
-  going_next h a =
-      record {
-        fits = fits_then next p (fits_as h g.fits) (a []);
-        rest = λ e u r b. g.rest e u r (did_as h (did_then (a e) b));
-        long = tree_long (a []) ∙ g.long;
-      }
-
-  pub going_fits : p (drop d.token ts) ≡ (next ▹ p) (drop d.token ts) → Fits ts tokens t d next
-  going_fits h = fits_first next p (fits_as h g.fits)
-
 -- all tokens left
-module _ {ts : List Token} {tokens : List ℕ} {c : Cursor} (r : Ready ts tokens c) where
-  pub remaining_next : 3 * c.token < length tokens → remaining (drop c.token ts) ≡ (next ▹ remaining) (drop c.token ts)
+module _ (ts : List Token) where
+  pub remaining_next : 0 < length ts → remaining ts ≡ (next ▹ remaining) ts
   unfolding remaining ◌▹◌ next
-  remaining_next h = let w = row r h in rw w.here
+  remaining_next h = go ts h
+    where
+      go : (us : List Token) → 0 < length us → remaining us ≡ (next ▹ remaining) us
+      go [] q = absurd (omega arith)
+      go (u ∷ us) q = refl
 
-  pub remaining_end : length tokens ≤ 3 * c.token → remaining (drop c.token ts) ≡ done (drop c.token ts)
+  pub remaining_end : length ts ≤ 0 → remaining ts ≡ done ts
   unfolding remaining done
-  remaining_end h = rw (at_end r h)
+  remaining_end h = go ts h
+    where
+      go : (us : List Token) → length us ≤ 0 → remaining us ≡ done us
+      go [] q = refl
+      go (u ∷ us) q = absurd (omega arith)
 
 -- room for the next token's row
-pub next_room : {ts : List Token} {tokens t : List ℕ} {c : Cursor} → Fits ts tokens t c next → 3 * c.token < length tokens → c.row + 4 ≤ length t
+pub next_room : {ts : List Token} {tokens t : List ℕ} {c : Cursor} → Fits ts tokens t c next → 0 < length (drop c.token ts) → c.row + 4 ≤ length t
 unfolding next size
-next_room {ts} {c = c} f h =
-    let w = row f.ready h in
-    let e : size (next (drop c.token ts)).made ≡ 1 = rw w.here in
-    omega (arith, f.room)
-
--- a token was taken
-pub next_ahead : {ts : List Token} {tokens t₀ t₁ e₀ e₁ : List ℕ} {l : ℕ} {c d : Cursor} → Ready ts tokens c → 3 * c.token < length tokens
-    → Did ts t₀ t₁ e₀ e₁ l c d next → c.token < d.token
-unfolding next
-next_ahead {ts} {c = c} {d = d} r h a =
-    let w = row r h in
-    let e : drop d.token ts ≡ drop (c.token + 1) ts = a.wrote.rest ∙ rw w.here in
-    omega (arith, ap length e, length-drop d.token ts, length-drop (c.token + 1) ts, a.wrote.within, table_length r)
+next_room {ts} {c = c} f h = let e : size (next (drop c.token ts)).made ≡ 1 = go (drop c.token ts) h in omega (arith, f.room)
+  where
+    go : (us : List Token) → 0 < length us → size (next us).made ≡ 1
+    go [] q = absurd (omega arith)
+    go (u ∷ us) q = refl
 
 -- a test that gives the same either way
 either : {A : Type 0} (t : Bool) {x y z : A} → x ≡ z → y ≡ z → (elim t [ true ↦ x | false ↦ y ]) ≡ z
@@ -310,22 +274,43 @@ none_back {k} {ts = ts} {i = i} e b h n =
 
 -- ---- tests of the code as tests of the definitions
 
-module _ (ts : List Token) where
-  pub at_yes : {r k : ℕ} → r ≡ current_kind ts → r ≡ k → at_kind k ts ≡ true
+-- so a test for a kind fails at the end of text
+pub head_test : (k : ℕ) → k < NONE → (us : List Token) → option_eq eqb (first_kind us) (Some k) ≡ eqb (head_kind us) k
+head_test k h [] = sym (ne_eqb NONE k (λ e. omega arith))
+head_test k h (u ∷ us) = refl
+
+module _ (k : Kind) (ts : List Token) where
+  pub kind_test : option_eq eqb (first_kind (skip_ws ts)) (Some (number k)) ≡ at_kind (number k) ts
   unfolding at_kind
-  at_yes e q = eq-eqb _ _ (sym e ∙ q)
+  kind_test = head_test (number k) (kind_named k) (skip_ws ts)
 
-  pub at_no : {r k : ℕ} → r ≡ current_kind ts → (r ≡ k → ⊥) → at_kind k ts ≡ false
-  unfolding at_kind
-  at_no e n = ne_eqb _ _ (λ q. n (e ∙ q))
-
-  pub next_yes : {r k : ℕ} → r ≡ head_kind ts → r ≡ k → next_is k ts ≡ true
+  pub next_test : option_eq eqb (first_kind ts) (Some (number k)) ≡ next_is (number k) ts
   unfolding next_is
-  next_yes e q = eq-eqb _ _ (sym e ∙ q)
+  next_test = head_test (number k) (kind_named k) ts
 
-  pub next_no : {r k : ℕ} → r ≡ head_kind ts → (r ≡ k → ⊥) → next_is k ts ≡ false
-  unfolding next_is
-  next_no e n = ne_eqb _ _ (λ q. n (e ∙ q))
+-- a token that has a kind is there
+pub some_there : (us : List Token) → is_some (first_kind us) ≡ true → 0 < length us
+some_there [] e = absurd (false≢true e)
+some_there (u ∷ us) e = omega arith
+
+pub none_there : (us : List Token) → is_some (first_kind us) ≡ false → length us ≤ 0
+none_there [] e = omega arith
+none_there (u ∷ us) e = absurd (false≢true (sym e))
+
+-- and the test for the end passes nowhere else in a rule, whose tokens are of kinds
+pub end_test : (rule : List ℕ) (i : ℕ) {r : Bool} → is_some (first_kind (skip_ws (drop i (lex rule)))) ≡ not r → r ≡ at_kind NONE (drop i (lex rule))
+unfolding at_kind Kinds
+end_test rule i {r} e =
+    let us = skip_ws (drop i (lex rule)) in
+    other (is_some (first_kind us)) r e ∙ go us (kinds_skip (drop i (lex rule)) (kinds_drop i (lex rule) (kinds_lex rule)))
+  where
+    other : (a r : Bool) → a ≡ not r → r ≡ not a
+    other a true e = rw e
+    other a false e = rw e
+
+    go : (us : List Token) → Kinds us → not (is_some (first_kind us)) ≡ eqb (head_kind us) NONE
+    go [] k = refl
+    go (u ∷ us) k = sym (ne_eqb u.kind NONE (λ e. let h = k.0 in omega arith))
 
 -- room for an error's row
 pub fail_room : {ts : List Token} {tokens t e : List ℕ} {l : ℕ} {c : Cursor} (form k : ℕ) → Asks ts tokens t e l c (fails form k) → c.error + 4 ≤ length e

@@ -4,18 +4,17 @@ use mathlib.Core.List.{List, [], ◌∷◌}
 use mathlib.Core.Bool.{Bool, true}
 use Prim.Native.Nat.{ℕ, zero, suc, ◌+◌, ◌*◌, ◌≤◌, ◌<◌}
 use native.Mathlib.Omega.{arith}
-use borrow.Author.Tests.{eqb-true, eq-eqb}
+use borrow.Author.Tests.{eqb-true}
 use lib.Dec.{eqb}
 use lib.ListN.{length, drop, length-append, length-drop}
 use Rattle.syntax.specs.Kind.{DOT, L_PAREN, R_PAREN, AND_KW, OR_KW, NOT_KW, BINARY_EXPR, UNARY_EXPR, PAREN_EXPR, DOT_CALL, CALL_ARGS, NONE}
 use Rattle.syntax.specs.Text.{ascii}
 use Rattle.syntax.proofs.BoolLaws.{whether}
 use Rattle.lexer.specs.Lex.{Token}
-use Rattle.trees.specs.Look.{skip_ws, head_kind, current_kind, at_kind, at_text, at_predicate_method, at_plain_method, has_binary_op_at_level}
+use Rattle.trees.specs.Look.{skip_ws, head_kind, at_kind, at_text, at_predicate_method, at_plain_method, has_binary_op_at_level}
 use Rattle.trees.specs.Parse.{Parser, done, next, join, ◌▹◌, in_node, choose, eat_ws, bump, expect, Mode, OrExpr, OrRest, AndExpr, AndRest, Atom, Calls, no_args, no_method, parse_method, step, steps, parse}
-use Rattle.trees.specs.Writing.{Asks, Did}
+use Rattle.trees.specs.Writing.{Did}
 use Rattle.trees.specs.declared.Cursor.{Cursor}
-use Rattle.trees.proofs.WritingLaws.{asks_as, did_as}
 use Rattle.trees.proofs.TreeLaws.{Keeps, eat_rest, keeping, keeps_bump, keeps_expect, keeps_simple, keeps_done, keeps_eat_ws, keeps_steps, keeps_parse}
 
 -- ---- how many tokens are left
@@ -199,14 +198,6 @@ pub parse_steps : (b : Mode → Parser) (f : ℕ) (m : Mode) (ts : List Token) �
 unfolding parse
 parse_steps b f m ts h = sym (steps_from_lem b f (suc (3 * length ts + 2)) m ts (omega (arith, order_le m)) (omega (arith, order_le m)))
 
-pub asks_step : {ts : List Token} {tokens t e : List ℕ} {l : ℕ} {c : Cursor} (m : Mode) → Asks ts tokens t e l c (parse m)
-    → Asks ts tokens t e l c (step parse m)
-asks_step {ts} {c = c} m f = asks_as (parse_step m (drop c.token ts)) f
-
-pub did_step : {ts : List Token} {t₀ t₁ e₀ e₁ : List ℕ} {l : ℕ} {c r : Cursor} (m : Mode)
-    → Did ts t₀ t₁ e₀ e₁ l c r (step parse m) → Did ts t₀ t₁ e₀ e₁ l c r (parse m)
-did_step {ts} {c = c} m a = did_as (parse_step m (drop c.token ts)) a
-
 -- ---- the cursor goes ahead
 
 -- where fewer tokens are left
@@ -214,11 +205,16 @@ pub ahead : {ts : List Token} {t₀ t₁ e₀ e₁ : List ℕ} {l : ℕ} {c d : 
     → length (p (drop c.token ts)).rest < length (drop c.token ts) → Did ts t₀ t₁ e₀ e₁ l c d p → c.token < d.token
 ahead {ts} {c = c} {d} h a = omega (arith, ap length a.wrote.rest, length-drop c.token ts, length-drop d.token ts, a.wrote.within)
 
-pub at_kind_lem : (k : ℕ) (ts : List Token) → current_kind ts ≡ k → at_kind k ts ≡ true
-unfolding at_kind
-at_kind_lem k ts e = eq-eqb (current_kind ts) k e
+-- past a token that is seen
+pub bump_ahead : {test : List Token → Bool} {ts : List Token} {t₀ t₁ e₀ e₁ : List ℕ} {l : ℕ} {c d : Cursor} → Sees test → test (drop c.token ts) ≡ true
+    → Did ts t₀ t₁ e₀ e₁ l c d bump → c.token < d.token
+bump_ahead s e a = ahead (bump_less s _ e) a
 
--- past a token of the kind that is seen
-module _ {ts : List Token} {t₀ t₁ e₀ e₁ : List ℕ} {l : ℕ} {c d : Cursor} (k : ℕ) (n : k ≡ NONE → ⊥) (e : current_kind (drop c.token ts) ≡ k) where
-  pub bump_ahead : Did ts t₀ t₁ e₀ e₁ l c d bump → c.token < d.token
-  bump_ahead a = ahead (bump_less (sees_kind k n) _ (at_kind_lem k _ e)) a
+-- and past one that is there
+pub next_ahead : {ts : List Token} {t₀ t₁ e₀ e₁ : List ℕ} {l : ℕ} {c d : Cursor} → 0 < length (drop c.token ts) → Did ts t₀ t₁ e₀ e₁ l c d next → c.token < d.token
+unfolding next
+next_ahead {ts} {c = c} h a = ahead (go (drop c.token ts) h) a
+  where
+    go : (us : List Token) → 0 < length us → length (next us).rest < length us
+    go [] q = absurd (omega arith)
+    go (u ∷ us) q = omega arith

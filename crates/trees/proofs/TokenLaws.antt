@@ -1,20 +1,15 @@
 -- What the token table holds at a cursor. Assumes nothing.
 use mathlib.Core.Path.{◌≡◌, refl, sym, ap, ◌∙◌}
 use mathlib.Core.List.{List, [], ◌∷◌, ◌++◌}
-use Prim.Native.Nat.{ℕ, zero, suc, ◌+◌, ◌*◌, ◌-◌, ◌≤◌, ◌<◌}
+use Prim.Native.Nat.{ℕ, zero, suc, ◌+◌, ◌*◌, ◌≤◌, ◌<◌}
 use native.Mathlib.Omega.{arith}
-use borrow.Author.Tests.{ltb-true, ltb-false}
-use lib.Dec.{ltb}
 use lib.ListN.{length, take, drop, get_or, drop_of_length-le, length-append}
 use lib.Seq.{drop-drop, take-append_seam, drop-append_seam}
-use Rattle.syntax.specs.Kind.{NONE}
-use Rattle.syntax.proofs.BoolLaws.{whether}
 use Rattle.lexer.specs.Lex.{Token, lex, token_rows}
 use Rattle.lexer.specs.Tokens.{joined}
 use Rattle.lexer.proofs.LexLaws.{lex_joined}
 use Rattle.lexer.proofs.ReadLaws.{token_rows_length}
 use Rattle.trees.specs.Green.{width}
-use Rattle.trees.specs.Look.{head_kind, head_text, tail_of}
 use Rattle.trees.specs.Writing.{Ready}
 use Rattle.trees.specs.declared.Cursor.{Cursor}
 use Rattle.trees.proofs.GreenLaws.{width_split}
@@ -72,34 +67,6 @@ module _ {ts : List Token} {tokens : List ℕ} {c : Cursor} (r : Ready ts tokens
   pub table_length : length tokens ≡ 3 * length ts
   table_length = rows_length ts r.rows
 
-  pub row : 3 * c.token < length tokens → Row 0 tokens ts c.token
-  row h = row_in ts r.rows c.token h
-
-  pub at_end : length tokens ≤ 3 * c.token → drop c.token ts ≡ []
-  at_end h = none_in ts r.rows c.token h
-
-  -- the cursor past the next token is at a token too, or at the end
-  pub ready_past : (k e : ℕ) → 3 * c.token < length tokens
-      → Ready ts tokens (record { token = c.token + 1; byte = get_or tokens (3 * c.token + 2) 0; row = k; error = e })
-  ready_past k e h =
-      let w = row h in
-      record { rows = r.rows; within = omega (arith, table_length); byte = w.end ∙ omega (arith, w.next) }
-
-  -- the kind of the next token, as the table and the definitions have it
-  pub head_kind_lem : 3 * c.token < length tokens → get_or tokens (3 * c.token) 0 ≡ head_kind (drop c.token ts)
-  head_kind_lem h = let w = row h in w.kind ∙ rw w.here
-
-  pub head_none : length tokens ≤ 3 * c.token → NONE ≡ head_kind (drop c.token ts)
-  head_none h = rw (at_end h)
-
-  -- a token of a kind that some token has is there
-  pub some_token : (k : ℕ) → head_kind (drop c.token ts) ≡ k → (k ≡ NONE → ⊥) → 3 * c.token < length tokens
-  some_token k e n =
-      whether (ltb (3 * c.token) (length tokens)) (λ t. ltb-true _ _ t) (λ t. absurd (n (sym e ∙ sym (head_none (ltb-false _ _ t)))))
-
-  pub tail_past : 3 * c.token < length tokens → drop (c.token + 1) ts ≡ tail_of (drop c.token ts)
-  tail_past h = let w = row h in rw w.here
-
 -- a token's bytes are a part of the rule
 joined_drop : (ts : List Token) (i : ℕ) → drop (width (take i ts)) (joined ts) ≡ joined (drop i ts)
 unfolding width joined
@@ -122,21 +89,3 @@ module _ (rule : List ℕ) {tokens : List ℕ} {i : ℕ} (w : Row 0 tokens (lex 
   text_within =
       let e : width (drop i (lex rule)) ≡ length w.token.text + width (drop (i + 1) (lex rule)) = ap width w.here in
       omega (arith, width_split i (lex rule), width_lex rule)
-
--- the part of the rule that is the next token, by the places that its row has
-pub record Part (rule tokens : List ℕ) (c : Cursor) : Type 0 where
-  pub ordered : get_or tokens (3 * c.token + 1) 0 ≤ get_or tokens (3 * c.token + 2) 0
-  pub within : get_or tokens (3 * c.token + 2) 0 ≤ length rule
-  pub text : take (get_or tokens (3 * c.token + 2) 0 - get_or tokens (3 * c.token + 1) 0) (drop (get_or tokens (3 * c.token + 1) 0) rule)
-      ≡ head_text (drop c.token (lex rule))
-
-pub part : {rule tokens : List ℕ} {c : Cursor} → Ready (lex rule) tokens c → 3 * c.token < length tokens → Part rule tokens c
-part {rule} {tokens} {c} r h =
-    let w = row r h in
-    let first : get_or tokens (3 * c.token + 1) 0 ≡ width (take c.token (lex rule)) = omega (arith, w.first) in
-    let long : get_or tokens (3 * c.token + 2) 0 - get_or tokens (3 * c.token + 1) 0 ≡ length w.token.text = omega (arith, w.first, w.end) in
-    record {
-      ordered = omega (arith, w.first, w.end);
-      within = omega (arith, w.end, text_within rule w);
-      text = rw (long, first) (text_part rule w ∙ rw w.here);
-    }

@@ -6,7 +6,7 @@ use Prim.Native.Nat.{ℕ, zero, suc, ◌+◌, ◌*◌, ◌<◌}
 use native.Mathlib.Omega.{arith}
 use borrow.Author.Tests.{eqb-true}
 use lib.Dec.{T, ltb, ltb→lt}
-use lib.ListN.{length}
+use lib.ListN.{length, drop}
 use Rattle.syntax.specs.Kind.{ROOT, NONE}
 use Rattle.syntax.proofs.BoolLaws.{whether}
 use Rattle.lexer.specs.Lex.{Token, word_kind, kind_of, past, token, lex_from, lex}
@@ -153,6 +153,17 @@ kinds_right : (xs ys : List Token) → Kinds (xs ++ ys) → Kinds ys
 unfolding Kinds
 kinds_right [] ys k = k
 kinds_right (x ∷ xs) ys k = kinds_right xs ys k.1
+
+pub kinds_drop : (i : ℕ) (ts : List Token) → Kinds ts → Kinds (drop i ts)
+unfolding Kinds
+kinds_drop zero ts k = k
+kinds_drop (suc i) [] k = k
+kinds_drop (suc i) (t ∷ ts) k = kinds_drop i ts k.1
+
+pub kinds_skip : (ts : List Token) → Kinds ts → Kinds (skip_ws ts)
+unfolding Kinds skip_ws
+kinds_skip [] k = k
+kinds_skip (t ∷ ts) k = whether (is_blank t) (λ e. rw (e, skip_ws) (kinds_skip ts k.1)) (λ e. rw (e, skip_ws) k)
 
 -- ---- nothing is left
 

@@ -3,21 +3,23 @@
 use mathlib.Core.Path.{◌≡◌, refl, sym, ap, ◌∙◌, subst}
 use mathlib.Core.List.{List, [], ◌∷◌, append-nil}
 use mathlib.Core.Bool.{Bool, true, false}
-use Prim.Native.Nat.{ℕ, suc, ◌+◌, ◌*◌, ◌-◌, ◌<◌, ◌≤◌, ◌^◌, max}
+use Prim.Native.Nat.{ℕ, suc, ◌+◌, ◌-◌, ◌<◌, ◌≤◌, ◌^◌, max}
 use native.Mathlib.Numerals.{towards_suc}
 use native.Mathlib.Omega.{arith}
-use lib.ListN.{length, drop, set, get_or, length-append, length-set}
+use lib.ListN.{length, drop, set, length-append}
 use lib.Seq.{sets, set-set, set_comm, length-sets}
 use Rattle.syntax.proofs.TableLaws.{sets_append}
-use Rattle.lexer.specs.Lex.{Token}
+use Rattle.lexer.specs.Lex.{Token, lex}
+use Rattle.reader.specs.declared.Row.{Row}
 use Rattle.trees.specs.Green.{nil, node, width, span, size, height}
-use Rattle.trees.specs.Look.{head_text}
+use Rattle.trees.specs.Look.{skip_ws, head_text}
 use Rattle.trees.specs.Parse.{Parsed, Parser, done, next, fails, fails_ahead, join, ◌▹◌, in_node, choose}
 use Rattle.trees.specs.Rows.{tree_rows, error_rows}
-use Rattle.trees.specs.Writing.{Ready, Skipped, Fits, Asks, Wrote, Did, Started, Finished}
+use Rattle.trees.specs.Writing.{Ready, Fits, Asks, Wrote, Did, Started, Finished}
 use Rattle.trees.specs.declared.Cursor.{Cursor}
 use Rattle.trees.proofs.GreenLaws.{span-⊹, size-⊹, height-⊹, tree_rows_length, tree_rows-⊹, error_rows_length, error_rows_append, width_split}
-use Rattle.trees.proofs.TokenLaws.{row, at_end, table_length}
+use Rattle.trees.proofs.TokenLaws.{width_lex}
+use Rattle.trees.proofs.PlaceLaws.{Seen}
 
 -- ---- nothing, the next token, an error
 
@@ -39,15 +41,14 @@ did_done r =
           };
     }
 
-pub did_next : {ts : List Token} {tokens t₀ t₁ e : List ℕ} {l : ℕ} {c : Cursor} → Ready ts tokens c → 3 * c.token < length tokens
-    → t₁ ≡ sets t₀ c.row (get_or tokens (3 * c.token) 0 ∷ l ∷ c.byte ∷ get_or tokens (3 * c.token + 2) 0 ∷ [])
-    → Did ts t₀ t₁ e e l c (record { token = c.token + 1; byte = get_or tokens (3 * c.token + 2) 0; row = c.row + 4; error = c.error }) next
+-- the token at the cursor, as its row has it
+pub did_next : {rule tokens t₀ t₁ e : List ℕ} {l : ℕ} {c : Cursor} {r : Row} → Ready (lex rule) tokens c → Seen rule c.token r
+    → t₁ ≡ sets t₀ c.row (r.kind ∷ l ∷ c.byte ∷ r.end ∷ [])
+    → Did (lex rule) t₀ t₁ e e l c (record { token = c.token + 1; byte = r.end; row = c.row + 4; error = c.error }) next
 unfolding next tree_rows error_rows size span
-did_next {ts} {tokens} {t₀} {t₁} {e} {l} {c} r h w =
-    let i = row r h in
-    let end : get_or tokens (3 * c.token + 2) 0 ≡ c.byte + length i.token.text = omega (arith, i.end, r.byte) in
-    let q : sets t₀ c.row (get_or tokens (3 * c.token) 0 ∷ l ∷ c.byte ∷ get_or tokens (3 * c.token + 2) 0 ∷ [])
-    ≡ sets t₀ c.row (i.token.kind ∷ l ∷ c.byte ∷ (c.byte + length i.token.text) ∷ []) = rw (i.kind, end) in
+did_next {t₀ = t₀} {l = l} {c = c} {r = r} a i w =
+    let end : r.end ≡ c.byte + length i.token.text = omega (arith, i.first, i.end, a.byte) in
+    let q : sets t₀ c.row (r.kind ∷ l ∷ c.byte ∷ r.end ∷ []) ≡ sets t₀ c.row (i.token.kind ∷ l ∷ c.byte ∷ (c.byte + length i.token.text) ∷ []) = rw (i.kind, end) in
     record {
       wrote =
           rw i.here (record {
@@ -57,23 +58,23 @@ did_next {ts} {tokens} {t₀} {t₁} {e} {l} {c} r h w =
             error = omega arith;
             rest = refl;
             ahead = omega arith;
-            within = omega (arith, table_length r);
-            place = end ∙ omega (arith, i.next, r.byte);
+            within = omega (arith, i.before);
+            place = sym i.next;
             bytes = omega (arith, end);
           });
     }
 
-pub did_next_end : {ts : List Token} {tokens t e : List ℕ} {l : ℕ} {c : Cursor} → Ready ts tokens c → length tokens ≤ 3 * c.token → Did ts t t e e l c c next
+pub did_next_end : {ts : List Token} {tokens t e : List ℕ} {l : ℕ} {c : Cursor} → Ready ts tokens c → drop c.token ts ≡ [] → Did ts t t e e l c c next
 unfolding next tree_rows error_rows size span
 did_next_end {ts} {c = c} r h =
     record {
       wrote =
-          rw (at_end r h) (record {
+          rw h (record {
             tree = refl;
             errors = refl;
             row = omega arith;
             error = omega arith;
-            rest = at_end r h;
+            rest = h;
             ahead = omega arith;
             within = r.within;
             place = r.byte;
@@ -81,56 +82,50 @@ did_next_end {ts} {c = c} r h =
           });
     }
 
--- the end byte of the token found
-pub found_end : {ts : List Token} {tokens : List ℕ} {c : Cursor} → Ready ts tokens c → length tokens ≤ 3 * c.token
-    → c.byte ≡ c.byte + length (head_text (drop c.token ts))
-found_end r h = rw (at_end r h) (omega arith)
+-- an error row: the place and the end of the token found, or the end of text
+module _ (rule : List ℕ) (i form k : ℕ) where
+  pub error_here : {r : Row} → Seen rule i r
+      → error_rows (length rule) (record { form = form; expected = k; left = drop i (lex rule) } ∷ []) ≡ form ∷ k ∷ r.first ∷ r.end ∷ []
+  unfolding error_rows
+  error_here {r} s =
+      let first : length rule - width (drop i (lex rule)) ≡ r.first = omega (arith, width_split i (lex rule), width_lex rule, s.first) in
+      let end : r.first + length (head_text (drop i (lex rule))) ≡ r.end = rw s.here (omega (arith, s.end)) in
+      rw (first, end)
 
-pub found_here : {ts : List Token} {tokens : List ℕ} {c : Cursor} → Ready ts tokens c → 3 * c.token < length tokens
-    → get_or tokens (3 * c.token + 2) 0 ≡ c.byte + length (head_text (drop c.token ts))
-found_here r h = let i = row r h in rw i.here (omega (arith, i.end, r.byte))
+  pub error_end : drop i (lex rule) ≡ []
+      → error_rows (length rule) (record { form = form; expected = k; left = drop i (lex rule) } ∷ []) ≡ form ∷ k ∷ length rule ∷ length rule ∷ []
+  unfolding error_rows width
+  error_end e = let z : length rule - 0 ≡ length rule = omega arith in let y : length rule - 0 + 0 ≡ length rule = omega arith in rw (e, y, z)
 
-pub did_fail : {ts : List Token} {tokens e₀ e₁ : List ℕ} {c : Cursor} (form k x : ℕ) → Ready ts tokens c
-    → x ≡ c.byte + length (head_text (drop c.token ts)) → e₁ ≡ sets e₀ c.error (form ∷ k ∷ c.byte ∷ x ∷ [])
-    → (t : List ℕ) (l : ℕ) → Did ts t t e₀ e₁ l c (record { token = c.token; byte = c.byte; row = c.row; error = c.error + 4 }) (fails form k)
-unfolding fails tree_rows error_rows size span
-did_fail {ts} {e₀ = e₀} {c = c} form k x r h w t l =
-    let b : width ts - width (drop c.token ts) ≡ c.byte = omega (arith, width_split c.token ts, r.byte) in
-    record {
-      wrote =
-          record {
-            tree = refl;
-            errors = w ∙ rw (h, b);
-            row = omega arith;
-            error = omega arith;
-            rest = refl;
-            ahead = omega arith;
-            within = r.within;
-            place = r.byte;
-            bytes = omega arith;
-          };
-    }
+module _ (rule : List ℕ) {tokens e₀ e₁ : List ℕ} {c : Cursor} (form k : ℕ) (r : Ready (lex rule) tokens c) where
+  reported : {us : List Token} (t : List ℕ) (l : ℕ) → e₁ ≡ sets e₀ c.error (error_rows (length rule) (record { form = form; expected = k; left = us } ∷ []))
+      → Wrote (lex rule) t t e₀ e₁ l c (record { token = c.token; byte = c.byte; row = c.row; error = c.error + 4 })
+      (record { made = nil; errors = record { form = form; expected = k; left = us } ∷ []; rest = drop c.token (lex rule) })
+  unfolding tree_rows error_rows size span
+  reported t l w =
+      record {
+        tree = refl;
+        errors = rw (width_lex rule) w;
+        row = omega arith;
+        error = omega arith;
+        rest = refl;
+        ahead = omega arith;
+        within = r.within;
+        place = r.byte;
+        bytes = omega arith;
+      }
 
-pub did_fail_ahead : {ts : List Token} {tokens e₀ e₁ : List ℕ} {c a d : Cursor} (form : ℕ) → Ready ts tokens c → Skipped ts tokens c a
-    → ((t : List ℕ) (l : ℕ) → Did ts t t e₀ e₁ l a d (fails form 0))
-    → (t : List ℕ) (l : ℕ) → Did ts t t e₀ e₁ l c (record { token = c.token; byte = c.byte; row = c.row; error = d.error }) (fails_ahead form)
-unfolding fails fails_ahead tree_rows error_rows size span
-did_fail_ahead {ts} {e₀ = e₀} {c = c} form r s f t l =
-    let b = (f t l).wrote in
-    record {
-      wrote =
-          record {
-            tree = refl;
-            errors = b.errors ∙ rw (s.error, s.here);
-            row = omega arith;
-            error = b.error ∙ rw s.error;
-            rest = refl;
-            ahead = omega arith;
-            within = r.within;
-            place = r.byte;
-            bytes = omega arith;
-          };
-    }
+  pub did_fail : (t : List ℕ) (l : ℕ)
+      → e₁ ≡ sets e₀ c.error (error_rows (length rule) (record { form = form; expected = k; left = drop c.token (lex rule) } ∷ []))
+      → Did (lex rule) t t e₀ e₁ l c (record { token = c.token; byte = c.byte; row = c.row; error = c.error + 4 }) (fails form k)
+  unfolding fails
+  did_fail t l w = record { wrote = reported t l w }
+
+pub did_fail_ahead : (rule : List ℕ) {tokens e₀ e₁ : List ℕ} {c : Cursor} (form : ℕ) → Ready (lex rule) tokens c → (t : List ℕ) (l : ℕ)
+    → e₁ ≡ sets e₀ c.error (error_rows (length rule) (record { form = form; expected = 0; left = skip_ws (drop c.token (lex rule)) } ∷ []))
+    → Did (lex rule) t t e₀ e₁ l c (record { token = c.token; byte = c.byte; row = c.row; error = c.error + 4 }) (fails_ahead form)
+unfolding fails_ahead
+did_fail_ahead rule form r t l w = record { wrote = reported rule form 0 r t l w }
 
 -- ---- one after another
 
@@ -275,22 +270,14 @@ module _ {ts : List Token} {tokens t e : List ℕ} {l : ℕ} {c : Cursor} (k : �
 pub started_long : {t₀ t₁ : List ℕ} {k l : ℕ} {c d : Cursor} → Started t₀ t₁ k l c d → length t₁ ≡ length t₀
 started_long o = ap length o.tree ∙ simp length-sets
 
-pub finished_long : {t₀ t₁ : List ℕ} {at : ℕ} {r s : Cursor} → Finished t₀ t₁ at r s → length t₁ ≡ length t₀
-finished_long f = ap length f.tree ∙ simp length-set
-
--- room to set the node's end after what is inside was written
-pub finish_room : {ts : List Token} {t₀ t₁ t₂ e₀ e₁ : List ℕ} {k l m : ℕ} {c d r : Cursor} {p : Parser}
-    → c.row + 4 ≤ length t₀ → Started t₀ t₁ k l c d → Did ts t₁ t₂ e₀ e₁ m d r p → c.row + 4 ≤ length t₂
-finish_room h o a = omega (arith, started_long o, tree_long a)
-
 -- ---- a choice, and a definition for another that reads alike
 
 module _ (test : List Token → Bool) (p q : Parser) (ts : List Token) where
-  choose_true : test ts ≡ true → choose test p q ts ≡ p ts
+  pub choose_true : test ts ≡ true → choose test p q ts ≡ p ts
   unfolding choose
   choose_true e = rw (e, choose)
 
-  choose_false : test ts ≡ false → choose test p q ts ≡ q ts
+  pub choose_false : test ts ≡ false → choose test p q ts ≡ q ts
   unfolding choose
   choose_false e = rw (e, choose)
 
@@ -310,25 +297,8 @@ pub did_meet : {ts : List Token} {t₀ t₁ t₂ e₀ e₁ e₂ : List ℕ} {l :
     → Did ts t₀ t₁ e₀ e₁ l c r p
 did_meet t e q a = rw (t, e, q) a
 
-module _ {ts : List Token} {tokens t es : List ℕ} {l : ℕ} {c : Cursor} (test : List Token → Bool) (p q : Parser) where
-  pub asks_true : test (drop c.token ts) ≡ true → Asks ts tokens t es l c (choose test p q) → Asks ts tokens t es l c p
-  asks_true e f = asks_as (choose_true test p q (drop c.token ts) e) f
-
-  pub asks_false : test (drop c.token ts) ≡ false → Asks ts tokens t es l c (choose test p q) → Asks ts tokens t es l c q
-  asks_false e f = asks_as (choose_false test p q (drop c.token ts) e) f
-
-module _ {ts : List Token} {t₀ t₁ e₀ e₁ : List ℕ} {l : ℕ} {c r : Cursor} (test : List Token → Bool) (p q : Parser) where
-  pub did_true : test (drop c.token ts) ≡ true → Did ts t₀ t₁ e₀ e₁ l c r p → Did ts t₀ t₁ e₀ e₁ l c r (choose test p q)
-  did_true e a = did_as (choose_true test p q (drop c.token ts) e) a
-
-  pub did_false : test (drop c.token ts) ≡ false → Did ts t₀ t₁ e₀ e₁ l c r q → Did ts t₀ t₁ e₀ e₁ l c r (choose test p q)
-  did_false e a = did_as (choose_false test p q (drop c.token ts) e) a
-
 -- one definition for another that is the same
 module _ {p q : Parser} (e : p ≡ q) where
-  pub fits_is : {ts : List Token} {tokens t : List ℕ} {c : Cursor} → Fits ts tokens t c p → Fits ts tokens t c q
-  fits_is {ts} {tokens} {t} {c} f = subst (λ (x : Parser). Fits ts tokens t c x) e f
-
   pub asks_is : {ts : List Token} {tokens t es : List ℕ} {l : ℕ} {c : Cursor} → Asks ts tokens t es l c p → Asks ts tokens t es l c q
   asks_is {ts} {tokens} {t} {es} {l} {c} f = subst (λ (x : Parser). Asks ts tokens t es l c x) e f
 

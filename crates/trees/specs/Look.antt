@@ -1,5 +1,5 @@
 -- parser.rs, "Token helpers": looks at the tokens left, which take none. Assumes nothing: these are definitions.
-use Rattle.std.specs.Prelude.{ℕ, ◌+◌, ◌-◌, Bool, true, false, ◌&&◌, ◌||◌, List, [], ◌∷◌, eqb}
+use Rattle.std.specs.Prelude.{ℕ, ◌+◌, ◌-◌, Bool, true, false, ◌&&◌, ◌||◌, List, [], ◌∷◌, eqb, Option, Some, None}
 use Rattle.syntax.specs.Kind.{WHITESPACE, IDENT, DOT, L_PAREN, R_PAREN, EQ_EQ, NEQ, GE, GT, LE, LT, INT_LIT, NONE}
 use Rattle.syntax.specs.Text.{ascii, same}
 use Rattle.lexer.specs.Lex.{Token}
@@ -16,6 +16,11 @@ skip_ws (t ∷ ts) = elim (is_blank t) [ true ↦ skip_ws ts | false ↦ t ∷ t
 abbrev pub head_kind : List Token → ℕ
 head_kind [] = NONE
 head_kind (t ∷ ts) = t.kind
+
+-- the same where the end has no kind
+abbrev pub first_kind : List Token → Option ℕ
+first_kind [] = None
+first_kind (t ∷ ts) = Some (t.kind)
 
 abbrev pub head_text : List Token → List ℕ
 head_text [] = []

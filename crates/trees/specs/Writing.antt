@@ -4,7 +4,6 @@ use Rattle.std.proofs.lemmas.List.Edits.{sets}
 use Rattle.syntax.specs.Kind.{AND_KW, OR_KW}
 use Rattle.lexer.specs.Lex.{Token, token_rows}
 use Rattle.trees.specs.Green.{size, height, width, span}
-use Rattle.trees.specs.Look.{skip_ws, tail_of}
 use Rattle.trees.specs.Parse.{Parsed, Parser}
 use Rattle.trees.specs.Rows.{tree_rows, error_rows}
 use Rattle.trees.specs.declared.Cursor.{Cursor}
@@ -15,24 +14,6 @@ pub record Ready (ts : List Token) (tokens : List ℕ) (c : Cursor) : Type 0 whe
   pub rows : tokens ≡ token_rows 0 ts
   pub within : c.token ≤ length ts
   pub byte : c.byte ≡ width (take c.token ts)
-
--- and no blank comes next
-pub record Solid (ts : List Token) (tokens : List ℕ) (c : Cursor) : Type 0 where
-  pub ready : Ready ts tokens c
-  pub here : skip_ws (drop c.token ts) ≡ drop c.token ts
-
--- r stands past the next token
-pub record Past (ts : List Token) (tokens : List ℕ) (c r : Cursor) : Type 0 where
-  pub ready : Ready ts tokens r
-  pub token : r.token ≡ c.token + 1
-  pub here : drop r.token ts ≡ tail_of (drop c.token ts)
-  pub error : r.error ≡ c.error
-
--- r stands at the first token from c on that is no blank, or at the end
-pub record Skipped (ts : List Token) (tokens : List ℕ) (c r : Cursor) : Type 0 where
-  pub ready : Ready ts tokens r
-  pub here : drop r.token ts ≡ skip_ws (drop c.token ts)
-  pub error : r.error ≡ c.error
 
 -- and the tree table t has room for the rows of what p makes there
 pub record Fits (ts : List Token) (tokens t : List ℕ) (c : Cursor) (p : Parser) : Type 0 where

@@ -1,17 +1,6 @@
--- `put_row` stores the four numbers one after the other. Assumes nothing.
-use native.Mathlib.Numerals.{add-one, add-two, add-three}
-use lib.ListN.{length-set}
-use native.Mathlib.Omega.{arith}
+-- `put_row` puts its four numbers in the place of those that stand there. Assumes nothing.
+use Rattle.parser.proofs.ParserLaws.{put_is}
 use Rattle.parser.proofs.put_row.Goals as goal
 
-pub bounds-table-at-2 : goal.bounds-table-at-2
-bounds-table-at-2 c = simp length-set (omega arith)
-
-pub bounds-table-at-3 : goal.bounds-table-at-3
-bounds-table-at-3 c = simp length-set (omega arith)
-
-pub bounds-table-at-4 : goal.bounds-table-at-4
-bounds-table-at-4 c = simp length-set (omega arith)
-
 pub returns : goal.returns
-returns c = rw (add-one, add-two, add-three)
+returns c = put_is _ _ _ _ c.requires c.copy_from_slice.ensures.len c.copy_from_slice.ensures.after

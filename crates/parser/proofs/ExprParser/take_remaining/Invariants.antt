@@ -1,0 +1,12 @@
+-- `take_remaining` writes all tokens left, and going on from each place ends as the whole does. Assumes nothing.
+use lib.ListN.{length}
+use Rattle.trees.specs.Parse.{remaining}
+use Rattle.parser.specs.Parser.{left}
+use Rattle.parser.proofs.ParserLaws.{Ongoing}
+use Rattle.parser.proofs.ExprParser.take_remaining.Given as goal
+
+abbrev pub invariant-loop-self : goal.invariant-loop-self
+invariant-loop-self l = Ongoing l.initial.self l.self remaining remaining
+
+abbrev pub decreases-loop-self : goal.decreases-loop-self
+decreases-loop-self l = length (left l.self)
