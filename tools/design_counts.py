@@ -30,9 +30,7 @@ def functions(path, text):
             depth += {"(": 1, ")": -1}.get(text[i], 0)
             i += 1
         params = [p.split(":")[0].replace("mut ", "").strip() for p in re.split(r",\s*(?![^<(\[]*[>)\]])", text[m.end():i - 1]) if p.strip()]
-        start = text.find("\n{\n", i - 1)
-        same_line = text.find("{\n", i)
-        brace = same_line if start < 0 or same_line < start and "ensures" not in text[i:same_line] else start + 1
+        brace = text.find("{\n", i)
         j, depth = brace + 1, 1
         while depth and j < len(text):
             depth += {"{": 1, "}": -1}.get(text[j], 0)
