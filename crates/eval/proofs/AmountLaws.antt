@@ -8,16 +8,16 @@ use lib.Dec.{eqb, ltb}
 use lib.ListN.{length}
 use Rattle.syntax.specs.Kind.{IDENT_EXPR, COUNT_COMPARE_EXPR}
 use Rattle.syntax.specs.Refusal.{refusal_number}
-use Rattle.syntax.specs.declared.refusal.Check.{Check}
+use Rattle.syntax.specs.Refusal.{Check}
 use Rattle.syntax.specs.declared.refusal.Refusal.{Refusal}
 use Rattle.syntax.specs.declared.refusal.Refusal.TheVariants.{RuleTooLong, RuleNotUtf8, TableTooShort, TooManyOpeners, ImageBadSections, ImageBadStrings, ImageBadRecords, CollectionTooShort, ParseErrors, WhereOnNoCollection, QuantifierOnNoCollection, CountOnNoCollection, FeaturesOnNoComponents, DiagnosticsOnNoDiagnostics, ComparisonNotCountable, IntegerTooLarge}
 use Rattle.syntax.proofs.BoolLaws.{whether}
 use Rattle.lexer.specs.Read.{check_rule}
 use Rattle.trees.specs.Green.{Forest, nil, leaf, node}
 use Rattle.trees.specs.Parse.{parse_expr}
+use Rattle.std.specs.Prelude.{Ok, Err}
 use Rattle.trees.specs.Read.{rows_read}
-use Rattle.trees.specs.declared.Reading.{Reading}
-use Rattle.trees.proofs.ReadLaws.{rows_few}
+use Rattle.trees.proofs.ReadLaws.{counted, rows_few}
 use Rattle.board.specs.declared.image.Section.TheVariants.{Components, Features, Diagnostics}
 use Rattle.board.specs.Image.{component_count, feature_count, diagnostic_count}
 use Rattle.board.specs.Check.{MAX_IMAGE, check_image}
@@ -25,8 +25,11 @@ use Rattle.board.specs.WellFormed.{WellFormed}
 use Rattle.board.proofs.BoardLaws.{passed_well_formed}
 use Rattle.predicate.specs.declared.atom.Member.{Member}
 use Rattle.predicate.specs.Truth.{literal_of}
-use Rattle.meaning.specs.Value.{Sort, components, diagnostics, Outcome, collection, boolean, refused, Kind, sort_kind}
-use Rattle.meaning.specs.Calls.{Method, Where, All, Any, None, Count, Entry, next, refuse, Call, is_empty, call_gives, calls_give}
+use Rattle.meaning.specs.declared.ValueKind.{ValueKind}
+use Rattle.meaning.specs.Value.{Sort, components, diagnostics, Outcome, collection, boolean, refused, sort_kind}
+use Rattle.meaning.specs.declared.Method.{Method}
+use Rattle.meaning.specs.declared.Method.TheVariants.{Where, All, Any, None, Count}
+use Rattle.meaning.specs.Calls.{Entry, Call, is_empty, call_gives, calls_give}
 use Rattle.meaning.specs.Pipeline.{all_components, is_of_analysis, diagnostics_of, source_of, calls_of, eval_pipeline}
 use Rattle.meaning.specs.Compare.{MAX_INTEGER, operator_holds, against, compared, operator_of, integer_of}
 use Rattle.meaning.specs.Outcome.{Lent, first_kind, first_inner, eval_count_compare, eval_node, outcome_of, outcome, then_check, check_run, after_check, run}
@@ -91,22 +94,22 @@ judged_few Count arrived passed = boolean_few _ _
 judged_few Method.Features arrived passed = boolean_few _ _
 judged_few Method.Diagnostics arrived passed = boolean_few _ _
 
-settled_few : (kind : Kind) (method : Method) (passed : ℕ) (ms : List Member) → length ms ≤ MAX_IMAGE → Few (settled kind method (length ms) passed ms)
+settled_few : (kind : ValueKind) (method : Method) (passed : ℕ) (ms : List Member) → length ms ≤ MAX_IMAGE → Few (settled kind method (length ms) passed ms)
 unfolding settled
-settled_few Kind.Components method passed ms h = record { few = h }
-settled_few Kind.Features method passed ms h = record { few = h }
-settled_few Kind.Diagnostics method passed ms h = record { few = h }
-settled_few Kind.Boolean method passed ms h = judged_few method (length ms) passed
-settled_few Kind.Count method passed ms h = record { few = h }
+settled_few ValueKind.Components method passed ms h = record { few = h }
+settled_few ValueKind.Features method passed ms h = record { few = h }
+settled_few ValueKind.Diagnostics method passed ms h = record { few = h }
+settled_few ValueKind.Boolean method passed ms h = judged_few method (length ms) passed
+settled_few ValueKind.Count method passed ms h = record { few = h }
 
 calls_few : (image : List ℕ) (calls : List Call) (sort : Sort) (ms : List Member) → length (arrivals image calls ms) ≤ MAX_IMAGE
     → Few (calls_give image calls (collection sort ms))
 calls_few image calls sort ms h = go (plan_of (sort_kind sort) calls) refl
   where
     go : (e : Entry) → plan_of (sort_kind sort) calls ≡ e → Few (calls_give image calls (collection sort ms))
-    go (next kind) e =
+    go (Ok kind) e =
         subst Few (sym (calls_settled image calls sort ms kind e)) (settled_few kind (last_method calls) (how_many (last_test image calls) (arrivals image calls ms)) (arrivals image calls ms) h)
-    go (refuse r) e = subst Few (sym (calls_refused image calls sort ms r e)) (refused_few r)
+    go (Err r) e = subst Few (sym (calls_refused image calls sort ms r e)) (refused_few r)
 
 -- of calls on nothing
 after_refusal : (image : List ℕ) (calls : List Call) (r : Refusal) → Few (calls_give image calls (refused r))
@@ -163,18 +166,18 @@ module _ (rule image : List ℕ) (lent : Lent) where
   run_few = go (check_rule rule lent.tokens lent.tree lent.errors) (check_image image lent.collection) refl
     where
       go : (k m : Check) → check_image image lent.collection ≡ m → Few (after_check (then_check k m) (outcome image rule))
-      go Check.Passed Check.Passed e = outcome_few image (passed_well_formed image lent.collection e) rule
-      go Check.Passed (Check.Refused r) e = refused_few r
-      go (Check.Refused r) m e = refused_few r
+      go (Ok _) (Ok _) e = outcome_few image (passed_well_formed image lent.collection e) rule
+      go (Ok _) (Err r) e = refused_few r
+      go (Err r) m e = refused_few r
 
   -- and the numbers of its rows
-  pub run_rows_few : {a b c : ℕ} → Reading.Rows a b c ≡ rows_read (check_run rule image lent) rule → (a ≤ 500) × (b ≤ 3505) × (c ≤ 3004)
+  pub run_rows_few : {a b c : ℕ} → Ok (counted a b c) ≡ rows_read (check_run rule image lent) rule → (a ≤ 500) × (b ≤ 3505) × (c ≤ 3004)
   unfolding check_run
   run_rows_few {a} {b} {c} = go (check_rule rule lent.tokens lent.tree lent.errors) (check_image image lent.collection) refl
     where
-      go : (k m : Check) → check_rule rule lent.tokens lent.tree lent.errors ≡ k → Reading.Rows a b c ≡ rows_read (then_check k m) rule
+      go : (k m : Check) → check_rule rule lent.tokens lent.tree lent.errors ≡ k → Ok (counted a b c) ≡ rows_read (then_check k m) rule
           → (a ≤ 500) × (b ≤ 3505) × (c ≤ 3004)
-      go Check.Passed Check.Passed p q =
+      go (Ok _) (Ok _) p q =
           rows_few rule lent.tokens lent.tree lent.errors (q ∙ ap (λ (k : Check). rows_read k rule) (sym p))
-      go Check.Passed (Check.Refused r) p q = let z : ◌≡◌ {A = ℕ} 0 1 = cc in absurd (omega arith)
-      go (Check.Refused r) m p q = let z : ◌≡◌ {A = ℕ} 0 1 = cc in absurd (omega arith)
+      go (Ok _) (Err r) p q = let z : ◌≡◌ {A = ℕ} 0 1 = cc in absurd (omega arith)
+      go (Err r) m p q = let z : ◌≡◌ {A = ℕ} 0 1 = cc in absurd (omega arith)

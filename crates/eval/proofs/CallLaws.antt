@@ -3,6 +3,7 @@ use mathlib.Core.Path.{◌≡◌, refl, sym, ap, ◌∙◌, subst}
 use mathlib.Core.Bool.{Bool, true, false, ◌&&◌}
 use mathlib.Core.List.{List, [], ◌∷◌, ◌++◌, map, append_assoc, append-nil}
 use Rattle.std.proofs.lemmas.List.{map-append, take_more_set}
+use Rattle.std.specs.Prelude.{Option, Some, None}
 use Prim.Native.Nat.{ℕ, ◌+◌, ◌≤◌, ◌<◌}
 use native.Mathlib.Omega.{arith}
 use lib.Dec.{eqb, leb}
@@ -10,7 +11,6 @@ use lib.ListN.{length, take, set, length-set}
 use borrow.Author.Tests.{eqb-true, eqb-false, leb-true, leb-false, lt-leb}
 use Rattle.syntax.specs.Kind.{IDENT, ROOT, DOT_CALL, CALL_ARGS}
 use Rattle.syntax.proofs.BoolLaws.{whether, both}
-use Rattle.matching.specs.declared.search.Found.{Found}
 use Rattle.predicate.specs.Truth.{first_text}
 use Rattle.trees.specs.Green.{Forest}
 use Rattle.predicate.specs.Rows.{ROW, kind_at, level_at, text_at, forest_from, children_at, is_row, is_below, row_passes, of_kind, first_row}
@@ -19,7 +19,6 @@ use Rattle.predicate.proofs.ForestLaws.{forest_below, forest_token, forest_node,
 use Rattle.predicate.proofs.NodeLaws.{row_found, row_absent}
 use Rattle.meaning.specs.Calls.{Call}
 use Rattle.meaning.specs.Pipeline.{method_of, args_of, call_of, calls_of}
-use Rattle.calls.proofs.TableLaws.{method_at_lem}
 use Rattle.eval.specs.declared.ready.Call.{Call as PlacedCall}
 use Rattle.eval.specs.Ready.{call_in, calls_in, place_or, args_place, call_row, CallsFit, Putting, PutsRow, Holds}
 
@@ -46,11 +45,11 @@ unfolding args_of
 args_none rule tree level from n = ignored_none args_ignores rule n ∙ sym (children_none rule tree (length tree) (no_row tree))
 
 -- its place
-pub args_at : (tree : List ℕ) (row : ℕ) {found : Found} {at : ℕ} → found ≡ first_row (of_kind CALL_ARGS) tree (level_at tree row + 1) (row + ROW) → found ≡ Found.At at → at ≡ args_place tree row
+pub args_at : (tree : List ℕ) (row : ℕ) {found : Option ℕ} {at : ℕ} → found ≡ first_row (of_kind CALL_ARGS) tree (level_at tree row + 1) (row + ROW) → found ≡ Some at → at ≡ args_place tree row
 unfolding args_place
 args_at tree row e h = sym (ap (place_or (length tree)) (sym e ∙ h))
 
-pub args_past : (tree : List ℕ) (row : ℕ) {found : Found} → found ≡ first_row (of_kind CALL_ARGS) tree (level_at tree row + 1) (row + ROW) → found ≡ Found.Absent → length tree ≡ args_place tree row
+pub args_past : (tree : List ℕ) (row : ℕ) {found : Option ℕ} → found ≡ first_row (of_kind CALL_ARGS) tree (level_at tree row + 1) (row + ROW) → found ≡ None → length tree ≡ args_place tree row
 unfolding args_place
 args_past tree row e h = sym (ap (place_or (length tree)) (sym e ∙ h))
 
@@ -58,13 +57,13 @@ args_placed : (rule tree : List ℕ) (row : ℕ) → children_at rule tree (args
 unfolding args_place
 args_placed rule tree row = go (first_row (of_kind CALL_ARGS) tree (level_at tree row + 1) (row + ROW)) refl
   where
-    go : (f : Found) → first_row (of_kind CALL_ARGS) tree (level_at tree row + 1) (row + ROW) ≡ f → children_at rule tree (place_or (length tree) f) ≡ args_of (children_at rule tree row)
-    go (Found.At at) e = sym (args_found rule tree (level_at tree row + 1) (row + ROW) at (row_found e))
-    go Found.Absent e = sym (args_none rule tree (level_at tree row + 1) (row + ROW) (row_absent e))
+    go : (f : Option ℕ) → first_row (of_kind CALL_ARGS) tree (level_at tree row + 1) (row + ROW) ≡ f → children_at rule tree (place_or (length tree) f) ≡ args_of (children_at rule tree row)
+    go (Some at) e = sym (args_found rule tree (level_at tree row + 1) (row + ROW) at (row_found e))
+    go None e = sym (args_none rule tree (level_at tree row + 1) (row + ROW) (row_absent e))
 
 -- it stands for the call
 call_row_lem : (rule tree : List ℕ) (row : ℕ) → call_in rule tree (call_row rule tree row) ≡ call_of (children_at rule tree row)
-call_row_lem rule tree row = λ i. record { method = method_at_lem (method_of (first_text IDENT (children_at rule tree row))) i; args = args_placed rule tree row i }
+call_row_lem rule tree row = λ i. record { method = method_of (first_text IDENT (children_at rule tree row)); args = args_placed rule tree row i }
 
 -- ---- what ignores rows that fail a test, by the first row of the tree
 

@@ -8,9 +8,7 @@ use native.Mathlib.Nat.{add-zero}
 use native.Mathlib.Omega.{arith}
 use lib.ListN.{length, length-append}
 use lib.Seq.{sets, length-sets}
-use lib.Dec.{eqb}
-use borrow.Author.Tests.{ltb-true, lt-ltb, ne_eqb}
-use Rattle.syntax.proofs.BoolLaws.{whether}
+use borrow.Author.Tests.{ltb-true, lt-ltb}
 use Rattle.syntax.proofs.TableLaws.{sets_append}
 use Rattle.board.specs.Check.{COLLECTION_ROW}
 use Rattle.board.specs.Image.{first_feature}
@@ -18,16 +16,17 @@ use Rattle.instance.specs.Instance.{features_end}
 use Rattle.predicate.specs.declared.atom.Member.{Member}
 use Rattle.predicate.specs.declared.atom.Member.TheVariants.{Component, Feature, Diagnostic}
 use Rattle.meaning.specs.Value.{row_of, rows_of}
-use Rattle.meaning.specs.Calls.{Method, Where, All, Any, None, Count, Features, Diagnostics, Call, method_number, keep, kept, up_from, true_for, features_of}
+use Rattle.meaning.specs.declared.Method.{Method}
+use Rattle.meaning.specs.declared.Method.TheVariants.{Where, All, Any, None, Count, Features, Diagnostics}
+use Rattle.meaning.specs.Calls.{Call, keep, kept, up_from, true_for, features_of}
 use Rattle.meaning.specs.Walk.{is_quantifier, is_last, arrivals, last_call, test_in, how_many}
 use Rattle.meaning.proofs.WalkLaws.{up_to, arrive_end, arrive_kept, arrive_dropped, arrive_passed, arrive_component, arrive_feature, arrive_diagnostic, arrive_last, last_here, last_later, how_many_append, how_many_most, rows_append, rows_length, up_all, features_made, made_turn, made_over, kept_turn, kept_skip, kept_over}
 use Rattle.predicate.specs.Truth.{truth}
 use Rattle.predicate.specs.Rows.{children_at}
-use Rattle.calls.specs.Table.{method_at}
 use Rattle.eval.specs.declared.ready.Call.{Call as PlacedCall}
 use Rattle.eval.specs.Ready.{call_in, nth, calls_from}
 use Rattle.eval.specs.Feed.{State, listed, arrive, fed, decided, Fits, Stands}
-use Rattle.eval.proofs.ReadyLaws.{calls_at, calls_over, method_is, method_past, last_between}
+use Rattle.eval.proofs.ReadyLaws.{calls_at, calls_over}
 
 -- a state by its parts
 abbrev pub state : (arrived passed : ℕ) → List ℕ → State
@@ -191,18 +190,6 @@ decided_quantifier Count arrived passed d = absurd (false≢true d)
 decided_quantifier Features arrived passed d = absurd (false≢true d)
 decided_quantifier Diagnostics arrived passed d = absurd (false≢true d)
 
--- by the number of the call
-module _ (arrived passed : ℕ) where
-  pub decided_at : (n : ℕ) (last : Method) {b : Bool} → n ≡ method_number last → b ≡ decided last arrived passed → b ≡ decided (method_at n) arrived passed
-  decided_at n last e h = h ∙ ap (λ (m : Method). decided m arrived passed) (sym (method_is n last e))
-
-  pub decided_other : (n : ℕ) → (n ≡ 1 → ⊥) → (n ≡ 2 → ⊥) → (n ≡ 3 → ⊥) → false ≡ decided (method_at n) arrived passed
-  unfolding method_at
-  decided_other n a b c = whether (eqb n 0) (λ e. rw e refl) (λ e. rw (e, ne_eqb n 1 a, ne_eqb n 2 b, ne_eqb n 3 c) rest)
-    where
-      rest : false ≡ decided (cond (eqb n 4) Count (cond (eqb n 5) Features Diagnostics)) arrived passed
-      rest = whether (eqb n 4) (λ e. rw e refl) (λ e. rw e (whether (eqb n 5) (λ d. rw d refl) (λ d. rw d refl)))
-
 -- whether it is decided in a state
 abbrev decided_in : Method → State → Bool
 decided_in last s = decided last s.arrived s.passed
@@ -331,7 +318,7 @@ module _ (rule image tree : List ℕ) (rows : List PlacedCall) (i : ℕ) where
   abbrev later : List Call
   later = calls_from rule tree rows (i + 1)
 
-  abbrev method : ℕ
+  abbrev method : Method
   method = (nth rows i).method
 
   abbrev args : ℕ
@@ -344,39 +331,35 @@ module _ (rule image tree : List ℕ) (rows : List PlacedCall) (i : ℕ) where
     here : (P : List Call → Type 0) → P (call ∷ later) → P calls
     here P p = subst P (sym (calls_at rule tree rows i h)) p
 
-    pub here_kept : (m : Member) → method ≡ method_number Where → truth image m (children_at rule tree args) ≡ true → Alike image calls (m ∷ []) later (m ∷ [])
-    here_kept m e t = here (λ cs. Alike image cs (m ∷ []) later (m ∷ [])) (at_kept image call later m (method_is method Where e) t)
+    pub here_kept : (m : Member) → method ≡ Where → truth image m (children_at rule tree args) ≡ true → Alike image calls (m ∷ []) later (m ∷ [])
+    here_kept m e t = here (λ cs. Alike image cs (m ∷ []) later (m ∷ [])) (at_kept image call later m e t)
 
-    pub here_dropped : (m : Member) → method ≡ method_number Where → truth image m (children_at rule tree args) ≡ false → Lost image calls (m ∷ [])
-    here_dropped m e t = here (λ cs. Lost image cs (m ∷ [])) (at_dropped image call later m (method_is method Where e) t)
+    pub here_dropped : (m : Member) → method ≡ Where → truth image m (children_at rule tree args) ≡ false → Lost image calls (m ∷ [])
+    here_dropped m e t = here (λ cs. Lost image cs (m ∷ [])) (at_dropped image call later m e t)
 
-    pub here_passed : (m : Member) → method_number Features < method → Alike image calls (m ∷ []) later (m ∷ [])
-    here_passed m l = here (λ cs. Alike image cs (m ∷ []) later (m ∷ [])) (at_passed image call later m (method_past method l))
+    pub here_passed : (m : Member) → method ≡ Diagnostics → Alike image calls (m ∷ []) later (m ∷ [])
+    here_passed m l = here (λ cs. Alike image cs (m ∷ []) later (m ∷ [])) (at_passed image call later m l)
 
-    pub here_features : (m : Member) (c : ℕ) → method ≡ method_number Features → m ≡ Component c → Alike image calls (m ∷ []) later (features_of image c)
-    here_features m c e q = here (λ cs. Alike image cs (m ∷ []) later (features_of image c)) (subst (λ (m : Member). Alike image (call ∷ later) (m ∷ []) later (features_of image c)) (sym q) (at_features image call later (method_is method Features e) c))
+    pub here_features : (m : Member) (c : ℕ) → method ≡ Features → m ≡ Component c → Alike image calls (m ∷ []) later (features_of image c)
+    here_features m c e q = here (λ cs. Alike image cs (m ∷ []) later (features_of image c)) (subst (λ (m : Member). Alike image (call ∷ later) (m ∷ []) later (features_of image c)) (sym q) (at_features image call later e c))
 
-    pub here_feature : (m : Member) (c f : ℕ) → method ≡ method_number Features → m ≡ Feature c f → Lost image calls (m ∷ [])
-    here_feature m c f e q = here (λ cs. Lost image cs (m ∷ [])) (subst (λ (m : Member). Lost image (call ∷ later) (m ∷ [])) (sym q) (at_feature image call later (method_is method Features e) c f))
+    pub here_feature : (m : Member) (c f : ℕ) → method ≡ Features → m ≡ Feature c f → Lost image calls (m ∷ [])
+    here_feature m c f e q = here (λ cs. Lost image cs (m ∷ [])) (subst (λ (m : Member). Lost image (call ∷ later) (m ∷ [])) (sym q) (at_feature image call later e c f))
 
-    pub here_diagnostic : (m : Member) (d : ℕ) → method ≡ method_number Features → m ≡ Diagnostic d → Lost image calls (m ∷ [])
-    here_diagnostic m d e q = here (λ cs. Lost image cs (m ∷ [])) (subst (λ (m : Member). Lost image (call ∷ later) (m ∷ [])) (sym q) (at_diagnostic image call later (method_is method Features e) d))
+    pub here_diagnostic : (m : Member) (d : ℕ) → method ≡ Features → m ≡ Diagnostic d → Lost image calls (m ∷ [])
+    here_diagnostic m d e q = here (λ cs. Lost image cs (m ∷ [])) (subst (λ (m : Member). Lost image (call ∷ later) (m ∷ [])) (sym q) (at_diagnostic image call later e d))
 
-    -- a call that is none of these is the last
-    pub here_last : (method ≡ method_number Where → ⊥) → (method ≡ method_number Features → ⊥) → method ≤ method_number Features → is_last (method_at method) ≡ true
-    here_last w f l = last_between method w f l
-
-    pub here_arrives : (m : Member) (s : State) → is_last (method_at method) ≡ true
-        → state (s.arrived + 1) (s.passed + cond (is_quantifier (method_at method) && truth image m (children_at rule tree args)) 1 0) s.table ≡ fed image calls (m ∷ []) s
+    pub here_arrives : (m : Member) (s : State) → is_last method ≡ true
+        → state (s.arrived + 1) (s.passed + cond (is_quantifier method && truth image m (children_at rule tree args)) 1 0) s.table ≡ fed image calls (m ∷ []) s
     here_arrives m s l =
-        here (λ cs. state (s.arrived + 1) (s.passed + cond (is_quantifier (method_at method) && truth image m (children_at rule tree args)) 1 0) s.table ≡ fed image cs (m ∷ []) s)
-        (fed_last image call later m s (is_quantifier (method_at method) && truth image m (children_at rule tree args)) l refl)
+        here (λ cs. state (s.arrived + 1) (s.passed + cond (is_quantifier method && truth image m (children_at rule tree args)) 1 0) s.table ≡ fed image cs (m ∷ []) s)
+        (fed_last image call later m s (is_quantifier method && truth image m (children_at rule tree args)) l refl)
 
     -- it arrives, and there is room for it
-    pub here_one : (m : Member) → is_last (method_at method) ≡ true → arrivals image calls (m ∷ []) ≡ m ∷ []
+    pub here_one : (m : Member) → is_last method ≡ true → arrivals image calls (m ∷ []) ≡ m ∷ []
     here_one m l = here (λ cs. arrivals image cs (m ∷ []) ≡ m ∷ []) (arrive_last image call later m l)
 
-    pub here_room : {last : Method} (m : Member) (s : State) → is_last (method_at method) ≡ true → Fits last image calls (m ∷ []) s → COLLECTION_ROW * (s.arrived + 1) ≤ length s.table
+    pub here_room : {last : Method} (m : Member) (s : State) → is_last method ≡ true → Fits last image calls (m ∷ []) s → COLLECTION_ROW * (s.arrived + 1) ≤ length s.table
     here_room m s l f = fits_one (here_one m l) f
 
   -- no call is left

@@ -14,7 +14,9 @@ use Rattle.instance.specs.Instance.{features_end}
 use Rattle.predicate.specs.declared.atom.Member.{Member}
 use Rattle.predicate.specs.declared.atom.Member.TheVariants.{Component, Feature}
 use Rattle.meaning.specs.Value.{row_of, rows_of}
-use Rattle.meaning.specs.Calls.{Method, Count, Features, Call, kept, up_from, features_of, fan_out, method_number}
+use Rattle.meaning.specs.declared.Method.{Method}
+use Rattle.meaning.specs.declared.Method.TheVariants.{Count, Features}
+use Rattle.meaning.specs.Calls.{Call, kept, up_from, features_of, fan_out}
 use Rattle.meaning.specs.Walk.{arrivals, arrive_by, last_call, how_many}
 use Rattle.meaning.proofs.WalkLaws.{up_to, up_turn, up_over, up_all, features_made, rows_append, rows_length}
 use Rattle.eval.specs.declared.ready.Call.{Call as PlacedCall}
@@ -23,7 +25,7 @@ use Rattle.std.specs.Prelude.{Option, Some}
 use Rattle.eval.specs.Ready.{call_in, nth, CallAt, IsCall, calls_from}
 use Rattle.eval.specs.Feed.{state_of, begin, arrive, fed, Fits}
 use Rattle.eval.specs.Listed.{every_component, every_feature, Lists}
-use Rattle.eval.proofs.ReadyLaws.{calls_at, calls_over, method_is}
+use Rattle.eval.proofs.ReadyLaws.{calls_at, calls_over}
 use Rattle.eval.proofs.FeedLaws.{state, state_is}
 
 -- ---- rows written one after the other: what is left comes to the whole
@@ -169,7 +171,7 @@ tallied table e = ap (λ (t : Tally). state_of t table) e
 
 -- a call that was found
 pub is_call : {calls : List PlacedCall} {i : ℕ} {found : Option PlacedCall} {call : PlacedCall} (m : Method) → CallAt calls i found → found ≡ Some call
-    → call.method ≡ method_number m → IsCall calls i m
+    → call.method ≡ m → IsCall calls i m
 is_call {calls} {i} m at e h =
     let here = subst (CallAt calls i) e at in
     record { there = here.0; is = ap (λ (c : PlacedCall). c.method) (sym here.1) ∙ h }
@@ -197,20 +199,20 @@ module _ (rule image tree : List ℕ) (rows : List PlacedCall) where
   pub counted_all : {n : ℕ} (table : List ℕ) → IsCall rows 0 Count → n ≡ component_count image → state n 0 table ≡ fed image (from 0) (every_component image) (begin table)
   counted_all table c e =
       state_is (e ∙ sym (made_number Component 0 (component_count image))) refl refl
-      ∙ fed_counted image (call_at 0) (from 1) (every_component image) table (method_is (nth rows 0).method Count c.is)
+      ∙ fed_counted image (call_at 0) (from 1) (every_component image) table c.is
       ∙ ap (λ (calls : List Call). fed image calls (every_component image) (begin table)) (sym (calls_at rule tree rows 0 c.there))
 
   -- `features` first
   module _ (f : IsCall rows 0 Features) where
     owned : (table : List ℕ) → fed image (from 1) (every_feature image) (begin table) ≡ fed image (from 0) (every_component image) (begin table)
     owned table =
-        fed_owned image (call_at 0) (from 1) (every_component image) table (method_is (nth rows 0).method Features f.is)
+        fed_owned image (call_at 0) (from 1) (every_component image) table f.is
         ∙ ap (λ (calls : List Call). fed image calls (every_component image) (begin table)) (sym (calls_at rule tree rows 0 f.there))
 
     owned_arrivals : arrivals image (from 0) (every_component image) ≡ arrivals image (from 1) (every_feature image)
     owned_arrivals =
         ap (λ (calls : List Call). arrivals image calls (every_component image)) (calls_at rule tree rows 0 f.there)
-        ∙ arrive_owned image (call_at 0) (from 1) (every_component image) (method_is (nth rows 0).method Features f.is)
+        ∙ arrive_owned image (call_at 0) (from 1) (every_component image) f.is
 
     -- and no other call
     module _ (o : length rows ≤ 1) where
@@ -231,6 +233,6 @@ module _ (rule image tree : List ℕ) (rows : List PlacedCall) where
         → state n 0 table ≡ fed image (from 0) (every_component image) (begin table)
     owned_counted table c n =
         state_is n refl refl
-        ∙ fed_counted image (call_at 1) (from 2) (every_feature image) table (method_is (nth rows 1).method Count c.is)
+        ∙ fed_counted image (call_at 1) (from 2) (every_feature image) table c.is
         ∙ ap (λ (calls : List Call). fed image calls (every_feature image) (begin table)) (sym (calls_at rule tree rows 1 c.there))
         ∙ owned table

@@ -25,7 +25,6 @@ use Rattle.predicate.specs.Truth.{literal_of, field_of, has_property_of, has, fi
 use Rattle.predicate.specs.Rows.{ROW, Place, below, past, token, child, place_of, grown, forest, kind_at, level_at, forest_from, children_at, is_row, is_below}
 use Rattle.predicate.proofs.RowLaws.{row_there, row_missing, drop_row, few, below_row}
 use Rattle.predicate.proofs.ForestLaws.{place_past}
-use Rattle.profile.specs.declared.Profile.TheVariants.{Number}
 use Rattle.profile.specs.Profile.{WIRING_OF_FEATURES, holds, profile_of, asks_more, asks_field}
 use Rattle.profile.proofs.ProfileLaws.{Alike, components, features, diagnostics, compare_asks, same_profile, settle_alike}
 use Rattle.eval.specs.Marked.{HASES, BLOCK, NO_BITS, MARKS, PLACES, MEMO, OF_COMPONENT, OF_FEATURE, value_of, value_in, mark_in, mark_for, has_marks, Marks, bit_at, bits_at, BitsAre, bits_by, bits_of, held_in, Told, plain, marked, RowsTold, RowTold, TellsBelow, HasRow, Made, MakesRow}
@@ -223,7 +222,7 @@ module _ {rule image tree memo : List ℕ} (w : Marks rule image tree memo) wher
 
 -- two members with the same profile and the same bits have the same truth of a predicate that asks for no more
 pub alike_has : {rule image tree memo : List ℕ} → Marks rule image tree memo → (holds (held_in memo) WIRING_OF_FEATURES ≡ true → owners_wired image ≡ true) → (m n : Member) (k : ℕ) (f : Forest)
-    → profile_of image (held_in memo) m ≡ Number k → profile_of image (held_in memo) n ≡ Number k → bits_of image memo m ≡ bits_of image memo n → bits_of image memo m < NO_BITS → NodesTold rule tree memo m f
+    → profile_of image (held_in memo) m ≡ Some k → profile_of image (held_in memo) n ≡ Some k → bits_of image memo m ≡ bits_of image memo n → bits_of image memo m < NO_BITS → NodesTold rule tree memo m f
     → truth image m f ≡ truth image n f
 unfolding truth
 alike_has {image = image} {memo = memo} w s m n k f p q e l t = ap first_of (truths_told w (same_profile image (held_in memo) m n k p q) e l s f t)

@@ -5,7 +5,7 @@ use mathlib.Core.List.{List}
 use Prim.Native.Nat.{ℕ, zero, suc, ◌+◌, ◌*◌, ◌≤◌, ◌<◌}
 use native.Mathlib.Omega.{arith}
 use borrow.Author.Tests.{lt-ltb, le-ltb, eqb-true, eqb-false, ltb-true, ltb-false}
-use Rattle.std.specs.Prelude.{Option, Some}
+use Rattle.std.specs.Prelude.{Option, Some, None, IfSome}
 use lib.Dec.{eqb, ltb}
 use lib.ListN.{length, get_or, take, set, replicate, length-set, length-replicate, get_or-eq_default}
 use lib.Seq.{get_or-set_same, get_or-set_other, get_or-take, take-set-lt}
@@ -14,8 +14,6 @@ use Rattle.instance.specs.Instance.{owners_wired}
 use Rattle.predicate.specs.declared.atom.Member.{Member}
 use Rattle.predicate.specs.Truth.{truth}
 use Rattle.predicate.specs.Rows.{children_at}
-use Rattle.profile.specs.declared.Profile.{Profile}
-use Rattle.profile.specs.declared.Profile.TheVariants.{Number, Unknown}
 use Rattle.profile.specs.Profile.{PROFILES, WIRING_OF_FEATURES, holds, profile_of}
 use Rattle.profile.proofs.ProfileLaws.{profile_small}
 use Rattle.eval.specs.declared.ready.Call.{Call as PlacedCall}
@@ -46,21 +44,21 @@ module _ (memo : List ℕ) (i place : ℕ) where
 -- ---- the place of a member
 
 -- the profile and the bits that a place below NO_PLACE tells
-record PlaceIs (p : Profile) (bits place : ℕ) : Type 0 where
+record PlaceIs (p : Option ℕ) (bits place : ℕ) : Type 0 where
   number : ℕ
-  profile_is : p ≡ Number number
+  profile_is : p ≡ Some number
   few : bits < NO_BITS
   is : place ≡ 1 + WAY_NOTES * bits + number
 
-place_is : (p : Profile) (bits place : ℕ) → place ≡ place_by p bits → place < NO_PLACE → PlaceIs p bits place
+place_is : (p : Option ℕ) (bits place : ℕ) → place ≡ place_by p bits → place < NO_PLACE → PlaceIs p bits place
 unfolding place_by
-place_is (Number k) bits place e h =
+place_is (Some k) bits place e h =
     whether (ltb bits NO_BITS)
     (λ t. record { number = k; profile_is = refl; few = ltb-true bits NO_BITS t; is = e ∙ rw t })
     (λ t.
-    let z : place_by (Number k) bits ≡ NO_PLACE = rw t in
+    let z : place_by (Some k) bits ≡ NO_PLACE = rw t in
     absurd (omega arith))
-place_is Unknown bits place e h = absurd (omega arith)
+place_is None bits place e h = absurd (omega arith)
 
 -- two calls with the same byte are one
 same_call : (a b k l i j : ℕ) → k < PROFILES → l < PROFILES → i < NOTED_CALLS → j < NOTED_CALLS
@@ -70,20 +68,21 @@ same_call a b k l i j x y s u e =
     omega arith
 
 -- the number of a member's profile is small
-pub profile_few : (image : List ℕ) (held : ℕ) (m : Member) {p : Profile} → p ≡ profile_of image held m → (k : ℕ) → p ≡ Number k → k < PROFILES
-profile_few image held m e k f = profile_small image held m k (sym e ∙ f)
+pub profile_few : (image : List ℕ) (held : ℕ) (m : Member) {p : Option ℕ} → p ≡ profile_of image held m → IfSome p (λ k. k < PROFILES)
+profile_few image held m {p = Some k} e = profile_small image held m k (sym e)
+profile_few image held m {p = None} e = tt
 
 -- as it is found
 module _ (image memo : List ℕ) (m : Member) where
   placed : {place : ℕ} → place ≡ place_of image memo m → place ≤ NO_PLACE → Placed image memo m place
   placed e h = record { is = e; small = h; told = λ rule tree calls n i value t. n.noted i m value (ap (note_in memo i) (sym e) ∙ t) }
 
-  pub placed_unknown : {p : Profile} → profile_of image (held_in memo) m ≡ p → p ≡ Unknown → Placed image memo m NO_PLACE
+  pub placed_unknown : {p : Option ℕ} → profile_of image (held_in memo) m ≡ p → p ≡ None → Placed image memo m NO_PLACE
   unfolding place_by
-  placed_unknown e f = placed (sym (ap (λ (p : Profile). place_by p (bits_of image memo m)) (e ∙ f))) (omega arith)
+  placed_unknown e f = placed (sym (ap (λ (p : Option ℕ). place_by p (bits_of image memo m)) (e ∙ f))) (omega arith)
 
-  module _ {p : Profile} {k bits : ℕ} (e : profile_of image (held_in memo) m ≡ p) (f : p ≡ Number k) (b : bits ≡ bits_of image memo m) where
-    by_number : place_of image memo m ≡ place_by (Number k) bits
+  module _ {p : Option ℕ} {k bits : ℕ} (e : profile_of image (held_in memo) m ≡ p) (f : p ≡ Some k) (b : bits ≡ bits_of image memo m) where
+    by_number : place_of image memo m ≡ place_by (Some k) bits
     by_number = sym (λ j. place_by (sym (e ∙ f) j) (b j))
 
     pub placed_nowhere : NO_BITS ≤ bits → Placed image memo m NO_PLACE
@@ -95,10 +94,10 @@ module _ (image memo : List ℕ) (m : Member) where
     placed_at h = placed (sym (by_number ∙ rw (lt-ltb bits NO_BITS h))) (omega (arith, profile_small image (held_in memo) m k (e ∙ f)))
 
   -- without marks, by the profile alone
-  pub placed_plain : (p : Profile) → length memo ≤ PLACES → profile_of image (held_in memo) m ≡ p → Placed image memo m (plain_place p)
+  pub placed_plain : (p : Option ℕ) → length memo ≤ PLACES → profile_of image (held_in memo) m ≡ p → Placed image memo m (plain_place p)
   unfolding plain_place
-  placed_plain (Number k) few e = subst (Placed image memo m) (omega arith) (placed_at e refl (bits_nowhere image memo m few) (omega arith))
-  placed_plain Unknown few e = placed_unknown e refl
+  placed_plain (Some k) few e = subst (Placed image memo m) (omega arith) (placed_at e refl (bits_nowhere image memo m few) (omega arith))
+  placed_plain None few e = placed_unknown e refl
 
   -- as it was assigned
   pub placed_is : {place r : ℕ} → place ≡ r → Placed image memo m r → Placed image memo m place
@@ -225,7 +224,7 @@ module _ {rule image tree : List ℕ} {calls : List PlacedCall} {memo : List ℕ
         let number : q.number ≡ here_is.number = omega (arith, here_is.is) in
         let bits : bits_of image memo m ≡ bits_of image memo o = omega (arith, here_is.is) in
         let t = byte_says more r v e in
-        sym (alike_has n.marks n.wired m o here_is.number (children_at rule tree (args_of calls i)) here_is.profile_is (q.profile_is ∙ ap Number number) bits here_is.few
+        sym (alike_has n.marks n.wired m o here_is.number (children_at rule tree (args_of calls i)) here_is.profile_is (q.profile_is ∙ ap Some number) bits here_is.few
         (told_rows rule tree memo m (args_of calls i) (below.told t.0)))
         ∙ sym value
         ∙ t.1

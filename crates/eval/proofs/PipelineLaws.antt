@@ -3,6 +3,8 @@ use mathlib.Core.Path.{◌≡◌, refl, sym, ap, ap₂, ◌∙◌, subst}
 use mathlib.Core.Bool.{Bool, true, false, false≢true}
 use mathlib.Core.List.{List, [], ◌∷◌, ◌++◌}
 use mathlib.Core.Option.{Option, none, some}
+use Rattle.std.specs.Prelude.{Ok, Err}
+use Rattle.std.specs.Prelude as std
 use Prim.Native.Nat.{ℕ, ◌+◌, ◌≤◌, ◌<◌}
 use native.Mathlib.Omega.{arith}
 use lib.Dec.{eqb}
@@ -13,35 +15,32 @@ use Rattle.syntax.specs.declared.refusal.Refusal.{Refusal}
 use Rattle.syntax.specs.declared.refusal.Refusal.TheVariants.{ParseErrors, ComparisonNotCountable, IntegerTooLarge}
 use Rattle.syntax.proofs.BoolLaws.{whether}
 use Rattle.trees.specs.Green.{Forest, nil, leaf, node, dot_calls}
-use Rattle.matching.specs.declared.search.Found.{Found}
 use Rattle.predicate.specs.declared.atom.Member.{Member}
 use Rattle.predicate.specs.declared.atom.Member.TheVariants.{Component}
 use Rattle.predicate.specs.Truth.{first_text}
 use Rattle.predicate.specs.Rows.{ROW, kind_at as tree_kind, level_at, children_at, of_node, first_row}
 use Rattle.predicate.specs.Eval.{FoundAt, FoundNowhere}
 use Rattle.predicate.proofs.NodeLaws.{row_absent}
-use Rattle.meaning.specs.Value.{Outcome, boolean, refused, Kind, sort_kind, collection_table, with_members}
-use Rattle.meaning.specs.Calls.{Method, Where, All, Any, None, Count, Features, Diagnostics, Call, next, calls_give, method_number, kind_number, true_for}
+use Rattle.meaning.specs.declared.ValueKind.{ValueKind}
+use Rattle.meaning.specs.Value.{Outcome, boolean, refused, sort_kind, collection_table, with_members}
+use Rattle.meaning.specs.declared.Method.{Method}
+use Rattle.meaning.specs.declared.Method.TheVariants.{Where, All, Any, None, Count, Features, Diagnostics}
+use Rattle.meaning.specs.Calls.{Call, calls_give, true_for}
 use Rattle.meaning.specs.Pipeline.{calls_of, source_of, eval_pipeline}
 use Rattle.meaning.specs.Compare.{operator_holds, against, compared, operator_of, integer_of}
 use Rattle.meaning.specs.Outcome.{first_kind, first_inner, eval_count_compare, eval_node}
 use Rattle.meaning.specs.Walk.{is_last, is_quantifier, plan_of, arrivals, arrive_by, last_call, method_in, last_method, last_test, how_many, judged, settled}
 use Rattle.meaning.proofs.WalkLaws.{Ends, calls_settled, plan_ends, how_many_most}
-use Rattle.calls.specs.declared.value.Outcome.{Outcome as Answer}
 use Rattle.calls.specs.declared.value.Value.{Value}
-use Rattle.calls.specs.declared.value.Integer.{Integer}
-use Rattle.calls.specs.Answer.{answer_of}
+use Rattle.calls.specs.Answer.{Outcome as Answer, answer_of}
 use Rattle.calls.specs.Integer.{integer_for}
-use Rattle.calls.specs.Table.{method_at, kind_at}
 use Rattle.calls.proofs.CompareLaws.{against_for, against_integer}
-use Rattle.calls.proofs.TableLaws.{method_at_lem, kind_at_lem}
 use Rattle.eval.specs.declared.walk.Tally.{Tally}
 use Rattle.eval.specs.declared.ready.Call.{Call as PlacedCall}
 use Rattle.eval.specs.declared.ready.Plan.{Plan}
 use Rattle.eval.specs.Ready.{call_in, calls_in, source_sort, source_members, LastMethod, Ready, Refuses}
 use Rattle.eval.specs.Feed.{State, state_of, listed, decided, Decides, Stands, walked}
 use Rattle.eval.specs.Pipeline.{CALLS, FewCalls, Evaluates, Counts, OperatorAt, Gives}
-use Rattle.eval.proofs.ReadyLaws.{kind_number_lem, count_no_quantifier}
 use Rattle.eval.proofs.CallLaws.{calls_set}
 use Rattle.eval.proofs.PlanLaws.{node_first, node_none, source_found}
 
@@ -73,7 +72,7 @@ inner_few {rule} {tree} {at} h f =
 -- ---- a pipeline
 
 -- the table by the kind that the calls come to
-abbrev Listing : Kind → Option Call → Type 0
+abbrev Listing : ValueKind → Option Call → Type 0
 Listing kind last = (method : Method) (arrived passed : ℕ) (members : List Member) (table : List ℕ)
     → with_members (listed last members) table ≡ collection_table (settled kind method arrived passed members) table
 
@@ -86,18 +85,18 @@ judged_table Count arrived passed table = refl
 judged_table Features arrived passed table = refl
 judged_table Diagnostics arrived passed table = refl
 
-listing : (kind : Kind) (last : Option Call) → Ends kind last → Listing kind last
+listing : (kind : ValueKind) (last : Option Call) → Ends kind last → Listing kind last
 unfolding settled
-listing Kind.Components last e method arrived passed members table = rw e refl
-listing Kind.Features last e method arrived passed members table = rw e refl
-listing Kind.Diagnostics last e method arrived passed members table = rw e refl
-listing Kind.Boolean last e method arrived passed members table = rw e.1 (sym (judged_table method arrived passed table))
-listing Kind.Count last e method arrived passed members table = rw e.1 refl
+listing ValueKind.Components last e method arrived passed members table = rw e refl
+listing ValueKind.Features last e method arrived passed members table = rw e refl
+listing ValueKind.Diagnostics last e method arrived passed members table = rw e refl
+listing ValueKind.Boolean last e method arrived passed members table = rw e.1 (sym (judged_table method arrived passed table))
+listing ValueKind.Count last e method arrived passed members table = rw e.1 refl
 
 -- ---- a quantifier that is decided
 
 -- the last call decides nothing where rows are written, and `count` decides nothing at all
-pub last_decides : (rule tree : List ℕ) {rows : List PlacedCall} {n : ℕ} → LastMethod rows n → Decides (method_at n) (calls_in rule tree rows)
+pub last_decides : (rule tree : List ℕ) {rows : List PlacedCall} {n : Method} → LastMethod rows n → Decides n (calls_in rule tree rows)
 unfolding last_method
 last_decides rule tree {rows} l =
     record { unlisted = λ q ms. go (last_call (calls_in rule tree rows)) (subst (λ (m : Method). is_quantifier m ≡ true) (l.method rule tree) q) ms }
@@ -106,16 +105,16 @@ last_decides rule tree {rows} l =
     go none q ms = absurd (false≢true q)
     go (some call) q ms = refl
 
-pub count_decides : (calls : List Call) → Decides (method_at (method_number Count)) calls
-count_decides calls = record { unlisted = λ q ms. absurd (false≢true (sym (count_no_quantifier (method_number Count) refl) ∙ q)) }
+pub count_decides : (calls : List Call) → Decides Count calls
+count_decides calls = record { unlisted = λ q ms. absurd (false≢true q) }
 
 -- only a boolean is decided
-decided_boolean : (kind : Kind) (last : Option Call) (arrived passed : ℕ) → Ends kind last → decided (method_in last) arrived passed ≡ true → kind ≡ Kind.Boolean
-decided_boolean Kind.Components last arrived passed e d = absurd (false≢true (rw e at d))
-decided_boolean Kind.Features last arrived passed e d = absurd (false≢true (rw e at d))
-decided_boolean Kind.Diagnostics last arrived passed e d = absurd (false≢true (rw e at d))
-decided_boolean Kind.Boolean last arrived passed e d = refl
-decided_boolean Kind.Count last arrived passed e d = absurd (false≢true (rw (ap method_in e.1 ∙ e.2) at d))
+decided_boolean : (kind : ValueKind) (last : Option Call) (arrived passed : ℕ) → Ends kind last → decided (method_in last) arrived passed ≡ true → kind ≡ ValueKind.Boolean
+decided_boolean ValueKind.Components last arrived passed e d = absurd (false≢true (rw e at d))
+decided_boolean ValueKind.Features last arrived passed e d = absurd (false≢true (rw e at d))
+decided_boolean ValueKind.Diagnostics last arrived passed e d = absurd (false≢true (rw e at d))
+decided_boolean ValueKind.Boolean last arrived passed e d = refl
+decided_boolean ValueKind.Count last arrived passed e d = absurd (false≢true (rw (ap method_in e.1 ∙ e.2) at d))
 
 -- and is judged by that alone
 abbrev decision : Method → Outcome
@@ -142,7 +141,7 @@ judged_decided Diagnostics arrived passed h d = refl
 
 -- a pipeline that is refused
 pub refuses : (image : List ℕ) {rule tree : List ℕ} {at : ℕ} {table : List ℕ} {r : Refusal} → Refuses rule tree at r
-    → Evaluates (eval_pipeline image (children_at rule tree at)) table table (Answer.Refused r)
+    → Evaluates (eval_pipeline image (children_at rule tree at)) table table (Err r)
 refuses image {table = table} {r = r} f =
     record { outcome = ap answer_of (sym (f.refused image)); table = ap (λ (o : Outcome). collection_table o table) (sym (f.refused image)) }
 
@@ -157,35 +156,35 @@ module _ (rule image tree : List ℕ) (at : ℕ) {rows : List PlacedCall} {plan 
   abbrev came : List Member
   came = arrivals image calls members
 
-  plan_is : plan_of (sort_kind (source_sort (tree_kind tree plan.source))) calls ≡ next (kind_at plan.kind)
+  plan_is : plan_of (sort_kind (source_sort (tree_kind tree plan.source))) calls ≡ Ok plan.kind
   plan_is = ap (plan_of (sort_kind (source_sort (tree_kind tree plan.source)))) p.holds.calls ∙ p.comes
 
   pub pipeline_settled : eval_pipeline image (children_at rule tree at)
-      ≡ settled (kind_at plan.kind) (last_method calls) (length came) (how_many (last_test image calls) came) came
+      ≡ settled plan.kind (last_method calls) (length came) (how_many (last_test image calls) came) came
   unfolding eval_pipeline
   pipeline_settled =
       ap₂ (calls_give image) (sym p.holds.calls) (source_found rule image tree at p.found)
-      ∙ calls_settled image calls (source_sort (tree_kind tree plan.source)) members (kind_at plan.kind) plan_is
+      ∙ calls_settled image calls (source_sort (tree_kind tree plan.source)) members plan.kind plan_is
 
-  ends : Ends (kind_at plan.kind) (last_call calls)
-  ends = plan_ends calls (source_sort (tree_kind tree plan.source)) (kind_at plan.kind) plan_is
+  ends : Ends plan.kind (last_call calls)
+  ends = plan_ends calls (source_sort (tree_kind tree plan.source)) plan.kind plan_is
 
   abbrev passing : ℕ
   passing = how_many (last_test image calls) came
 
-  module _ (t : Tally) (method : ℕ) (table after : List ℕ) (r : Value) (w : Stands (method_at method) (state_of t after) (walked image calls members table))
+  module _ (t : Tally) (method : Method) (table after : List ℕ) (r : Value) (w : Stands method (state_of t after) (walked image calls members table))
       (m : LastMethod (take plan.calls rows) method) (g : Gives plan.kind method t r) where
     -- all members were sent
     given_whole : state_of t after ≡ walked image calls members table
-        → Answer.Given r ≡ answer_of (settled (kind_at plan.kind) (last_method calls) (length came) passing came)
+        → Ok r ≡ answer_of (settled plan.kind (last_method calls) (length came) passing came)
     unfolding walked last_test
     given_whole e =
         g.given came (sym (ap (λ (s : State). s.arrived) e))
-        ∙ λ i. answer_of (settled (kind_at plan.kind) (m.method rule tree i) (e i).arrived (e i).passed came)
+        ∙ λ i. answer_of (settled plan.kind (m.method rule tree i) (e i).arrived (e i).passed came)
 
     -- or the quantifier was decided before
-    given_decided : decided (method_at method) t.arrived t.passed ≡ true
-        → Answer.Given r ≡ answer_of (settled (kind_at plan.kind) (last_method calls) (length came) passing came)
+    given_decided : decided method t.arrived t.passed ≡ true
+        → Ok r ≡ answer_of (settled plan.kind (last_method calls) (length came) passing came)
     unfolding walked last_test last_method settled
     given_decided d =
         g.given (replicate t.arrived (Component 0)) (length-replicate t.arrived (Component 0))
@@ -198,21 +197,21 @@ module _ (rule image tree : List ℕ) (at : ℕ) {rows : List PlacedCall} {plan 
         first : decided (last_method calls) t.arrived t.passed ≡ true
         first = rw (m.method rule tree) at d
 
-        is : kind_at plan.kind ≡ Kind.Boolean
-        is = decided_boolean (kind_at plan.kind) (last_call calls) t.arrived t.passed ends first
+        is : plan.kind ≡ ValueKind.Boolean
+        is = decided_boolean plan.kind (last_call calls) t.arrived t.passed ends first
 
-  pub pipeline_given : {t : Tally} {method : ℕ} {table after : List ℕ} {r : Value} → Stands (method_at method) (state_of t after) (walked image calls members table)
+  pub pipeline_given : {t : Tally} {method : Method} {table after : List ℕ} {r : Value} → Stands method (state_of t after) (walked image calls members table)
       → LastMethod (take plan.calls rows) method → Gives plan.kind method t r
-      → Evaluates (eval_pipeline image (children_at rule tree at)) table after (Answer.Given r)
+      → Evaluates (eval_pipeline image (children_at rule tree at)) table after (Ok r)
   unfolding walked
   pipeline_given {t} {method} {table} {after} {r} w m g =
       record {
         outcome =
-            whether (decided (method_at method) t.arrived t.passed) (given_decided t method table after r w m g) (λ e. given_whole t method table after r w m g (w.same e))
+            whether (decided method t.arrived t.passed) (given_decided t method table after r w m g) (λ e. given_whole t method table after r w m g (w.same e))
             ∙ ap answer_of (sym pipeline_settled);
         table =
             w.table
-            ∙ listing (kind_at plan.kind) (last_call calls) ends (last_method calls) (length came) passing came table
+            ∙ listing plan.kind (last_call calls) ends (last_method calls) (length came) passing came table
             ∙ ap (λ (o : Outcome). collection_table o table) (sym pipeline_settled);
       }
 
@@ -232,7 +231,7 @@ count_lists (c ∷ calls) call ms e = whether (is_last c.method) (λ q. rw q ref
 module _ (rule image tree : List ℕ) (plan : Plan) (rows : List PlacedCall) (h : plan.calls < length rows) where
   -- the call `count` behind the first ones
   abbrev count_call : PlacedCall
-  count_call = record { method = method_number Count; args = 0 }
+  count_call = record { method = Count; args = 0 }
 
   abbrev counted : List PlacedCall
   counted = set rows plan.calls count_call
@@ -241,19 +240,19 @@ module _ (rule image tree : List ℕ) (plan : Plan) (rows : List PlacedCall) (h 
   counted_part = sym (length-take (plan.calls + 1) counted ∙ omega (arith, length-set rows plan.calls count_call, h))
 
   pub counts : {t : Tally} {table after : List ℕ}
-      → Stands (method_at (method_number Count)) (state_of t after) (walked image (calls_in rule tree (take (plan.calls + 1) counted)) (source_members image (tree_kind tree plan.source) (children_at rule tree plan.source)) table)
+      → Stands Count (state_of t after) (walked image (calls_in rule tree (take (plan.calls + 1) counted)) (source_members image (tree_kind tree plan.source) (children_at rule tree plan.source)) table)
       → Counts rule image tree plan rows table after t.arrived
   unfolding walked
   counts {t} {table} {after} w =
       record {
         members =
-            ap (λ (s : State). s.arrived) (w.same (ap (λ (m : Method). decided m t.arrived t.passed) (method_at_lem Count)))
+            ap (λ (s : State). s.arrived) (w.same refl)
             ∙ ap (λ (cs : List Call). length (arrivals image cs ms)) (calls_set rule tree plan.calls rows count_call h)
-            ∙ ap length (count_behind image first last ms (method_at_lem Count));
+            ∙ ap length (count_behind image first last ms refl);
         table =
             w.table
             ∙ ap (λ (cs : List Call). with_members (listed (last_call cs) (arrivals image cs ms)) table) (calls_set rule tree plan.calls rows count_call h)
-            ∙ ap (λ (ms : List Member). with_members ms table) (count_lists first last (arrivals image (first ++ (last ∷ [])) ms) (method_at_lem Count));
+            ∙ ap (λ (ms : List Member). with_members ms table) (count_lists first last (arrivals image (first ++ (last ∷ [])) ms) refl);
       }
     where
       ms : List Member
@@ -278,25 +277,25 @@ boolean_compared operator right Count arrived passed = refl
 boolean_compared operator right Features arrived passed = refl
 boolean_compared operator right Diagnostics arrived passed = refl
 
-settled_compared : (operator right : ℕ) (kind : Kind) (method : Method) (passed : ℕ) (ms : List Member) → (kind ≡ Kind.Boolean → ⊥)
+settled_compared : (operator right : ℕ) (kind : ValueKind) (method : Method) (passed : ℕ) (ms : List Member) → (kind ≡ ValueKind.Boolean → ⊥)
     → compared operator right (settled kind method (length ms) passed ms) ≡ against operator (length ms) right
 unfolding compared settled
-settled_compared operator right Kind.Components method passed ms h = refl
-settled_compared operator right Kind.Features method passed ms h = refl
-settled_compared operator right Kind.Diagnostics method passed ms h = refl
-settled_compared operator right Kind.Boolean method passed ms h = absurd (h refl)
-settled_compared operator right Kind.Count method passed ms h = refl
+settled_compared operator right ValueKind.Components method passed ms h = refl
+settled_compared operator right ValueKind.Features method passed ms h = refl
+settled_compared operator right ValueKind.Diagnostics method passed ms h = refl
+settled_compared operator right ValueKind.Boolean method passed ms h = absurd (h refl)
+settled_compared operator right ValueKind.Count method passed ms h = refl
 
 -- `eval_count_compare` without a pipeline, and of one that is refused
 module _ (rule image tree : List ℕ) (at : ℕ) where
   abbrev comparison : Outcome
   comparison = eval_count_compare image (children_at rule tree at)
 
-  as_refused : {table : List ℕ} (r : Refusal) → comparison ≡ refused r → Evaluates comparison table table (Answer.Refused r)
+  as_refused : {table : List ℕ} (r : Refusal) → comparison ≡ refused r → Evaluates comparison table table (Err r)
   as_refused {table} r e = record { outcome = ap answer_of (sym e); table = ap (λ (o : Outcome). collection_table o table) (sym e) }
 
   -- no node stands in the comparison
-  pub compare_none : {found : Found} {table : List ℕ} → found ≡ first_row of_node tree (level_at tree at + 1) (at + ROW) → found ≡ Found.Absent → Evaluates comparison table table (Answer.Refused ParseErrors)
+  pub compare_none : {found : std.Option ℕ} {table : List ℕ} → found ≡ first_row of_node tree (level_at tree at + 1) (at + ROW) → found ≡ std.None → Evaluates comparison table table (Err ParseErrors)
   unfolding eval_count_compare eval_pipeline first_inner calls_of calls_give source_of compared
   compare_none e h =
       as_refused ParseErrors
@@ -316,16 +315,16 @@ module _ (rule image tree : List ℕ) (at : ℕ) where
     unfolding eval_count_compare
     by_pipeline e = ap compared_with (ap (eval_pipeline image) inner_is ∙ e)
 
-    pub compare_refused : {r : Refusal} {table : List ℕ} → Refuses rule tree pipeline r → Evaluates comparison table table (Answer.Refused r)
+    pub compare_refused : {r : Refusal} {table : List ℕ} → Refuses rule tree pipeline r → Evaluates comparison table table (Err r)
     unfolding compared
     compare_refused {r} q = as_refused r (by_pipeline (q.refused image))
 
     module _ {rows : List PlacedCall} {plan : Plan} (p : Ready rule tree pipeline rows plan) where
-      pub compare_boolean : {table : List ℕ} → plan.kind ≡ kind_number Kind.Boolean → Evaluates comparison table table (Answer.Refused ComparisonNotCountable)
+      pub compare_boolean : {table : List ℕ} → plan.kind ≡ ValueKind.Boolean → Evaluates comparison table table (Err ComparisonNotCountable)
       unfolding settled
       compare_boolean e =
           as_refused ComparisonNotCountable
-          (by_pipeline (pipeline_settled rule image tree pipeline p ∙ ap (λ (k : Kind). settled k method (length ms) passed ms) (ap kind_at e ∙ kind_at_lem Kind.Boolean))
+          (by_pipeline (pipeline_settled rule image tree pipeline p ∙ ap (λ (k : ValueKind). settled k method (length ms) passed ms) e)
           ∙ boolean_compared (operator_of (children_at rule tree at)) (integer_of (children_at rule tree at)) method (length ms) passed)
         where
           ms : List Member
@@ -338,27 +337,24 @@ module _ (rule image tree : List ℕ) (at : ℕ) where
           passed = how_many (last_test image (calls rule image tree pipeline p)) (came rule image tree pipeline p)
 
       -- what else is countable
-      module _ (h : plan.kind ≡ kind_number Kind.Boolean → ⊥) {digits : List ℕ} {integer : Integer} (d : digits ≡ first_text INT_LIT (children_at rule tree at)) (n : integer ≡ integer_for digits) where
-        countable : kind_at plan.kind ≡ Kind.Boolean → ⊥
-        countable e = h (sym (kind_number_lem plan.kind p.small) ∙ ap kind_number e)
-
+      module _ (h : plan.kind ≡ ValueKind.Boolean → ⊥) {digits : List ℕ} {integer : std.Option ℕ} (d : digits ≡ first_text INT_LIT (children_at rule tree at)) (n : integer ≡ integer_for digits) where
         against_is : comparison ≡ against_for (operator_of (children_at rule tree at)) (length (came rule image tree pipeline p)) integer
         unfolding integer_of
         against_is =
             by_pipeline (pipeline_settled rule image tree pipeline p)
-            ∙ settled_compared (operator_of (children_at rule tree at)) (integer_of (children_at rule tree at)) (kind_at plan.kind) _ _ (came rule image tree pipeline p) countable
+            ∙ settled_compared (operator_of (children_at rule tree at)) (integer_of (children_at rule tree at)) plan.kind _ _ (came rule image tree pipeline p) h
             ∙ against_integer (operator_of (children_at rule tree at)) (length (came rule image tree pipeline p)) (first_text INT_LIT (children_at rule tree at))
             ∙ ap (against_for (operator_of (children_at rule tree at)) (length (came rule image tree pipeline p))) (sym (n ∙ ap integer_for d))
 
-        pub compare_large : {table : List ℕ} → integer ≡ Integer.TooLarge → Evaluates comparison table table (Answer.Refused IntegerTooLarge)
+        pub compare_large : {table : List ℕ} → integer ≡ std.None → Evaluates comparison table table (Err IntegerTooLarge)
         compare_large e = as_refused IntegerTooLarge (against_is ∙ ap (against_for (operator_of (children_at rule tree at)) (length (came rule image tree pipeline p))) e)
 
-        pub compare_given : {right operator left : ℕ} {table after : List ℕ} {b : Bool} → integer ≡ Integer.Fits right → OperatorAt tree at operator
+        pub compare_given : {right operator left : ℕ} {table after : List ℕ} {b : Bool} → integer ≡ std.Some right → OperatorAt tree at operator
             → Counts rule image tree plan rows table after left → b ≡ operator_holds operator left right
-            → Evaluates comparison table after (Answer.Given (Value.Bool b))
+            → Evaluates comparison table after (Ok (Value.Bool b))
         compare_given {right} {operator} {left} {table} e o c b =
             record {
-              outcome = ap (λ (v : Bool). Answer.Given (Value.Bool v)) (b ∙ λ i. operator_holds (o.operator rule i) (c.members i) right) ∙ ap answer_of (sym is);
+              outcome = ap (λ (v : Bool). Ok (Value.Bool v)) (b ∙ λ i. operator_holds (o.operator rule i) (c.members i) right) ∙ ap answer_of (sym is);
               table = c.table ∙ ap (λ (o : Outcome). collection_table o table) (sym is);
             }
           where
@@ -369,7 +365,7 @@ module _ (rule image tree : List ℕ) (at : ℕ) where
 
 module _ (rule image tree : List ℕ) where
   -- nothing stands in the root
-  pub node_empty : {found : Found} {table : List ℕ} → found ≡ first_row of_node tree (level_at tree 0 + 1) ROW → found ≡ Found.Absent → Evaluates (eval_node image (children_at rule tree 0)) table table (Answer.Refused ParseErrors)
+  pub node_empty : {found : std.Option ℕ} {table : List ℕ} → found ≡ first_row of_node tree (level_at tree 0 + 1) ROW → found ≡ std.None → Evaluates (eval_node image (children_at rule tree 0)) table table (Err ParseErrors)
   unfolding eval_node eval_pipeline first_kind first_inner calls_of calls_give source_of
   node_empty {table = table} e h = record { outcome = ap answer_of (sym is); table = ap (λ (o : Outcome). collection_table o table) (sym is) }
     where

@@ -1,12 +1,13 @@
 -- What a pipeline comes to, by what is known of it before any member is looked at. Assumes nothing.
-use mathlib.Core.Path.{◌≡◌, refl, sym, ap, ◌∙◌, subst}
+use mathlib.Core.Path.{◌≡◌, refl, sym, ap, ◌∙◌}
 use mathlib.Core.Bool.{false≢true}
 use mathlib.Core.List.{List, [], ◌∷◌}
-use Prim.Native.Nat.{ℕ, ◌+◌, ◌≤◌}
+use Prim.Native.Nat.{ℕ, ◌+◌}
 use native.Mathlib.Omega.{arith}
 use lib.Dec.{eqb}
 use lib.ListN.{length, take, length-take}
-use Rattle.std.specs.Prelude.{Result, Ok, Err}
+use Rattle.std.specs.Prelude.{Option, Some, None, Result, Ok, Err}
+use Rattle.meaning.specs.declared.ValueKind.{ValueKind}
 use borrow.Author.Tests.{le-leb, leb-true}
 use Rattle.syntax.specs.Kind.{ROOT, IDENT_EXPR}
 use Rattle.syntax.specs.declared.refusal.Refusal.{Refusal}
@@ -14,18 +15,17 @@ use Rattle.syntax.specs.declared.refusal.Refusal.TheVariants.{ParseErrors}
 use Rattle.syntax.proofs.BoolLaws.{whether}
 use Rattle.lexer.specs.Lex.{Token}
 use Rattle.trees.specs.Green.{Forest, nil, leaf, node}
-use Rattle.matching.specs.declared.search.Found.{Found}
 use Rattle.predicate.specs.Rows.{ROW, kind_at, level_at, forest_from, children_at, of_node, first_row}
 use Rattle.predicate.specs.Eval.{FoundAt, FoundNowhere}
 use Rattle.predicate.proofs.ForestLaws.{forest_node, found_level, found_kind, Ignores, ignored_none, ignored_found}
 use Rattle.predicate.proofs.NodeLaws.{row_found, row_absent}
-use Rattle.meaning.specs.Value.{Sort, collection, refused, sort_kind}
-use Rattle.meaning.specs.Calls.{Call, call_gives, calls_give, kind_number}
+use Rattle.meaning.specs.Value.{collection, refused, sort_kind}
+use Rattle.meaning.specs.Calls.{Call, call_gives, calls_give}
 use Rattle.meaning.specs.Pipeline.{all_components, diagnostics_of, source_of, calls_of, eval_pipeline}
 use Rattle.meaning.proofs.WalkLaws.{calls_refused}
 use Rattle.eval.specs.declared.ready.Call.{Call as PlacedCall}
-use Rattle.eval.specs.Ready.{LAST_KIND, source_sort, source_members, KindAfter, Holds, Ready, Refuses}
-use Rattle.eval.proofs.ReadyLaws.{kind_small, plan_refused, plan_kind}
+use Rattle.eval.specs.Ready.{source_sort, source_members, KindAfter, Holds, Ready, Refuses}
+use Rattle.eval.proofs.ReadyLaws.{planned}
 
 -- ---- the first node of a forest
 
@@ -72,7 +72,7 @@ refusal_stays image (call ∷ calls) r = refusal_stays image calls r
 
 module _ (rule tree : List ℕ) (at : ℕ) where
   -- there is no source
-  pub no_source : {found : Found} → found ≡ first_row of_node tree (level_at tree at + 1) (at + ROW) → found ≡ Found.Absent → Refuses rule tree at ParseErrors
+  pub no_source : {found : Option ℕ} → found ≡ first_row of_node tree (level_at tree at + 1) (at + ROW) → found ≡ None → Refuses rule tree at ParseErrors
   unfolding eval_pipeline
   no_source e h =
       record {
@@ -82,12 +82,12 @@ module _ (rule tree : List ℕ) (at : ℕ) where
       }
 
   -- there is one
-  pub source_at : {found : Found} {source : ℕ} → found ≡ first_row of_node tree (level_at tree at + 1) (at + ROW) → found ≡ Found.At source
+  pub source_at : {found : Option ℕ} {source : ℕ} → found ≡ first_row of_node tree (level_at tree at + 1) (at + ROW) → found ≡ Some source
       → FoundAt of_node tree (level_at tree at + 1) (at + ROW) source
   source_at e h = row_found (sym e ∙ h)
 
   module _ {rows : List PlacedCall} {source count : ℕ} (f : FoundAt of_node tree (level_at tree at + 1) (at + ROW) source) (h : Holds rule tree at rows count)
-      {number : ℕ} {given : Result ℕ Refusal} (n : number ≡ kind_number (sort_kind (source_sort (kind_at tree source)))) (a : KindAfter (take count rows) number given) where
+      {number : ValueKind} {given : Result ValueKind Refusal} (n : number ≡ sort_kind (source_sort (kind_at tree source))) (a : KindAfter (take count rows) number given) where
     pub planned_refused : {r : Refusal} → given ≡ Err r → Refuses rule tree at r
     unfolding eval_pipeline
     planned_refused {r} e =
@@ -95,18 +95,17 @@ module _ (rule tree : List ℕ) (at : ℕ) where
           refused = λ image.
               ap (calls_give image (calls_of (children_at rule tree at))) (source_found rule image tree at f)
               ∙ calls_refused image (calls_of (children_at rule tree at)) (source_sort (kind_at tree source)) (source_members image (kind_at tree source) (children_at rule tree source)) r
-              (plan_refused rule tree (sort_kind (source_sort (kind_at tree source))) (calls_of (children_at rule tree at)) a n h.calls e);
+              (sym (planned rule tree (sort_kind (source_sort (kind_at tree source))) (calls_of (children_at rule tree at)) a n h.calls) ∙ e);
         }
 
-    pub planned_ready : {kind : ℕ} → given ≡ Ok kind → Ready rule tree at rows (record { source = source; calls = count; kind = kind })
+    pub planned_ready : {kind : ValueKind} → given ≡ Ok kind → Ready rule tree at rows (record { source = source; calls = count; kind = kind })
     planned_ready e =
-        let p = plan_kind rule tree (sort_kind (source_sort (kind_at tree source))) (calls_of (children_at rule tree at)) a n h.calls e in
-        record { found = f; holds = h; small = p.1; comes = p.0 }
+        record {
+          found = f;
+          holds = h;
+          comes = sym (planned rule tree (sort_kind (source_sort (kind_at tree source))) (calls_of (children_at rule tree at)) a n h.calls) ∙ e;
+        }
 
 -- the part of the table that the calls fill
 pub calls_taken : {rule tree : List ℕ} {at : ℕ} {rows : List PlacedCall} {count : ℕ} → Holds rule tree at rows count → count ≡ length (take count rows)
 calls_taken {rows = rows} {count = count} h = sym (length-take count rows ∙ omega (arith, h.room))
-
--- the number of a source's kind is one of the table
-pub source_small : (s : Sort) {n : ℕ} → n ≡ kind_number (sort_kind s) → n ≤ LAST_KIND
-source_small s e = subst (λ (n : ℕ). n ≤ LAST_KIND) (sym e) (kind_small (sort_kind s))

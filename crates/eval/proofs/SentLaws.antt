@@ -2,7 +2,6 @@
 use mathlib.Core.Path.{◌≡◌, refl, sym, ap, ◌∙◌, subst}
 use mathlib.Core.Bool.{Bool, true, false, ◌&&◌, cond}
 use lib.ListN.{length}
-use native.Mathlib.Omega.{arith}
 use Rattle.std.specs.Prelude.{Option, Some, None}
 use mathlib.Core.List.{List, [], ◌∷◌}
 use Prim.Native.Nat.{ℕ, ◌+◌, ◌≤◌, ◌<◌}
@@ -10,11 +9,11 @@ use Rattle.predicate.specs.declared.atom.Member.{Member}
 use Rattle.predicate.specs.Truth.{truth}
 use Rattle.predicate.specs.Rows.{children_at}
 use Rattle.predicate.specs.declared.atom.Member.TheVariants.{Component, Feature, Diagnostic}
-use Rattle.meaning.specs.Calls.{Where, Count, Features, method_number, features_of}
+use Rattle.meaning.specs.declared.Method.{Method}
+use Rattle.meaning.specs.declared.Method.TheVariants.{Where, Count, Features, Diagnostics}
+use Rattle.meaning.specs.Calls.{features_of}
 use Rattle.meaning.specs.Walk.{is_last, is_quantifier}
-use Rattle.profile.specs.declared.Profile.{Profile}
 use Rattle.profile.specs.Profile.{profile_of}
-use Rattle.calls.specs.Table.{method_at}
 use Rattle.eval.specs.declared.ready.Call.{Call as PlacedCall}
 use Rattle.eval.specs.declared.step.Step.{Step}
 use Rattle.eval.specs.declared.step.Step.TheVariants.{Listed}
@@ -28,7 +27,7 @@ use Rattle.eval.specs.Feed.{State, state_of, fed, counted, decided_in, Fits, Sta
 use Rattle.eval.specs.Walk.{calls_at, last_of, NotesOf, state_in, SendsAll, SentAll, Begins, SameWalk, Sending, Sent, Arriving, Takes, Moved, Stays, Asking, AskedOf}
 use Rattle.eval.specs.Step.{after, StepIs, Steps}
 use Rattle.eval.proofs.StepLaws.{step_room}
-use Rattle.eval.proofs.ReadyLaws.{quantifier_of, count_no_quantifier, last_between}
+use Rattle.eval.proofs.ReadyLaws.{quantifier_of}
 use Rattle.eval.proofs.MemoLaws.{asked_noted}
 use Rattle.eval.proofs.FeedLaws.{state, Alike, Parts, Lost, fed_lost, fits_first, fits_alike, stands_fed, stands_alike, here_kept, here_dropped, here_passed, here_features, here_feature, here_diagnostic, here_arrives, end_room, end_put, Feeding, feeding_start, feeding_on, feeding_stop, feeding_skip, feeding_end}
 
@@ -86,38 +85,38 @@ abbrev more : State → Bool → State
 more s passes = state (s.arrived + 1) (s.passed + cond passes 1 0) s.table
 
 module _ {w : Walk} {i : ℕ} {m : Member} {call : PlacedCall} (p : Arriving w i (m ∷ []) call) where
-  abbrev method : ℕ
+  abbrev method : Method
   method = (nth w.pipeline.calls.now i).method
 
   abbrev asked : Bool
   asked = truth w.pipeline.image.now m (children_at w.pipeline.rule.now w.pipeline.tree.now (args_of w.pipeline.calls.now i))
 
-  last : is_last (method_at method) ≡ true
-  last = subst (λ (c : PlacedCall). is_last (method_at c.method) ≡ true) p.is p.last
+  last : is_last method ≡ true
+  last = subst (λ (c : PlacedCall). is_last c.method ≡ true) p.is p.last
 
-  arrived : {b : Bool} → b ≡ (is_quantifier (method_at method) && asked)
+  arrived : {b : Bool} → b ≡ (is_quantifier method && asked)
       → more (state_in w) b ≡ fed w.pipeline.image.now (calls_at w.pipeline i) (m ∷ []) (state_in w)
   arrived e =
       ap (more (state_in w)) e
       ∙ here_arrives w.pipeline.rule.now w.pipeline.image.now w.pipeline.tree.now w.pipeline.calls.now i p.there m (state_in w) last
 
   -- it counts, and asks nothing
-  pub arrive_counted : {t : Tally} → call.method ≡ method_number Count → t ≡ counted w.tally false
+  pub arrive_counted : {t : Tally} → call.method ≡ Count → t ≡ counted w.tally false
       → Sent w i (m ∷ []) (record { pipeline = w.pipeline; collection = w.collection; notes = w.notes; tally = t })
   arrive_counted e t =
-      let count : method ≡ method_number Count = ap (λ (c : PlacedCall). c.method) (sym p.is) ∙ e in
+      let count : method ≡ Count = ap (λ (c : PlacedCall). c.method) (sym p.is) ∙ e in
       record {
         same = record { pipeline = refl; collection_name = refl; notes_name = refl };
-        stands = stands_fed p.sending.fits (ap (λ (t : Tally). state_of t w.collection.now) t ∙ arrived {b = false} (sym (rw (count_no_quantifier method count))));
+        stands = stands_fed p.sending.fits (ap (λ (t : Tally). state_of t w.collection.now) t ∙ arrived {b = false} (sym (rw count refl)));
         notes = p.sending.notes;
         held = refl;
       }
 
   -- or it is a quantifier, whose predicate was asked
-  pub arrive_asked : {v : Walk} {r : Bool} {t : Tally} → (call.method ≡ method_number Count → ⊥) → AskedOf w i m v r → t ≡ counted v.tally r
+  pub arrive_asked : {v : Walk} {r : Bool} {t : Tally} → (call.method ≡ Count → ⊥) → AskedOf w i m v r → t ≡ counted v.tally r
       → Sent w i (m ∷ []) (record { pipeline = v.pipeline; collection = v.collection; notes = v.notes; tally = t })
   arrive_asked {v} {r} h a t =
-      let other : method ≡ method_number Count → ⊥ = λ e. h (ap (λ (c : PlacedCall). c.method) p.is ∙ e) in
+      let other : method ≡ Count → ⊥ = λ e. h (ap (λ (c : PlacedCall). c.method) p.is ∙ e) in
       record {
         same = record { pipeline = a.stays.same.pipeline; collection_name = a.stays.same.collection_name; notes_name = a.stays.same.notes_name };
         stands =
@@ -201,7 +200,7 @@ module _ {start w : Walk} {i : ℕ} {all rest : List Member} (g : Going start i 
       going_stop e h = record { same = same; stands = feeding_stop g.feeding q went (decided_is e h); notes = notes; held = t.held ∙ g.held }
 
   -- profiles are what they were
-  pub going_profile : (m : Member) {p : Profile} → p ≡ profile_of start.pipeline.image.now (held_in start.notes.now) m → p ≡ profile_of w.pipeline.image.now (held_in w.notes.now) m
+  pub going_profile : (m : Member) {p : Option ℕ} → p ≡ profile_of start.pipeline.image.now (held_in start.notes.now) m → p ≡ profile_of w.pipeline.image.now (held_in w.notes.now) m
   going_profile m e = e ∙ λ j. profile_of (sym g.same.pipeline j).image.now (sym g.held j) m
 
   -- some are passed over
@@ -253,14 +252,14 @@ module _ {w : Walk} {i : ℕ} {m : Member} {found : Option PlacedCall} (at : Cal
     pub here : (i < length w.pipeline.calls.now) × (call ≡ nth w.pipeline.calls.now i)
     here = subst (CallAt w.pipeline.calls.now i) e at
 
-    method_is : {n : ℕ} → call.method ≡ n → (nth w.pipeline.calls.now i).method ≡ n
+    method_is : {n : Method} → call.method ≡ n → (nth w.pipeline.calls.now i).method ≡ n
     method_is h = ap (λ (c : PlacedCall). c.method) (sym here.1) ∙ h
 
     pub asking : Asking w i call.args
     asking = record { args_is = ap (λ (c : PlacedCall). c.args) here.1; notes = p.notes }
 
     -- a `where`, by what its predicate says
-    module _ {v : Walk} {r : Bool} (h : call.method ≡ method_number Where) (a : AskedOf w i m v r) where
+    module _ {v : Walk} {r : Bool} (h : call.method ≡ Where) (a : AskedOf w i m v r) where
       kept : r ≡ true → Alike w.pipeline.image.now (calls_at w.pipeline i) (m ∷ []) (calls_at w.pipeline (i + 1)) (m ∷ [])
       kept t = here_kept w.pipeline.rule.now w.pipeline.image.now w.pipeline.tree.now w.pipeline.calls.now i here.0 m (method_is h) (sym a.asked.value ∙ t)
 
@@ -276,7 +275,7 @@ module _ {w : Walk} {i : ℕ} {m : Member} {found : Option PlacedCall} (at : Cal
           (here_dropped w.pipeline.rule.now w.pipeline.image.now w.pipeline.tree.now w.pipeline.calls.now i here.0 m (method_is h) (sym a.asked.value ∙ t))
 
     -- `features`
-    module _ (h : call.method ≡ method_number Features) where
+    module _ (h : call.method ≡ Features) where
       owned : {c : ℕ} → m ≡ Component c → Alike w.pipeline.image.now (calls_at w.pipeline i) (m ∷ []) (calls_at w.pipeline (i + 1)) (features_of w.pipeline.image.now c)
       owned {c} q = here_features w.pipeline.rule.now w.pipeline.image.now w.pipeline.tree.now w.pipeline.calls.now i here.0 m c (method_is h) q
 
@@ -296,11 +295,10 @@ module _ {w : Walk} {i : ℕ} {m : Member} {found : Option PlacedCall} (at : Cal
           lost (Diagnostic d) q = here_diagnostic w.pipeline.rule.now w.pipeline.image.now w.pipeline.tree.now w.pipeline.calls.now i here.0 m d (method_is h) q
 
     -- `diagnostics`
-    module _ (h : method_number Features < call.method) where
+    module _ (h : call.method ≡ Diagnostics) where
       passed : Alike w.pipeline.image.now (calls_at w.pipeline i) (m ∷ []) (calls_at w.pipeline (i + 1)) (m ∷ [])
       passed =
-          here_passed w.pipeline.rule.now w.pipeline.image.now w.pipeline.tree.now w.pipeline.calls.now i here.0 m
-          (subst (λ (c : PlacedCall). method_number Features < c.method) here.1 h)
+          here_passed w.pipeline.rule.now w.pipeline.image.now w.pipeline.tree.now w.pipeline.calls.now i here.0 m (method_is h)
 
       pub passed_sending : Sending w (i + 1) (m ∷ [])
       passed_sending = alike_sending passed p
@@ -309,14 +307,8 @@ module _ {w : Walk} {i : ℕ} {m : Member} {found : Option PlacedCall} (at : Cal
       passed_sent s = alike_sent passed s
 
     -- a last call
-    pub arriving : method_number Where < call.method → call.method ≤ method_number Count → Arriving w i (m ∷ []) call
-    arriving low high =
-        record {
-          sending = p;
-          there = here.0;
-          is = here.1;
-          last = last_between call.method (λ q. omega (arith, q)) (λ q. omega (arith, q)) (omega arith);
-        }
+    pub arriving : is_last call.method ≡ true → Arriving w i (m ∷ []) call
+    arriving l = record { sending = p; there = here.0; is = here.1; last = l }
 
 -- `features` as the first call
 features_first : (w : Walk) (c : ℕ) → IsCall w.pipeline.calls.now 0 Features

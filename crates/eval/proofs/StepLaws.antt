@@ -3,15 +3,15 @@ use mathlib.Core.Path.{◌≡◌, refl, sym, ap, ◌∙◌, subst}
 use mathlib.Core.Bool.{Bool, true, false, ◌&&◌, cond, false≢true}
 use mathlib.Core.List.{List, [], ◌∷◌}
 use Prim.Native.Nat.{ℕ, ◌+◌, ◌*◌, ◌≤◌, ◌<◌}
-use native.Mathlib.Omega.{arith}
 use lib.ListN.{length}
 use Rattle.board.specs.Check.{COLLECTION_ROW}
 use Rattle.predicate.specs.declared.atom.Member.{Member}
 use Rattle.predicate.specs.Truth.{truth}
 use Rattle.predicate.specs.Rows.{children_at}
-use Rattle.meaning.specs.Calls.{Method, Where, Count, Features, Call, method_number}
+use Rattle.meaning.specs.declared.Method.{Method}
+use Rattle.meaning.specs.declared.Method.TheVariants.{Where, Count, Diagnostics}
+use Rattle.meaning.specs.Calls.{Call}
 use Rattle.meaning.specs.Walk.{is_quantifier, is_last}
-use Rattle.calls.specs.Table.{method_at}
 use Rattle.eval.specs.declared.step.Step.{Step}
 use Rattle.eval.specs.declared.step.Step.TheVariants.{Dropped, Listed, Counted}
 use Rattle.std.specs.Prelude.{Some, None}
@@ -20,7 +20,7 @@ use Rattle.eval.specs.Ready.{nth, calls_from}
 use Rattle.eval.specs.Memo.{KNOWN_TRUE, KNOWN_FALSE, known, note_in, args_of, Notes, Placed}
 use Rattle.eval.specs.Feed.{State, fed, Fits, Stands}
 use Rattle.eval.specs.Step.{arrives, after, StepIs, Steps}
-use Rattle.eval.proofs.ReadyLaws.{quantifier_of, count_no_quantifier, last_between}
+use Rattle.eval.proofs.ReadyLaws.{quantifier_last}
 use Rattle.eval.proofs.FeedLaws.{state, Alike, fed_alike, fed_lost, fits_one, stands_fed, here_kept, here_dropped, here_passed, here_arrives, here_one, end_one, end_put}
 
 -- a step at later calls, of a member that passes those before
@@ -51,12 +51,12 @@ step_some {rows} {from} {place} {memo} {r} w =
     }
 
 module _ {rows : List PlacedCall} {from place : ℕ} {memo : List ℕ} {i : ℕ} (p : Passing rows from place memo i) where
-  abbrev method : ℕ
+  abbrev method : Method
   method = (nth rows i).method
 
   module _ (h : i < length rows) where
     -- a `where` that is true of them
-    pub passing_on : method ≡ method_number Where → note_in memo i place ≡ KNOWN_TRUE → Passing rows from place memo (i + 1)
+    pub passing_on : method ≡ Where → note_in memo i place ≡ KNOWN_TRUE → Passing rows from place memo (i + 1)
     passing_on e k =
         record {
           so = λ rule image tree m n q.
@@ -66,7 +66,7 @@ module _ {rows : List PlacedCall} {from place : ℕ} {memo : List ℕ} {i : ℕ}
         }
 
     -- `diagnostics`
-    pub passing_over : method_number Features < method → Passing rows from place memo (i + 1)
+    pub passing_over : method ≡ Diagnostics → Passing rows from place memo (i + 1)
     passing_over l =
         record {
           so = λ rule image tree m n q.
@@ -76,7 +76,7 @@ module _ {rows : List PlacedCall} {from place : ℕ} {memo : List ℕ} {i : ℕ}
         }
 
     -- a `where` that is false of them drops them
-    pub step_dropped : method ≡ method_number Where → note_in memo i place ≡ KNOWN_FALSE → Steps rows from place memo (Some Dropped)
+    pub step_dropped : method ≡ Where → note_in memo i place ≡ KNOWN_FALSE → Steps rows from place memo (Some Dropped)
     step_dropped e k =
         step_some
         (λ rule image tree m n q.
@@ -87,9 +87,9 @@ module _ {rows : List PlacedCall} {from place : ℕ} {memo : List ℕ} {i : ℕ}
         }))
 
     -- the last call counts them, by whether they pass its test
-    step_counted : (b : Bool) → is_last (method_at method) ≡ true
+    step_counted : (b : Bool) → is_last method ≡ true
         → ((rule image tree : List ℕ) (m : Member) → Notes rule image tree rows memo → Placed image memo m place
-        → b ≡ (is_quantifier (method_at method) && truth image m (children_at rule tree (args_of rows i))))
+        → b ≡ (is_quantifier method && truth image m (children_at rule tree (args_of rows i))))
         → Steps rows from place memo (Some (Counted b))
     step_counted b l tested =
         step_some
@@ -102,16 +102,13 @@ module _ {rows : List PlacedCall} {from place : ℕ} {memo : List ℕ} {i : ℕ}
           one = λ t. here_one rule image tree rows i h m l;
         }))
 
-    pub step_count : method ≡ method_number Count → Steps rows from place memo (Some (Counted false))
+    pub step_count : method ≡ Count → Steps rows from place memo (Some (Counted false))
     step_count e =
-        step_counted false (last_between method (λ w. omega (arith, e, w)) (λ f. omega (arith, e, f)) (omega (arith, e)))
-        (λ rule image tree m n q. sym (rw (count_no_quantifier method e)))
+        step_counted false (ap is_last e) (λ rule image tree m n q. sym (rw e refl))
 
     -- a quantifier, whose predicate is noted
-    pub step_quantified : (b : Bool) → method_number Where < method → method < method_number Count → note_in memo i place ≡ known b → Steps rows from place memo (Some (Counted b))
-    step_quantified b low high k =
-        let l = last_between method (λ w. omega (arith, low, w)) (λ f. omega (arith, high, f)) (omega (arith, high)) in
-        step_counted b l (λ rule image tree m n q. sym (rw (quantifier_of method l (λ c. omega (arith, high, c))) (q.told rule tree rows n i b k)))
+    pub step_quantified : (b : Bool) → is_quantifier method ≡ true → note_in memo i place ≡ known b → Steps rows from place memo (Some (Counted b))
+    step_quantified b t k = step_counted b (quantifier_last method t) (λ rule image tree m n q. sym (rw t (q.told rule tree rows n i b k)))
 
   -- no call is left: they have rows
   pub step_listed : length rows ≤ i → Steps rows from place memo (Some Listed)

@@ -1,87 +1,52 @@
 -- What is settled by the numbers of members, and the operator of a comparison. Assumes nothing.
-use mathlib.Core.Path.{◌≡◌, refl, sym, ap, ◌∙◌}
-use mathlib.Core.Bool.{true, false, cond}
+use mathlib.Core.Path.{◌≡◌, refl, sym, ap, ◌∙◌, subst}
+use mathlib.Core.Bool.{true, false}
 use mathlib.Core.List.{List}
 use Prim.Native.Nat.{ℕ, zero, suc, ◌+◌, ◌≤◌, ◌<◌}
 use native.Mathlib.Omega.{arith}
-use lib.Dec.{eqb, leb, ltb}
+use lib.Dec.{eqb, leb}
 use lib.ListN.{length}
 use borrow.Author.Tests.{ne_eqb, eqb-true, leb-true, leb-false}
 use Rattle.syntax.specs.Kind.{ROOT, EQ_EQ, NEQ, GE, GT, LE, LT, NONE}
 use Rattle.syntax.proofs.BoolLaws.{whether, both}
 use Rattle.trees.specs.Look.{is_comparison}
-use Rattle.predicate.specs.declared.atom.Member.{Member}
 use Rattle.predicate.specs.Rows.{ROW, kind_at as tree_kind, level_at, forest_from, children_at, is_below, row_passes}
 use Rattle.predicate.proofs.ForestLaws.{forest_token, forest_ends, Ignores}
-use Rattle.meaning.specs.Value.{Kind}
-use Rattle.meaning.specs.Calls.{Method, All, Any, None, method_number, kind_number}
+use Rattle.meaning.specs.declared.ValueKind.{ValueKind}
+use Rattle.meaning.specs.declared.Method.{Method}
 use Rattle.meaning.specs.Compare.{operator_of}
-use Rattle.meaning.specs.Walk.{judged, settled}
-use Rattle.calls.specs.declared.value.Outcome.{Outcome as Answer}
+use Rattle.meaning.specs.Walk.{settled}
+use Rattle.std.specs.Prelude.{Ok}
 use Rattle.calls.specs.declared.value.Value.{Value}
-use Rattle.calls.specs.Answer.{boolean_of, answer_of}
-use Rattle.calls.specs.Table.{method_at, kind_at}
-use Rattle.calls.proofs.TableLaws.{method_at_lem, kind_at_lem}
 use Rattle.eval.specs.declared.walk.Tally.{Tally}
 use Rattle.eval.specs.Pipeline.{OperatorAt, Gives, Judges}
 use Rattle.eval.proofs.CallLaws.{ignored_past}
 
 -- ---- a value by its kind
 
-module _ (method : ℕ) (t : Tally) where
-  by_kind : (kind : ℕ) (k : Kind) {r : Value} → kind ≡ kind_number k
-      → ((members : List Member) → length members ≡ t.arrived → Answer.Given r ≡ answer_of (settled k (method_at method) t.arrived t.passed members))
-      → Gives kind method t r
-  by_kind kind k {r} e h =
-      record {
-        given = λ members l. h members l ∙ ap (λ (k : Kind). answer_of (settled k (method_at method) t.arrived t.passed members)) (sym (ap kind_at e ∙ kind_at_lem k));
-      }
+module _ (method : Method) (t : Tally) where
+  by_kind : {kind k : ValueKind} {r : Value} → kind ≡ k → Gives k method t r → Gives kind method t r
+  by_kind {r = r} e g = subst (λ (k : ValueKind). Gives k method t r) (sym e) g
 
-  pub gives_components : {kind : ℕ} → kind ≡ kind_number Kind.Components → Gives kind method t (Value.Components t.arrived)
+  pub gives_components : {kind : ValueKind} → kind ≡ ValueKind.Components → Gives kind method t (Value.Components t.arrived)
   unfolding settled
-  gives_components {kind} e = by_kind kind Kind.Components e (λ members l. ap (λ (n : ℕ). Answer.Given (Value.Components n)) (sym l))
+  gives_components e = by_kind e record { given = λ members l. ap (λ (n : ℕ). Ok (Value.Components n)) (sym l) }
 
-  pub gives_features : {kind : ℕ} → kind ≡ kind_number Kind.Features → Gives kind method t (Value.Features t.arrived)
+  pub gives_features : {kind : ValueKind} → kind ≡ ValueKind.Features → Gives kind method t (Value.Features t.arrived)
   unfolding settled
-  gives_features {kind} e = by_kind kind Kind.Features e (λ members l. ap (λ (n : ℕ). Answer.Given (Value.Features n)) (sym l))
+  gives_features e = by_kind e record { given = λ members l. ap (λ (n : ℕ). Ok (Value.Features n)) (sym l) }
 
-  pub gives_diagnostics : {kind : ℕ} → kind ≡ kind_number Kind.Diagnostics → Gives kind method t (Value.Diagnostics t.arrived)
+  pub gives_diagnostics : {kind : ValueKind} → kind ≡ ValueKind.Diagnostics → Gives kind method t (Value.Diagnostics t.arrived)
   unfolding settled
-  gives_diagnostics {kind} e = by_kind kind Kind.Diagnostics e (λ members l. ap (λ (n : ℕ). Answer.Given (Value.Diagnostics n)) (sym l))
+  gives_diagnostics e = by_kind e record { given = λ members l. ap (λ (n : ℕ). Ok (Value.Diagnostics n)) (sym l) }
 
-  pub gives_boolean : {kind : ℕ} {r : Value} → kind ≡ kind_number Kind.Boolean → Judges method t.arrived t.passed r → Gives kind method t r
+  pub gives_boolean : {kind : ValueKind} {r : Value} → kind ≡ ValueKind.Boolean → Judges method t.arrived t.passed r → Gives kind method t r
   unfolding settled
-  gives_boolean {kind} e j = by_kind kind Kind.Boolean e (λ members l. j.judged)
+  gives_boolean e j = by_kind e record { given = λ members l. j.judged }
 
-  pub gives_count : {kind : ℕ} → kind ≡ kind_number Kind.Count → Gives kind method t (Value.Count t.arrived)
+  pub gives_count : {kind : ValueKind} → kind ≡ ValueKind.Count → Gives kind method t (Value.Count t.arrived)
   unfolding settled
-  gives_count {kind} e = by_kind kind Kind.Count e (λ members l. refl)
-
--- ---- a quantifier by its number
-
-module _ (arrived passed : ℕ) where
-  by_method : (method : ℕ) (m : Method) {r : Value} → method ≡ method_number m → Answer.Given r ≡ answer_of (judged m arrived passed) → Judges method arrived passed r
-  by_method method m e h = record { judged = h ∙ ap (λ (m : Method). answer_of (judged m arrived passed)) (sym (ap method_at e ∙ method_at_lem m)) }
-
-  pub judges_all : {method : ℕ} {r : Value} → method ≡ method_number All → r ≡ boolean_of (eqb passed arrived) (eqb arrived 0) → Judges method arrived passed r
-  judges_all {method} e h = by_method method All e (ap Answer.Given h)
-
-  pub judges_any : {method : ℕ} → method ≡ method_number Any → Judges method arrived passed (Value.Bool (ltb 0 passed))
-  judges_any {method} e = by_method method Any e refl
-
-  pub judges_none : {method : ℕ} {r : Value} → method ≡ method_number None → r ≡ boolean_of (eqb passed 0) (eqb arrived 0) → Judges method arrived passed r
-  judges_none {method} e h = by_method method None e (ap Answer.Given h)
-
-  -- no other call is one
-  pub judges_other : (method : ℕ) → (method ≡ 1 → ⊥) → (method ≡ 2 → ⊥) → (method ≡ 3 → ⊥) → Judges method arrived passed (Value.Bool false)
-  unfolding method_at
-  judges_other method a b c =
-      record {
-        judged = whether (eqb method 0) (λ e. rw (e) refl) (λ e. rw (e, ne_eqb method 1 a, ne_eqb method 2 b, ne_eqb method 3 c) rest);
-      }
-    where
-      rest : Answer.Given (Value.Bool false) ≡ answer_of (judged (cond (eqb method 4) Rattle.meaning.specs.Calls.Count (cond (eqb method 5) Rattle.meaning.specs.Calls.Features Rattle.meaning.specs.Calls.Diagnostics)) arrived passed)
-      rest = whether (eqb method 4) (λ e. rw (e) refl) (λ e. rw (e) (whether (eqb method 5) (λ d. rw (d) refl) (λ d. rw (d) refl)))
+  gives_count e = by_kind e record { given = λ members l. refl }
 
 -- ---- the operator
 

@@ -8,7 +8,9 @@ use Rattle.board.specs.Image.{text}
 use Rattle.board.specs.Check.{COLLECTION_ROW}
 use Rattle.predicate.specs.declared.atom.Member.{Member}
 use Rattle.meaning.specs.Value.{rows_of, with_members}
-use Rattle.meaning.specs.Calls.{Method, Where, All, Any, None, Count, Features, Diagnostics, Call}
+use Rattle.meaning.specs.declared.Method.{Method}
+use Rattle.meaning.specs.declared.Method.TheVariants.{Where, All, Any, None, Count, Features, Diagnostics}
+use Rattle.meaning.specs.Calls.{Call}
 use Rattle.meaning.specs.Walk.{is_quantifier, arrivals, last_call, test_in, how_many}
 use Rattle.eval.specs.declared.walk.Tally.{Tally}
 

@@ -5,8 +5,6 @@ use Rattle.instance.specs.Instance.{owners_wired}
 use Rattle.predicate.specs.declared.atom.Member.{Member}
 use Rattle.predicate.specs.Truth.{truth}
 use Rattle.predicate.specs.Rows.{children_at}
-use Rattle.profile.specs.declared.Profile.{Profile}
-use Rattle.profile.specs.declared.Profile.TheVariants.{Number, Unknown}
 use Rattle.profile.specs.Profile.{PROFILES, WIRING_OF_FEATURES, holds, profile_of}
 use Rattle.eval.specs.declared.ready.Call.{Call as PlacedCall}
 use Rattle.eval.specs.Ready.{nth}
@@ -53,14 +51,14 @@ abbrev pub args_of : List PlacedCall → ℕ → ℕ
 args_of calls i = (nth calls i).args
 
 -- where the notes of members with a profile and bits begin
-unfoldable pub place_by : Profile → ℕ → ℕ
-place_by (Number k) bits = cond (ltb bits NO_BITS) (1 + WAY_NOTES * bits + k) NO_PLACE
-place_by Unknown bits = NO_PLACE
+unfoldable pub place_by : Option ℕ → ℕ → ℕ
+place_by (Some k) bits = cond (ltb bits NO_BITS) (1 + WAY_NOTES * bits + k) NO_PLACE
+place_by None bits = NO_PLACE
 
 -- and where there are no marks
-unfoldable pub plain_place : Profile → ℕ
-plain_place (Number k) = 1 + k
-plain_place Unknown = NO_PLACE
+unfoldable pub plain_place : Option ℕ → ℕ
+plain_place (Some k) = 1 + k
+plain_place None = NO_PLACE
 
 -- a place that may be none
 abbrev pub place_in : Option ℕ → ℕ

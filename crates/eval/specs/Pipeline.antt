@@ -1,5 +1,5 @@
 -- What the functions of `pipeline` ask and give; no public contract needs this file. Assumes nothing: these are definitions.
-use Rattle.std.specs.Prelude.{ℕ, ◌+◌, ◌*◌, ◌/◌, ◌≤◌, ◌≡◌, List, [], length, take}
+use Rattle.std.specs.Prelude.{ℕ, ◌+◌, ◌*◌, ◌/◌, ◌≤◌, ◌≡◌, List, [], length, take, Ok}
 use Rattle.lexer.specs.Read.{MAX_RULE}
 use Rattle.trees.specs.Green.{dot_calls}
 use Rattle.board.specs.WellFormed.{WellFormed, Room}
@@ -8,10 +8,10 @@ use Rattle.predicate.specs.Rows.{kind_at as tree_kind, children_at}
 use Rattle.meaning.specs.Value.{Outcome, collection_table, with_members}
 use Rattle.meaning.specs.Compare.{operator_of}
 use Rattle.meaning.specs.Walk.{arrivals, judged, settled}
-use Rattle.calls.specs.declared.value.Outcome.{Outcome as Answer}
 use Rattle.calls.specs.declared.value.Value.{Value}
-use Rattle.calls.specs.Answer.{answer_of}
-use Rattle.calls.specs.Table.{method_at, kind_at}
+use Rattle.calls.specs.Answer.{Outcome as Answer, answer_of}
+use Rattle.meaning.specs.declared.Method.{Method}
+use Rattle.meaning.specs.declared.ValueKind.{ValueKind}
 use Rattle.eval.specs.declared.walk.Tally.{Tally}
 use Rattle.eval.specs.declared.ready.Call.{Call as PlacedCall}
 use Rattle.eval.specs.declared.ready.Plan.{Plan}
@@ -49,9 +49,9 @@ pub record OperatorAt (tree : List ℕ) (at r : ℕ) : Type 0 where
   pub operator : (rule : List ℕ) → r ≡ operator_of (children_at rule tree at)
 
 -- what is settled, of as many members as arrived
-pub record Gives (kind method : ℕ) (t : Tally) (r : Value) : Type 0 where
+pub record Gives (kind : ValueKind) (method : Method) (t : Tally) (r : Value) : Type 0 where
   pub given : (members : List Member) → length members ≡ t.arrived
-      → Answer.Given r ≡ answer_of (settled (kind_at kind) (method_at method) t.arrived t.passed members)
+      → Ok r ≡ answer_of (settled kind method t.arrived t.passed members)
 
-pub record Judges (method arrived passed : ℕ) (r : Value) : Type 0 where
-  pub judged : Answer.Given r ≡ answer_of (judged (method_at method) arrived passed)
+pub record Judges (method : Method) (arrived passed : ℕ) (r : Value) : Type 0 where
+  pub judged : Ok r ≡ answer_of (judged method arrived passed)

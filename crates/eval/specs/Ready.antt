@@ -1,9 +1,8 @@
--- The calls of a pipeline made ready for members: each has its number, and the place of its CALL_ARGS in the tree table. Assumes nothing:
+-- The calls of a pipeline made ready for members: each has its method, and the place of its CALL_ARGS in the tree table. Assumes nothing:
 -- these are definitions.
 use Rattle.std.specs.Prelude.{ℕ, ◌+◌, ◌≤◌, ◌<◌, List, ◌++◌, map, cond, ◌≡◌, eqb, length, take, drop, get_or, Option, Some, None, Result, Ok, Err}
 use Rattle.syntax.specs.Kind.{IDENT, CALL_ARGS, IDENT_EXPR}
 use Rattle.syntax.specs.declared.refusal.Refusal.{Refusal}
-use Rattle.matching.specs.declared.search.Found.{Found}
 use Rattle.trees.specs.Green.{Forest}
 use Rattle.board.specs.Image.{component_count, diagnostic_count}
 use Rattle.predicate.specs.declared.atom.Member.{Member}
@@ -13,21 +12,22 @@ use Rattle.predicate.specs.Rows.{ROW, level_at, forest_from, children_at, first_
 use Rattle.predicate.specs.Rows.{kind_at as tree_kind}
 use Rattle.predicate.specs.Eval.{FoundAt}
 use Rattle.meaning.specs.Value.{Sort, components, diagnostics, sort_kind, refused}
-use Rattle.meaning.specs.Calls.{Method, Call, method_number, next, kept, up_from}
+use Rattle.meaning.specs.declared.Method.{Method}
+use Rattle.meaning.specs.declared.Method.TheVariants.{Where}
+use Rattle.meaning.specs.declared.ValueKind.{ValueKind}
+use Rattle.meaning.specs.Calls.{Call, kept, up_from}
 use Rattle.meaning.specs.Pipeline.{is_of_analysis, method_of, calls_of, eval_pipeline}
 use Rattle.meaning.specs.Walk.{plan_of, last_method}
-use Rattle.calls.specs.declared.table.Next.{Next}
 use Rattle.eval.specs.declared.ready.Call.{Call as PlacedCall}
 use Rattle.eval.specs.declared.ready.Plan.{Plan}
-use Rattle.calls.specs.Table.{next_of, method_at, kind_at}
 
 -- the call that one stands for
 abbrev pub call_in : (rule tree : List ℕ) → PlacedCall → Call
-call_in rule tree call = record { method = method_at call.method; args = children_at rule tree call.args }
+call_in rule tree call = record { method = call.method; args = children_at rule tree call.args }
 
 -- the i-th, if there are so many
 abbrev pub no_call : PlacedCall
-no_call = record { method = 0; args = 0 }
+no_call = record { method = Where; args = 0 }
 
 abbrev pub nth : List PlacedCall → ℕ → PlacedCall
 nth calls i = get_or calls i no_call
@@ -39,15 +39,10 @@ CallAt calls i None = length calls ≤ i
 -- the i-th is there, and is this one
 pub record IsCall (calls : List PlacedCall) (i : ℕ) (method : Method) : Type 0 where
   pub there : i < length calls
-  pub is : (nth calls i).method ≡ method_number method
-
--- the number of the last kind
-abbrev pub LAST_KIND : ℕ
-LAST_KIND = 4
+  pub is : (nth calls i).method ≡ method
 
 -- read back as calls
 unfoldable pub calls_in : (rule tree : List ℕ) → List PlacedCall → List Call
-unfolding method_at
 calls_in rule tree calls = map (call_in rule tree) calls
 
 -- from the i-th on
@@ -56,9 +51,9 @@ unfolding calls_in
 calls_from rule tree calls i = calls_in rule tree (drop i calls)
 
 -- the place of the CALL_ARGS in a DOT_CALL; where there is none, past all rows
-abbrev pub place_or : ℕ → Found → ℕ
-place_or past (Found.At at) = at
-place_or past Found.Absent = past
+abbrev pub place_or : ℕ → Option ℕ → ℕ
+place_or past (Some at) = at
+place_or past None = past
 
 unfoldable pub args_place : List ℕ → ℕ → ℕ
 unfolding first_row
@@ -66,7 +61,7 @@ args_place tree row = place_or (length tree) (first_row (of_kind CALL_ARGS) tree
 
 -- the call of a DOT_CALL of the tree
 abbrev pub call_row : (rule tree : List ℕ) → ℕ → PlacedCall
-call_row rule tree row = record { method = method_number (method_of (first_text IDENT (children_at rule tree row))); args = args_place tree row }
+call_row rule tree row = record { method = method_of (first_text IDENT (children_at rule tree row)); args = args_place tree row }
 
 -- there is room for the calls at a level from a row of the tree on
 pub record CallsFit (rule tree : List ℕ) (level row : ℕ) (rows : List PlacedCall) (count : ℕ) : Type 0 where
@@ -89,18 +84,13 @@ pub record Holds (rule tree : List ℕ) (at : ℕ) (rows : List PlacedCall) (cou
   pub room : count ≤ length rows
   pub calls : calls_in rule tree (take count rows) ≡ calls_of (children_at rule tree at)
 
--- what the table's entry gives
-abbrev pub result_of : Next → Result ℕ Refusal
-result_of (Next.Kind kind) = Ok kind
-result_of (Next.Refused r) = Err r
-
 -- the kind after all calls, or the refusal of the leftmost that may not stand where it stands; and the last call. The calls say it without
 -- rule and tree
-pub record KindAfter (rows : List PlacedCall) (source : ℕ) (r : Result ℕ Refusal) : Type 0 where
-  pub next : (rule tree : List ℕ) → r ≡ result_of (next_of (plan_of (kind_at source) (calls_in rule tree rows)))
+pub record KindAfter (rows : List PlacedCall) (source : ValueKind) (r : Result ValueKind Refusal) : Type 0 where
+  pub next : (rule tree : List ℕ) → r ≡ plan_of source (calls_in rule tree rows)
 
-pub record LastMethod (rows : List PlacedCall) (r : ℕ) : Type 0 where
-  pub method : (rule tree : List ℕ) → method_at r ≡ last_method (calls_in rule tree rows)
+pub record LastMethod (rows : List PlacedCall) (r : Method) : Type 0 where
+  pub method : (rule tree : List ℕ) → r ≡ last_method (calls_in rule tree rows)
 
 -- the source by the kind of its node: its sort, and its members
 abbrev pub source_sort : ℕ → Sort
@@ -116,8 +106,7 @@ source_members image kind f =
 pub record Ready (rule tree : List ℕ) (at : ℕ) (rows : List PlacedCall) (plan : Plan) : Type 0 where
   pub found : FoundAt of_node tree (level_at tree at + 1) (at + ROW) plan.source
   pub holds : Holds rule tree at rows plan.calls
-  pub small : plan.kind ≤ LAST_KIND
-  pub comes : plan_of (sort_kind (source_sort (tree_kind tree plan.source))) (calls_of (children_at rule tree at)) ≡ next (kind_at plan.kind)
+  pub comes : plan_of (sort_kind (source_sort (tree_kind tree plan.source))) (calls_of (children_at rule tree at)) ≡ Ok plan.kind
 
 -- or that it is refused on every board
 pub record Refuses (rule tree : List ℕ) (at : ℕ) (r : Refusal) : Type 0 where

@@ -4,13 +4,12 @@ use Rattle.std.specs.Prelude.{ℕ, ◌*◌, ◌≤◌, ◌≡◌, List, length, 
 use Rattle.trees.specs.Green.{size}
 use Rattle.trees.specs.Parse.{parse_expr}
 use Rattle.trees.specs.Rows.{tree_rows}
-use Rattle.trees.specs.Read.{Reads}
-use Rattle.trees.specs.declared.Reading.{Reading}
+use Rattle.trees.specs.Read.{Reading, Reads}
+use Rattle.trees.specs.declared.Rows.{Rows}
 use Rattle.lexer.specs.Read.{MAX_RULE, TREE_ROW}
 use Rattle.meaning.specs.Value.{collection_table}
 use Rattle.meaning.specs.Outcome as meant
-use Rattle.calls.specs.declared.value.Outcome.{Outcome}
-use Rattle.calls.specs.Answer.{answer_of, verdict_for, verdict_of_answer}
+use Rattle.calls.specs.Answer.{Outcome, answer_of, verdict_for, verdict_of_answer}
 use Rattle.eval.specs.declared.Answer.{Answer}
 
 -- the lengths of the four tables
@@ -34,9 +33,9 @@ pub record Answers (outcome : Outcome) (reading : Reading) (a : Answer) : Type 0
   pub reading_is : a.reading ≡ reading
 
 -- the rows of a rule's tree stand at the front of the tree table
-pub record ReadRule (rule tree : List ℕ) (rows errors : ℕ) : Type 0 where
-  pub rows_are : rows ≡ size (parse_expr rule).made
-  pub errors_are : errors ≡ length (parse_expr rule).errors
-  pub front : take (TREE_ROW * rows) tree ≡ tree_rows 0 0 (parse_expr rule).made
-  pub within : TREE_ROW * rows ≤ length tree
+pub record ReadRule (rule tree : List ℕ) (rows : Rows) : Type 0 where
+  pub rows_are : rows.tree ≡ size (parse_expr rule).made
+  pub errors_are : rows.errors ≡ length (parse_expr rule).errors
+  pub front : take (TREE_ROW * rows.tree) tree ≡ tree_rows 0 0 (parse_expr rule).made
+  pub within : TREE_ROW * rows.tree ≤ length tree
   pub short : length rule ≤ MAX_RULE

@@ -6,10 +6,10 @@ use Rattle.board.specs.WellFormed.{WellFormed, Room}
 use Rattle.predicate.specs.declared.atom.Member.{Member}
 use Rattle.predicate.specs.declared.atom.Member.TheVariants.{Diagnostic}
 use Rattle.predicate.specs.Rows.{ROW, kind_at, children_at}
-use Rattle.meaning.specs.Calls.{Method, Call, kept, up_from}
+use Rattle.meaning.specs.declared.Method.{Method}
+use Rattle.meaning.specs.Calls.{Call, kept, up_from}
 use Rattle.meaning.specs.Pipeline.{is_of_analysis}
 use Rattle.meaning.specs.Walk.{is_last}
-use Rattle.calls.specs.Table.{method_at}
 use Rattle.eval.specs.declared.ready.Call.{Call as PlacedCall}
 use Rattle.eval.specs.declared.step.Step.{Step}
 use Rattle.eval.specs.declared.walk.Tally.{Tally}
@@ -26,7 +26,7 @@ abbrev pub calls_at : Pipeline → ℕ → List Call
 calls_at p i = calls_from p.rule.now p.tree.now p.calls.now i
 
 abbrev pub last_of : Pipeline → Method
-last_of p = method_at p.last
+last_of p = p.last
 
 abbrev pub NotesOf : Pipeline → List ℕ → Type 0
 NotesOf p memo = Notes p.rule.now p.image.now p.tree.now p.calls.now memo
@@ -89,7 +89,7 @@ pub record Arriving (w : Walk) (i : ℕ) (members : List Member) (call : PlacedC
   pub sending : Sending w i members
   pub there : i < length w.pipeline.calls.now
   pub is : call ≡ nth w.pipeline.calls.now i
-  pub last : is_last (method_at call.method) ≡ true
+  pub last : is_last call.method ≡ true
 
 -- there is room for what a step does
 pub record Takes (w : Walk) (step : Step) : Type 0 where

@@ -6,8 +6,8 @@ ghost use Rattle.profile.specs.Profile.{WIRING, WIRING_OF_FEATURES, CATEGORY, KI
 
 use crate::marked;
 use crate::ready::Call;
-use calls::method;
 use instance;
+use meaning::Method;
 use predicate::{node, rows};
 use profile;
 use syntax::{kind, text};
@@ -78,7 +78,7 @@ fn wiring_held(image: &[u8], calls: &[Call], connected: bool) -> u8
 
 // Whether one of the calls is `features`.
 pub(crate) fn asks_features(calls: &[Call]) -> bool {
-    calls.iter().any(|call| call.method == method::FEATURES)
+    calls.iter().any(|call| call.method == Method::Features)
 }
 
 // The part of the fields.

@@ -12,15 +12,15 @@ pub mod source;
 pub mod step;
 pub mod walk;
 
-ghost use Rattle.std.specs.Prelude.{◌≡◌};
+ghost use Rattle.std.specs.Prelude.{◌≡◌, Ok};
 ghost use Rattle.meaning.specs.Outcome.{outcome, check_run};
 ghost use Rattle.eval.specs.Pipeline.{Lent, Evaluates};
 ghost use Rattle.eval.specs.Run.{lent, Answers, Runs, ReadRule};
 
 use calls::value::{Outcome, Verdict};
 use calls::verdict;
-use syntax::refusal::{Check, Refusal};
-use trees::Reading;
+use syntax::refusal::Refusal;
+use trees::{Reading, Rows};
 
 // The numbers of a row of the tree table.
 const TREE_ROW: usize = 4;
@@ -46,10 +46,10 @@ pub fn run(
     ensures { Runs rule.now image.now tokens.old tokens.new tree.old tree.new errors.old errors.new collection.old collection.new result }
 {
     match lexer::check_rule(rule, tokens.len(), tree.len(), errors.len()) {
-        Check::Refused(r) => with_verdict(Outcome::Refused(r), Reading::Refused(r)),
-        Check::Passed => match board::check_image(image, collection.len()) {
-            Check::Refused(r) => with_verdict(Outcome::Refused(r), Reading::Refused(r)),
-            Check::Passed => run_checked(rule, image, tokens, tree, errors, collection),
+        Err(r) => with_verdict(Err(r), Err(r)),
+        Ok(()) => match board::check_image(image, collection.len()) {
+            Err(r) => with_verdict(Err(r), Err(r)),
+            Ok(()) => run_checked(rule, image, tokens, tree, errors, collection),
         },
     }
 }
@@ -74,44 +74,26 @@ fn run_checked(
     errors: &mut [u32],
     collection: &mut [u32],
 ) -> Answer
-    requires { check_run rule.now image.now (lent tokens.old tree.old errors.old collection.old) ≡ Check.Passed }
+    requires { check_run rule.now image.now (lent tokens.old tree.old errors.old collection.old) ≡ Ok tt }
     ensures { Runs rule.now image.now tokens.old tokens.new tree.old tree.new errors.old errors.new collection.old collection.new result }
 {
     match parser::parse_rule(rule, tokens, tree, errors) {
-        Reading::Refused(r) => with_verdict(Outcome::Refused(r), Reading::Refused(r)),
-        Reading::Rows {
-            tokens: token_rows,
-            tree: tree_rows,
-            errors: error_rows,
-        } => {
-            let outcome = run_read(rule, image, tree, tree_rows, error_rows, collection);
-            with_verdict(
-                outcome,
-                Reading::Rows {
-                    tokens: token_rows,
-                    tree: tree_rows,
-                    errors: error_rows,
-                },
-            )
+        Err(r) => with_verdict(Err(r), Err(r)),
+        Ok(rows) => {
+            let outcome = run_read(rule, image, tree, rows, collection);
+            with_verdict(outcome, Ok(rows))
         }
     }
 }
 
 // The outcome of a rule that was read: 9 where it has parse errors, else what its tree comes to.
-fn run_read(
-    rule: &[u8],
-    image: &[u8],
-    tree: &[u32],
-    tree_rows: usize,
-    error_rows: usize,
-    collection: &mut [u32],
-) -> Outcome
-    requires { ReadRule rule.now tree.now tree_rows error_rows × Lent image.now collection.old }
+fn run_read(rule: &[u8], image: &[u8], tree: &[u32], rows: Rows, collection: &mut [u32]) -> Outcome
+    requires { ReadRule rule.now tree.now rows × Lent image.now collection.old }
     ensures { Evaluates (outcome image.now rule.now) collection.old collection.new result }
 {
-    if error_rows != 0 {
-        return Outcome::Refused(Refusal::ParseErrors);
+    if rows.errors != 0 {
+        return Err(Refusal::ParseErrors);
     }
-    let end = TREE_ROW * tree_rows;
+    let end = TREE_ROW * rows.tree;
     pipeline::eval_node(rule, image, &tree[..end], collection)
 }

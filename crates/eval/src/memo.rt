@@ -1,6 +1,6 @@
 // What is known of the calls' predicates. A predicate that asks for no more than a member's profile and its bits is asked of the first
 // member of each profile and bits, and its answer noted: a byte for each call, profile and bits. Where nothing is marked the bits are 0.
-ghost use Rattle.std.specs.Prelude.{◌≡◌, ℕ, ◌≤◌, ◌<◌, length};
+ghost use Rattle.std.specs.Prelude.{◌≡◌, ◌≤◌, ◌<◌, length, IfSome};
 ghost use Rattle.predicate.specs.Truth.{truth};
 ghost use Rattle.predicate.specs.Rows.{children_at};
 ghost use Rattle.profile.specs.Profile.{PROFILES, profile_of};
@@ -14,7 +14,6 @@ use crate::walk::{Pipeline, Walk};
 use predicate;
 use predicate::atom::Member;
 use profile;
-use profile::Profile;
 
 // The calls whose predicates are noted. That of a later call is asked of each member.
 pub(crate) const NOTED_CALLS: usize = 4;
@@ -36,7 +35,7 @@ const NOT_TO_KNOW: u8 = 3;
 
 impl<'a> Walk<'a> {
     // Where the notes of a member with this profile begin, if it has any. The way of most members goes by a memo without marks, which hands nothing over.
-    pub(crate) fn place_of(&self, member: Member, profile: Profile) -> Option<usize>
+    pub(crate) fn place_of(&self, member: Member, profile: Option<usize>) -> Option<usize>
         requires { profile ≡ profile_of self.now.pipeline.image.now (held_in self.now.notes.now) member }
         ensures { Placed self.now.pipeline.image.now self.now.notes.now member (place_in result) }
     {
@@ -134,24 +133,19 @@ impl<'a> Walk<'a> {
 }
 
 // Where the notes of a member with this profile begin, in a memo without marks.
-fn plain_place(profile: Profile) -> Option<usize>
-    requires { (k : ℕ) → profile ≡ Profile.Number k → k < PROFILES }
+fn plain_place(profile: Option<usize>) -> Option<usize>
+    requires { IfSome profile (λ k. k < PROFILES) }
     ensures { place_in result ≡ plain_place profile }
 {
-    match profile {
-        Profile::Number(k) => Some(1 + k),
-        Profile::Unknown => None,
-    }
+    Some(1 + profile?)
 }
 
 // The same in any memo, by the marks too.
-fn marked_place(image: &[u8], member: Member, profile: Profile, memo: &[u8]) -> Option<usize>
+fn marked_place(image: &[u8], member: Member, profile: Option<usize>, memo: &[u8]) -> Option<usize>
     requires { profile ≡ profile_of image.now (held_in memo.now) member }
     ensures { Placed image.now memo.now member (place_in result) }
 {
-    let Profile::Number(k) = profile else {
-        return None;
-    };
+    let k = profile?;
     let bits = marked::bits(image, memo, member)?;
     Some(1 + WAY_NOTES * bits + k)
 }

@@ -6,17 +6,16 @@ ghost use Rattle.predicate.specs.Rows.{ROW, children_at, row_passes};
 ghost use Rattle.meaning.specs.Pipeline.{eval_pipeline};
 ghost use Rattle.meaning.specs.Outcome.{eval_count_compare, eval_node};
 ghost use Rattle.calls.specs.Answer.{boolean_of};
-ghost use Rattle.eval.specs.Ready.{LAST_KIND};
 ghost use Rattle.eval.specs.Pipeline.{MAX_ROWS, FewCalls, Lent, Evaluates, Counts, OperatorAt, Gives, Judges};
 ghost use Rattle.eval.specs.Pipeline as meant;
 
 use crate::ready;
 use crate::ready::{Call, Plan};
 use crate::walk::{Pipeline, Tally};
-use calls::value::{Integer, Outcome, Value};
-use calls::{compare, method, table};
+use calls::compare;
+use calls::value::{Outcome, Value};
 use lexer::limits::MAX_RULE;
-use matching::search::Found;
+use meaning::{Method, ValueKind};
 use predicate::{node, rows};
 use syntax::kind;
 use syntax::refusal::Refusal;
@@ -26,7 +25,7 @@ const CALLS: usize = MAX_RULE / 2 + 1;
 
 // A place where no call is written yet.
 const NO_CALL: Call = Call {
-    method: method::WHERE,
+    method: Method::Where,
     args: 0,
 };
 
@@ -35,9 +34,8 @@ pub(crate) fn eval_node(rule: &[u8], image: &[u8], tree: &[u32], collection: &mu
     requires { (length tree.now ≤ MAX_ROWS) × Lent image.now collection.old × FewCalls rule.now tree.now 0 }
     ensures { Evaluates (eval_node image.now (children_at rule.now tree.now 0)) collection.old collection.new result }
 {
-    let found = node::first_child(tree, 0);
-    let Found::At(at) = found else {
-        return Outcome::Refused(Refusal::ParseErrors);
+    let Some(at) = node::first_child(tree, 0) else {
+        return Err(Refusal::ParseErrors);
     };
     let mut calls = [NO_CALL; CALLS];
     if tree[at] == kind::COUNT_COMPARE_EXPR {
@@ -58,10 +56,7 @@ fn eval_pipeline(
     requires { (at + ROW ≤ length tree.now) × (length tree.now ≤ MAX_ROWS) × (meant.CALLS ≤ length calls.old) × Lent image.now collection.old × FewCalls rule.now tree.now at }
     ensures { Evaluates (eval_pipeline image.now (children_at rule.now tree.now at)) collection.old collection.new result }
 {
-    let plan = match ready::plan_pipeline(rule, tree, at, calls) {
-        Err(r) => return Outcome::Refused(r),
-        Ok(plan) => plan,
-    };
+    let plan = ready::plan_pipeline(rule, tree, at, calls)?;
     let calls = &calls[..plan.calls];
     let last = ready::last_method(calls);
     let pipeline = Pipeline {
@@ -72,7 +67,7 @@ fn eval_pipeline(
         last,
     };
     let tally = pipeline.walk(plan.source, collection);
-    Outcome::Given(value(plan.kind, last, tally))
+    Ok(value(plan.kind, last, tally))
 }
 
 // `eval_count_compare`, of the COUNT_COMPARE_EXPR whose row is at a place: the left side is judged before the integer.
@@ -87,23 +82,18 @@ fn eval_count_compare(
     requires { (at + ROW ≤ length tree.now) × (length tree.now ≤ MAX_ROWS) × (meant.CALLS ≤ length calls.old) × Lent image.now collection.old × FewCalls rule.now tree.now at }
     ensures { Evaluates (eval_count_compare image.now (children_at rule.now tree.now at)) collection.old collection.new result }
 {
-    let found = node::first_child(tree, at);
-    let Found::At(pipeline) = found else {
-        return Outcome::Refused(Refusal::ParseErrors);
+    let Some(pipeline) = node::first_child(tree, at) else {
+        return Err(Refusal::ParseErrors);
     };
-    let plan = match ready::plan_pipeline(rule, tree, pipeline, calls) {
-        Err(r) => return Outcome::Refused(r),
-        Ok(plan) => plan,
-    };
-    if plan.kind == table::BOOLEAN {
-        return Outcome::Refused(Refusal::ComparisonNotCountable);
+    let plan = ready::plan_pipeline(rule, tree, pipeline, calls)?;
+    if plan.kind == ValueKind::Boolean {
+        return Err(Refusal::ComparisonNotCountable);
     }
-    let integer = compare::integer(node::integer(rule, tree, at));
-    let Integer::Fits(right) = integer else {
-        return Outcome::Refused(Refusal::IntegerTooLarge);
+    let Some(right) = compare::integer(node::integer(rule, tree, at)) else {
+        return Err(Refusal::IntegerTooLarge);
     };
     let left = count_members(rule, image, tree, plan, calls, collection) as u64;
-    Outcome::Given(Value::Bool(compare::compares(operator(tree, at), left, right)))
+    Ok(Value::Bool(compare::compares(operator(tree, at), left, right)))
 }
 
 // How many members arrive by what is planned: a `count` behind the calls keeps their rows out of the collection table.
@@ -119,7 +109,7 @@ fn count_members(
     ensures { Counts rule.now image.now tree.now plan calls.old collection.old collection.new result }
 {
     calls[plan.calls] = Call {
-        method: method::COUNT,
+        method: Method::Count,
         args: 0,
     };
     let pipeline = Pipeline {
@@ -127,7 +117,7 @@ fn count_members(
         image,
         tree,
         calls: &calls[..plan.calls + 1],
-        last: method::COUNT,
+        last: Method::Count,
     };
     pipeline.walk(plan.source, collection).arrived
 }
@@ -164,28 +154,27 @@ fn is_comparison(kind: u32) -> bool
 }
 
 // What calls that come to a kind give, by their last call and the members that arrived.
-fn value(kind: usize, method: usize, tally: Tally) -> Value
-    requires { kind ≤ LAST_KIND }
+fn value(kind: ValueKind, method: Method, tally: Tally) -> Value
     ensures { Gives kind method tally result }
 {
     match kind {
-        table::COMPONENTS => Value::Components(tally.arrived),
-        table::FEATURES => Value::Features(tally.arrived),
-        table::DIAGNOSTICS => Value::Diagnostics(tally.arrived),
-        table::BOOLEAN => judge(method, tally.arrived, tally.passed),
-        _ => Value::Count(tally.arrived),
+        ValueKind::Components => Value::Components(tally.arrived),
+        ValueKind::Features => Value::Features(tally.arrived),
+        ValueKind::Diagnostics => Value::Diagnostics(tally.arrived),
+        ValueKind::Boolean => judge(method, tally.arrived, tally.passed),
+        ValueKind::Count => Value::Count(tally.arrived),
     }
 }
 
 // `eval_quantifier`, by two numbers: `all` and `none` of an empty collection are true, and warned.
-fn judge(method: usize, arrived: usize, passed: usize) -> Value
+fn judge(method: Method, arrived: usize, passed: usize) -> Value
     ensures { Judges method arrived passed result }
 {
     let warned = arrived == 0;
     match method {
-        method::ALL => boolean(passed == arrived, warned),
-        method::ANY => Value::Bool(0 < passed),
-        method::NONE => boolean(passed == 0, warned),
+        Method::All => boolean(passed == arrived, warned),
+        Method::Any => Value::Bool(0 < passed),
+        Method::None => boolean(passed == 0, warned),
         _ => Value::Bool(false),
     }
 }

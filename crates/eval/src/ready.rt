@@ -1,26 +1,23 @@
-// The calls of a pipeline made ready for members: the call's number, and the place of its CALL_ARGS in the tree table. Whether each call may
+// The calls of a pipeline made ready for members: the method, and the place of its CALL_ARGS in the tree table. Whether each call may
 // stand where it stands is settled here, from the kinds alone.
 ghost use Rattle.std.specs.Prelude.{◌≡◌, ◌+◌, ◌*◌, ◌≤◌, ◌<◌, ◌^◌, length};
 ghost use Rattle.predicate.specs.Rows.{ROW, level_at, kind_at, children_at, row_passes, of_kind};
 ghost use Rattle.syntax.specs.Kind.{DOT_CALL};
 ghost use Rattle.meaning.specs.Value.{sort_kind};
-ghost use Rattle.meaning.specs.Calls.{kind_number};
 ghost use Rattle.meaning.specs.Pipeline.{calls_of};
 ghost use Rattle.meaning.specs.Walk.{is_last};
-ghost use Rattle.calls.specs.Table.{method_at};
-ghost use Rattle.eval.specs.Ready.{LAST_KIND, CallAt, KindAfter, LastMethod, source_sort, args_place, call_row, CallsFit, PutsRow, Holds, Plans};
+ghost use Rattle.eval.specs.Ready.{CallAt, KindAfter, LastMethod, source_sort, args_place, call_row, CallsFit, PutsRow, Holds, Plans};
 
-use calls::table::Next;
 use calls::{method, table};
-use matching::search::Found;
+use meaning::{Method, ValueKind};
 use predicate::{node, rows};
 use syntax::kind;
 use syntax::refusal::Refusal;
 
-// A call by its number, and the place of its CALL_ARGS in the tree table.
+// A call by its method, and the place of its CALL_ARGS in the tree table.
 #[derive(Clone, Copy)]
 pub(crate) struct Call {
-    pub method: usize,
+    pub method: Method,
     pub args: usize,
 }
 
@@ -37,7 +34,7 @@ pub(crate) fn nth(calls: &[Call], i: usize) -> Option<Call>
 pub(crate) struct Plan {
     pub source: usize,
     pub calls: usize,
-    pub kind: usize,
+    pub kind: ValueKind,
 }
 
 // Makes the calls of the pipeline whose row is at a place ready, in `calls`; or refuses it.
@@ -50,8 +47,7 @@ pub(crate) fn plan_pipeline(
     requires { (at + ROW ≤ length tree.now) × (length (calls_of (children_at rule.now tree.now at)) ≤ length calls.old) }
     ensures { Plans rule.now tree.now at calls.new result }
 {
-    let found = node::first_child(tree, at);
-    let Found::At(source) = found else {
+    let Some(source) = node::first_child(tree, at) else {
         return Err(Refusal::ParseErrors);
     };
     let count = put_calls(rule, tree, at, calls);
@@ -64,14 +60,14 @@ pub(crate) fn plan_pipeline(
 }
 
 // The kind of what a source gives.
-fn source_kind(tree: &[u32], source: usize) -> usize
+fn source_kind(tree: &[u32], source: usize) -> ValueKind
     requires { source + ROW ≤ length tree.now }
-    ensures { result ≡ kind_number (sort_kind (source_sort (kind_at tree.now source))) }
+    ensures { result ≡ sort_kind (source_sort (kind_at tree.now source)) }
 {
     if tree[source] == kind::IDENT_EXPR {
-        return table::COMPONENTS;
+        return ValueKind::Components;
     }
-    table::DIAGNOSTICS
+    ValueKind::Diagnostics
 }
 
 // Writes each call of the pipeline whose row is at a place, and gives their number.
@@ -122,7 +118,7 @@ fn call_at(rule: &[u8], tree: &[u32], row: usize) -> Call
     ensures { result ≡ call_row rule.now tree.now row }
 {
     Call {
-        method: method::method_number(node::ident(rule, tree, row)),
+        method: method::method_of(node::ident(rule, tree, row)),
         args: args_place(tree, row),
     }
 }
@@ -132,28 +128,24 @@ fn args_place(tree: &[u32], row: usize) -> usize
     ensures { result ≡ args_place tree.now row }
 {
     match node::child_of_kind(tree, row, kind::CALL_ARGS) {
-        Found::At(args) => args,
-        Found::Absent => tree.len(),
+        Some(args) => args,
+        None => tree.len(),
     }
 }
 
 // The kind after all calls, or the refusal of the leftmost that may not stand where it stands.
-pub(crate) fn kind_after(calls: &[Call], source: usize) -> Result<usize, Refusal>
-    requires { source ≤ LAST_KIND }
+pub(crate) fn kind_after(calls: &[Call], source: ValueKind) -> Result<ValueKind, Refusal>
     ensures { KindAfter calls.now source result }
 {
     let mut kind = source;
     for call in calls {
-        match table::next_kind(call.method, kind) {
-            Next::Refused(r) => return Err(r),
-            Next::Kind(given) => kind = given,
-        }
+        kind = table::next_kind(call.method, kind)?;
     }
     Ok(kind)
 }
 
-// The number of the first call that gives no collection; where there is none, that of `where`, as the definition has it.
-pub(crate) fn last_method(calls: &[Call]) -> usize
+// The method of the first call that gives no collection; where there is none, `where`, as the definition has it.
+pub(crate) fn last_method(calls: &[Call]) -> Method
     ensures { LastMethod calls.now result }
 {
     for call in calls {
@@ -161,12 +153,15 @@ pub(crate) fn last_method(calls: &[Call]) -> usize
             return call.method;
         }
     }
-    method::WHERE
+    Method::Where
 }
 
-// Whether a call with this number gives no collection.
-fn is_last(method: usize) -> bool
-    ensures { result ≡ is_last (method_at method) }
+// Whether a call of this method gives no collection.
+fn is_last(method: Method) -> bool
+    ensures { result ≡ is_last method }
 {
-    method::ALL <= method && method <= method::COUNT
+    match method {
+        Method::All | Method::Any | Method::None | Method::Count => true,
+        Method::Where | Method::Features | Method::Diagnostics => false,
+    }
 }

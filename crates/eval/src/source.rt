@@ -1,7 +1,7 @@
 // `eval_source`: the members of a source, each sent through the calls. Components are sent as `walk` sends members, with notes where there
 // are enough of them; diagnostics if their analysis has the name asked for.
 ghost use Rattle.std.specs.Prelude.{◌≡◌, true, [], ◌∷◌};
-ghost use Rattle.meaning.specs.Calls.{Features};
+ghost use Rattle.meaning.specs.declared.Method.TheVariants.{Features};
 ghost use Rattle.meaning.specs.Pipeline.{is_of_analysis};
 ghost use Rattle.eval.specs.Ready.{IsCall};
 ghost use Rattle.eval.specs.Listed.{every_component};
@@ -13,7 +13,7 @@ use crate::walk::{Pipeline, Tally, Walk};
 use crate::{held, listed, marked, memo, ready};
 use board::image;
 use board::image::Section;
-use calls::method;
+use meaning::Method;
 use predicate::atom::Member;
 use profile;
 use syntax::{kind, text};
@@ -38,10 +38,10 @@ impl<'a> Pipeline<'a> {
         let Some(first) = ready::nth(self.calls, 0) else {
             return tally_of(listed::list_components(self.image, collection));
         };
-        if first.method == method::COUNT {
+        if first.method == Method::Count {
             return tally_of(image::record_count(self.image, Section::Components) as usize);
         }
-        if first.method == method::FEATURES {
+        if first.method == Method::Features {
             return self.feed_owned_features(collection);
         }
         self.feed_noted(collection)
@@ -55,7 +55,7 @@ impl<'a> Pipeline<'a> {
         let Some(second) = ready::nth(self.calls, 1) else {
             return tally_of(listed::list_owned(self.image, collection));
         };
-        if second.method == method::COUNT {
+        if second.method == Method::Count {
             return tally_of(listed::count_owned(self.image));
         }
         self.feed_noted(collection)
@@ -133,7 +133,7 @@ fn begins_with_features(calls: &[Call]) -> bool
     ensures { result ≡ true → IsCall calls.now 0 Features }
 {
     match ready::nth(calls, 0) {
-        Some(call) => call.method == method::FEATURES,
+        Some(call) => call.method == Method::Features,
         None => false,
     }
 }

@@ -5,7 +5,7 @@ ghost use Rattle.eval.specs.Step.{Steps};
 
 use crate::memo;
 use crate::walk::Walk;
-use calls::method;
+use meaning::Method;
 
 // A `where` drops it, it passes all calls and has a row, or the last call counts it, with whether its predicate is true.
 #[derive(Clone, Copy)]
@@ -24,17 +24,17 @@ impl<'a> Walk<'a> {
         let calls = self.pipeline.calls;
         for i in from..calls.len() {
             match calls[i].method {
-                method::WHERE => {
+                Method::Where => {
                     if !self.told(i, place)? {
                         return Some(Step::Dropped);
                     }
                 }
-                method::ALL..=method::NONE => {
+                Method::All | Method::Any | Method::None => {
                     return Some(Step::Counted(self.told(i, place)?));
                 }
-                method::COUNT => return Some(Step::Counted(false)),
-                method::FEATURES => return None,
-                _ => {}
+                Method::Count => return Some(Step::Counted(false)),
+                Method::Features => return None,
+                Method::Diagnostics => {}
             }
         }
         Some(Step::Listed)

@@ -7,7 +7,6 @@ ghost use Rattle.predicate.specs.Rows.{ROW};
 ghost use Rattle.profile.specs.Profile.{profile_of};
 ghost use Rattle.meaning.specs.Value.{row_of, whole_rows};
 ghost use Rattle.meaning.specs.Calls.{features_of};
-ghost use Rattle.calls.specs.Table.{method_at};
 ghost use Rattle.eval.specs.Marked.{held_in};
 ghost use Rattle.eval.specs.Feed.{counted, decided_in};
 ghost use Rattle.eval.specs.Step.{after};
@@ -18,12 +17,11 @@ use crate::ready::Call;
 use crate::step::Step;
 use board::image;
 use board::image::Section;
-use calls::method;
 use instance;
+use meaning::Method;
 use predicate::atom::Member;
 use predicate::node;
 use profile;
-use profile::Profile;
 use syntax::kind;
 
 // The numbers of a row of the collection table.
@@ -55,7 +53,7 @@ impl Tally {
     }
 }
 
-// What is looked at: a rule and the rows of its tree, a board image, the calls of a pipeline in that tree, and the number of the call that
+// What is looked at: a rule and the rows of its tree, a board image, the calls of a pipeline in that tree, and the method of the call that
 // may decide early, the last.
 #[derive(Clone, Copy)]
 pub(crate) struct Pipeline<'a> {
@@ -63,7 +61,7 @@ pub(crate) struct Pipeline<'a> {
     pub image: &'a [u8],
     pub tree: &'a [u32],
     pub calls: &'a [Call],
-    pub last: usize,
+    pub last: Method,
 }
 
 impl<'a> Pipeline<'a> {
@@ -110,12 +108,11 @@ impl<'a> Walk<'a> {
 
     // Whether the quantifier that is the last call is decided, whoever else arrives.
     pub(crate) fn is_decided(&self) -> bool
-        ensures { result ≡ decided_in (method_at self.now.pipeline.last) self.now.tally }
+        ensures { result ≡ decided_in self.now.pipeline.last self.now.tally }
     {
         match self.pipeline.last {
-            method::ALL => self.tally.passed < self.tally.arrived,
-            method::ANY => 0 < self.tally.passed,
-            method::NONE => 0 < self.tally.passed,
+            Method::All => self.tally.passed < self.tally.arrived,
+            Method::Any | Method::None => 0 < self.tally.passed,
             _ => false,
         }
     }
@@ -130,18 +127,20 @@ impl<'a> Walk<'a> {
             return self.list(member);
         };
         match call.method {
-            method::WHERE => {
+            Method::Where => {
                 if self.ask(i, call.args, member) {
                     self.feed(i + 1, member);
                 }
             }
-            method::FEATURES => {
+            Method::Features => {
                 if let Member::Component(component) = member {
                     self.feed_features(i + 1, component);
                 }
             }
-            method::ALL..=method::COUNT => self.arrive(i, call, member),
-            _ => self.feed(i + 1, member),
+            Method::All | Method::Any | Method::None | Method::Count => self.arrive(
+                i, call, member,
+            ),
+            Method::Diagnostics => self.feed(i + 1, member),
         }
     }
 
@@ -165,7 +164,7 @@ impl<'a> Walk<'a> {
 
     // Sends one feature, whose owner's profile is at hand.
     #[cycle(feed)]
-    fn feed_feature(&mut self, i: usize, component: u32, feature: u32, owner: Profile)
+    fn feed_feature(&mut self, i: usize, component: u32, feature: u32, owner: Option<usize>)
         requires { Sending self.old i (Member.Feature component feature ∷ []) × (owner ≡ profile_of self.old.pipeline.image.now (held_in self.old.notes.now) (Member.Component component)) }
         ensures { Sent self.old i (Member.Feature component feature ∷ []) self.new }
     {
@@ -176,7 +175,7 @@ impl<'a> Walk<'a> {
 
     // Sends one member whose profile is at hand: as the notes tell, or by asking.
     #[cycle(feed)]
-    pub(crate) fn send(&mut self, i: usize, member: Member, profile: Profile)
+    pub(crate) fn send(&mut self, i: usize, member: Member, profile: Option<usize>)
         requires { Sending self.old i (member ∷ []) × (profile ≡ profile_of self.old.pipeline.image.now (held_in self.old.notes.now) member) }
         ensures { Sent self.old i (member ∷ []) self.new }
     {
@@ -192,7 +191,7 @@ impl<'a> Walk<'a> {
         requires { Arriving self.old i (member ∷ []) call }
         ensures { Sent self.old i (member ∷ []) self.new }
     {
-        if call.method == method::COUNT {
+        if call.method == Method::Count {
             return self.tally.count(false);
         }
         let passes = self.ask(i, call.args, member);

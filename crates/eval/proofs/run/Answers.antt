@@ -4,10 +4,10 @@ use mathlib.Core.Path.{sym, ◌∙◌}
 use Rattle.eval.proofs.run.Goals as goal
 
 pub run_checked-requires : goal.run_checked-requires
-run_checked-requires c = both_passed c.args.rule.now c.args.image.now c.args.tokens.now c.args.tree.now c.args.errors.now c.args.collection.now (sym c.check_rule.ensures ∙ c.in-Passed.is) (sym c.check_image.ensures ∙ c.in-Passed-check_image.is)
+run_checked-requires c = both_passed c.args.rule.now c.args.image.now c.args.tokens.now c.args.tree.now c.args.errors.now c.args.collection.now (sym c.check_rule.ensures ∙ c.in-Ok.is) (sym c.check_image.ensures ∙ c.in-Ok-check_image.is)
 
-pub returns-in-Refused : goal.returns-in-Refused
-returns-in-Refused c = runs_refused c.args.rule.now c.args.image.now c.args.tokens.now c.args.tree.now c.args.errors.now c.args.collection.now (rule_refused c.args.rule.now c.args.image.now c.args.tokens.now c.args.tree.now c.args.errors.now c.args.collection.now (sym c.check_rule.ensures ∙ c.in-Refused.is)) c.with_verdict.ensures
+pub returns-in-Err : goal.returns-in-Err
+returns-in-Err c = runs_refused c.args.rule.now c.args.image.now c.args.tokens.now c.args.tree.now c.args.errors.now c.args.collection.now (rule_refused c.args.rule.now c.args.image.now c.args.tokens.now c.args.tree.now c.args.errors.now c.args.collection.now (sym c.check_rule.ensures ∙ c.in-Err.is)) c.with_verdict.ensures
 
-pub returns-in-Refused-check_image : goal.returns-in-Refused-check_image
-returns-in-Refused-check_image c = runs_refused c.args.rule.now c.args.image.now c.args.tokens.now c.args.tree.now c.args.errors.now c.args.collection.now (image_refused c.args.rule.now c.args.image.now c.args.tokens.now c.args.tree.now c.args.errors.now c.args.collection.now (sym c.check_rule.ensures ∙ c.in-Passed.is) (sym c.check_image.ensures ∙ c.in-Refused-check_image.is)) c.with_verdict-in-Refused-check_image.ensures
+pub returns-in-Err-check_image : goal.returns-in-Err-check_image
+returns-in-Err-check_image c = runs_refused c.args.rule.now c.args.image.now c.args.tokens.now c.args.tree.now c.args.errors.now c.args.collection.now (image_refused c.args.rule.now c.args.image.now c.args.tokens.now c.args.tree.now c.args.errors.now c.args.collection.now (sym c.check_rule.ensures ∙ c.in-Ok.is) (sym c.check_image.ensures ∙ c.in-Err-check_image.is)) c.with_verdict-in-Err-check_image.ensures

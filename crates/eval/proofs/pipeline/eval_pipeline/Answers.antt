@@ -2,7 +2,9 @@
 use Rattle.eval.proofs.PipelineLaws.{calls_room, last_decides, refuses, pipeline_given}
 use Rattle.eval.specs.Ready.{Plans}
 use native.Mathlib.Omega.{arith}
-use mathlib.Core.Path.{subst}
+use Rattle.std.proofs.Common.{rules, Err}
+use mathlib.Core.Path.{◌≡◌, sym, subst}
+use Rattle.eval.specs.Pipeline.{Evaluates}
 use Rattle.eval.proofs.pipeline.eval_pipeline.Goals as goal
 
 pub plan_pipeline-requires : goal.plan_pipeline-requires
@@ -11,17 +13,17 @@ plan_pipeline-requires c = (c.requires.0, omega (arith, calls_room c.args.rule.n
 pub walk-tally-requires : goal.walk-tally-requires
 walk-tally-requires c =
     record {
-      whole = (subst (Plans _ _ _ _) c.in-Ok.is c.plan_pipeline.ensures).found.whole;
+      whole = (subst (Plans _ _ _ _) (c.in_ok-plan.was {u = tt}) c.plan_pipeline.ensures).found.whole;
       well = c.requires.3.well;
       room = c.requires.3.room;
       decides = last_decides _ _ c.last_method-last.ensures;
     }
 
-pub value-requires : goal.value-requires
-value-requires c = (subst (Plans _ _ _ _) c.in-Ok.is c.plan_pipeline.ensures).small
-
-pub returns-in-Err : goal.returns-in-Err
-returns-in-Err c = refuses _ (subst (Plans _ _ _ _) c.in-Err.is c.plan_pipeline.ensures)
+pub returns-in_err-plan : goal.returns-in_err-plan
+returns-in_err-plan c =
+    let r = c.in_err-plan.was {u = tt} in
+    let is : c.from_residual.result ≡ Err c.in_err-plan.field-0.0 = search rules in
+    subst (Evaluates _ c.args.collection.now c.args.collection.now) (sym is) (refuses _ (subst (Plans _ _ _ _) r c.plan_pipeline.ensures))
 
 pub returns : goal.returns
-returns c = pipeline_given c.args.rule.now c.args.image.now c.args.tree.now c.args.at (subst (Plans _ _ _ _) c.in-Ok.is c.plan_pipeline.ensures) c.walk-tally.ensures c.last_method-last.ensures c.value.ensures
+returns c = pipeline_given c.args.rule.now c.args.image.now c.args.tree.now c.args.at (subst (Plans _ _ _ _) (c.in_ok-plan.was {u = tt}) c.plan_pipeline.ensures) c.walk-tally.ensures c.last_method-last.ensures c.value.ensures

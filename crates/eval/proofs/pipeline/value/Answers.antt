@@ -1,19 +1,18 @@
--- `value` gives what is settled, by the number of the kind. Assumes nothing.
+-- `value` gives what is settled, by the kind. Assumes nothing.
 use Rattle.eval.proofs.ValueLaws.{gives_components, gives_features, gives_diagnostics, gives_boolean, gives_count}
-use native.Mathlib.Omega.{arith}
 use Rattle.eval.proofs.pipeline.value.Goals as goal
 
-pub returns-in-0 : goal.returns-in-0
-returns-in-0 c = gives_components _ _ c.in-0.is
+pub returns-in-Components : goal.returns-in-Components
+returns-in-Components c = gives_components _ _ c.in-Components.is
 
-pub returns-in-1 : goal.returns-in-1
-returns-in-1 c = gives_features _ _ c.in-1.is
+pub returns-in-Features : goal.returns-in-Features
+returns-in-Features c = gives_features _ _ c.in-Features.is
 
-pub returns-in-2 : goal.returns-in-2
-returns-in-2 c = gives_diagnostics _ _ c.in-2.is
+pub returns-in-Diagnostics : goal.returns-in-Diagnostics
+returns-in-Diagnostics c = gives_diagnostics _ _ c.in-Diagnostics.is
 
-pub returns-in-3 : goal.returns-in-3
-returns-in-3 c = gives_boolean _ _ c.in-3.is c.judge.ensures
+pub returns-in-Boolean : goal.returns-in-Boolean
+returns-in-Boolean c = gives_boolean _ _ c.in-Boolean.is c.judge.ensures
 
-pub returns-in_default : goal.returns-in_default
-returns-in_default c = gives_count _ _ (omega (arith, c.requires))
+pub returns-in-Count : goal.returns-in-Count
+returns-in-Count c = gives_count _ _ c.in-Count.is

@@ -1,5 +1,4 @@
--- `source_kind` gives the number of the source's kind. Assumes nothing.
-use Rattle.meaning.specs.Calls.{kind_number}
+-- `source_kind` gives the kind of the source. Assumes nothing.
 use Rattle.meaning.specs.Value.{components, diagnostics, sort_kind}
 use Rattle.syntax.specs.Kind.{IDENT_EXPR}
 use borrow.Author.Tests.{eq-eqb, ne_eqb}
@@ -8,7 +7,7 @@ use mathlib.Core.Path.{sym, ap}
 use Rattle.eval.proofs.ready.source_kind.Goals as goal
 
 pub returns-then-tree-source-eq-IDENT_EXPR : goal.returns-then-tree-source-eq-IDENT_EXPR
-returns-then-tree-source-eq-IDENT_EXPR c = sym (ap (λ (t : Bool). kind_number (sort_kind (cond t components diagnostics))) (eq-eqb _ IDENT_EXPR c.if-tree-source-eq-IDENT_EXPR.true))
+returns-then-tree-source-eq-IDENT_EXPR c = sym (ap (λ (t : Bool). sort_kind (cond t components diagnostics)) (eq-eqb _ IDENT_EXPR c.if-tree-source-eq-IDENT_EXPR.true))
 
 pub returns : goal.returns
-returns c = sym (ap (λ (t : Bool). kind_number (sort_kind (cond t components diagnostics))) (ne_eqb _ IDENT_EXPR c.if-tree-source-eq-IDENT_EXPR.false))
+returns c = sym (ap (λ (t : Bool). sort_kind (cond t components diagnostics)) (ne_eqb _ IDENT_EXPR c.if-tree-source-eq-IDENT_EXPR.false))

@@ -1,4 +1,5 @@
 -- A member through the calls from a place on, by itself or by its features: the calls left fall around the cycle. Assumes nothing.
+use Rattle.std.proofs.Common.{rules}
 use Rattle.eval.proofs.FeedLaws.{turn, over}
 use Rattle.eval.proofs.ListedLaws.{features_are}
 use Rattle.eval.proofs.SentLaws.{same_calls, here, going_profile, end_takes, end_listed, kept_sending, kept_sent, dropped_sent, owned_sending, owned_sent, owned_none, passed_sending, passed_sent, arriving, step_takes, step_sent, going_start, going_first, going_on, going_stop, going_end}
@@ -14,31 +15,31 @@ pub feed-returns-in_default : goal.feed-returns-in_default
 feed-returns-in_default t c = end_listed c.nth.ensures c.requires c.in_default.is c.list.ensures
 
 pub feed-feed-requires : goal.feed-feed-requires
-feed-feed-requires t c = (omega (arith, c.decreases, (here c.nth.ensures c.requires c.in-Some.is).0, same_calls c.ask.ensures.stays.same), kept_sending c.nth.ensures c.requires c.in-Some.is c.in-0.is c.ask.ensures c.if-ask.true)
+feed-feed-requires t c = (omega (arith, c.decreases, (here c.nth.ensures c.requires c.in-Some.is).0, same_calls c.ask.ensures.stays.same), kept_sending c.nth.ensures c.requires c.in-Some.is c.in-Where.is c.ask.ensures c.if-ask.true)
 
 pub feed-returns-then-ask : goal.feed-returns-then-ask
-feed-returns-then-ask t c = kept_sent c.nth.ensures c.requires c.in-Some.is c.in-0.is c.ask.ensures c.if-ask.true c.feed.ensures
+feed-returns-then-ask t c = kept_sent c.nth.ensures c.requires c.in-Some.is c.in-Where.is c.ask.ensures c.if-ask.true c.feed.ensures
 
 pub feed-returns-else-ask : goal.feed-returns-else-ask
-feed-returns-else-ask t c = dropped_sent c.nth.ensures c.requires c.in-Some.is c.in-0.is c.ask.ensures c.if-ask.false
+feed-returns-else-ask t c = dropped_sent c.nth.ensures c.requires c.in-Some.is c.in-Where.is c.ask.ensures c.if-ask.false
 
 pub feed-feed_features-requires : goal.feed-feed_features-requires
-feed-feed_features-requires t c = (omega (arith, c.decreases, (here c.nth.ensures c.requires c.in-Some.is).0), owned_sending c.nth.ensures c.requires c.in-Some.is c.in-5.is c.in-Component.is)
+feed-feed_features-requires t c = (omega (arith, c.decreases, (here c.nth.ensures c.requires c.in-Some.is).0), owned_sending c.nth.ensures c.requires c.in-Some.is c.in-Features.is c.in-Component.is)
 
 pub feed-returns-in-Component : goal.feed-returns-in-Component
-feed-returns-in-Component t c = owned_sent c.nth.ensures c.requires c.in-Some.is c.in-5.is c.in-Component.is c.feed_features.ensures
+feed-returns-in-Component t c = owned_sent c.nth.ensures c.requires c.in-Some.is c.in-Features.is c.in-Component.is c.feed_features.ensures
 
 pub feed-returns-in_default-member : goal.feed-returns-in_default-member
-feed-returns-in_default-member t c = owned_none c.nth.ensures c.requires c.in-Some.is c.in-5.is c.in_default-member.not-Component
+feed-returns-in_default-member t c = owned_none c.nth.ensures c.requires c.in-Some.is c.in-Features.is c.in_default-member.not-Component
 
 pub feed-arrive-requires : goal.feed-arrive-requires
-feed-arrive-requires t c = arriving c.nth.ensures c.requires c.in-Some.is (omega arith) (omega arith)
+feed-arrive-requires t c = arriving c.nth.ensures c.requires c.in-Some.is (search rules)
 
-pub feed-feed-requires-in_default-method : goal.feed-feed-requires-in_default-method
-feed-feed-requires-in_default-method t c = (omega (arith, c.decreases, (here c.nth.ensures c.requires c.in-Some.is).0), passed_sending c.nth.ensures c.requires c.in-Some.is (omega arith))
+pub feed-feed-requires-in-Diagnostics : goal.feed-feed-requires-in-Diagnostics
+feed-feed-requires-in-Diagnostics t c = (omega (arith, c.decreases, (here c.nth.ensures c.requires c.in-Some.is).0), passed_sending c.nth.ensures c.requires c.in-Some.is c.in-Diagnostics.is)
 
-pub feed-returns-in_default-method : goal.feed-returns-in_default-method
-feed-returns-in_default-method t c = passed_sent c.nth.ensures c.requires c.in-Some.is (omega arith) c.feed-in_default-method.ensures
+pub feed-returns-in-Diagnostics : goal.feed-returns-in-Diagnostics
+feed-returns-in-Diagnostics t c = passed_sent c.nth.ensures c.requires c.in-Some.is c.in-Diagnostics.is c.feed-in-Diagnostics.ensures
 
 pub feed_feature-send-requires : goal.feed_feature-send-requires
 feed_feature-send-requires t c = (omega (arith, c.decreases), (c.requires.0, feature_owned _ _ _ _ c.requires.1 c.owned_profile-profile.ensures))
