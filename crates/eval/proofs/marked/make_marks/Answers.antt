@@ -1,6 +1,6 @@
 -- `marked::make_marks` makes a block after the other. Assumes nothing.
 use native.Mathlib.Omega.{arith}
-use Rattle.eval.proofs.MarkedLaws.{making_start, making_length, making_on}
+use Rattle.eval.proofs.MarkedLaws.{making_start, making_on}
 use Rattle.eval.proofs.marked.make_marks.Goals as goal
 
 pub loop-n-init : goal.loop-n-init

@@ -1,11 +1,7 @@
 -- `memo::plain_place` gives the place by the profile alone. Assumes nothing.
 use mathlib.Core.Path.{sym, ap}
-use native.Mathlib.Omega.{arith}
 use Rattle.eval.specs.Memo.{plain_place}
 use Rattle.eval.proofs.memo.plain_place.Goals as goal
-
-pub overflow_add-result : goal.overflow_add-result
-overflow_add-result c = omega (arith, c.requires _ c.in-Number.is)
 
 pub returns-in-Number : goal.returns-in-Number
 unfolding plain_place

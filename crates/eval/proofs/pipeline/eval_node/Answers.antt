@@ -7,12 +7,6 @@ use Rattle.eval.proofs.pipeline.eval_node.Goals as goal
 pub returns-in_default : goal.returns-in_default
 returns-in_default c = node_empty c.args.rule.now c.args.image.now c.args.tree.now c.first_child-found.ensures c.in_default.is
 
-pub offset_bounds-tree-at : goal.offset_bounds-tree-at
-offset_bounds-tree-at c = omega (arith, (source_at c.args.rule.now c.args.tree.now 0 c.first_child-found.ensures c.in-At.is).whole, c.requires.0)
-
-pub bounds-tree-at : goal.bounds-tree-at
-bounds-tree-at c = omega (arith, (source_at c.args.rule.now c.args.tree.now 0 c.first_child-found.ensures c.in-At.is).whole)
-
 pub eval_count_compare-requires : goal.eval_count_compare-requires
 eval_count_compare-requires c = ((source_at c.args.rule.now c.args.tree.now 0 c.first_child-found.ensures c.in-At.is).whole, c.requires.0, omega arith, c.requires.1, inner_few c.requires.2 (source_at c.args.rule.now c.args.tree.now 0 c.first_child-found.ensures c.in-At.is))
 
@@ -24,3 +18,9 @@ eval_pipeline-requires c = ((source_at c.args.rule.now c.args.tree.now 0 c.first
 
 pub returns : goal.returns
 returns c = node_pipeline c.args.rule.now c.args.image.now c.args.tree.now (source_at c.args.rule.now c.args.tree.now 0 c.first_child-found.ensures c.in-At.is) c.if-tree-at-eq-COUNT_COMPARE_EXPR.false c.eval_pipeline.ensures
+
+pub offset_bounds-tree-at : goal.offset_bounds-tree-at
+offset_bounds-tree-at c = omega (arith, (source_at c.args.rule.now c.args.tree.now 0 c.first_child-found.ensures c.in-At.is).whole, c.requires.0)
+
+pub bounds-tree-at : goal.bounds-tree-at
+bounds-tree-at c = omega (arith, (source_at c.args.rule.now c.args.tree.now 0 c.first_child-found.ensures c.in-At.is).whole)

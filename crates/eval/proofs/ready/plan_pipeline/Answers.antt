@@ -1,5 +1,5 @@
 -- `plan_pipeline` finds the source, makes the calls ready and asks the table for the kind. Assumes nothing.
-use Rattle.eval.proofs.PlanLaws.{calls_taken, source_small, no_source, source_at, planned_refused, planned_ready}
+use Rattle.eval.proofs.PlanLaws.{source_small, no_source, source_at, planned_refused, planned_ready}
 use Rattle.predicate.specs.Rows.{kind_at}
 use Rattle.std.proofs.Common.{rules, Err}
 use mathlib.Core.Path.{◌≡◌, sym, subst}
@@ -8,9 +8,6 @@ use Rattle.eval.proofs.ready.plan_pipeline.Goals as goal
 
 pub returns-in_default : goal.returns-in_default
 returns-in_default c = no_source c.args.rule.now c.args.tree.now c.args.at c.first_child-found.ensures c.in_default.is
-
-pub slice_bounds-kind_after-end-2 : goal.slice_bounds-kind_after-end-2
-slice_bounds-kind_after-end-2 c = calls_taken c.put_calls-count.ensures
 
 pub source_kind-requires : goal.source_kind-requires
 source_kind-requires c = (source_at c.args.rule.now c.args.tree.now c.args.at c.first_child-found.ensures c.in-At.is).whole
