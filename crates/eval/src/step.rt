@@ -17,6 +17,7 @@ pub(crate) enum Step {
 
 impl<'a> Walk<'a> {
     // What becomes of a member whose notes begin at a place, by the calls from one on; nothing where the notes do not tell.
+    #[inline(always)]
     pub(crate) fn step_of(&self, from: usize, place: Option<usize>) -> Option<Step>
         requires { place_in place ≤ NO_PLACE }
         ensures { Steps self.now.pipeline.calls.now from (place_in place) self.now.notes.now result }
@@ -41,6 +42,7 @@ impl<'a> Walk<'a> {
     }
 
     // Whether the predicate of call i is true of the members whose notes begin at a place, if there is one and that is noted.
+    #[inline(always)]
     fn told(&self, i: usize, place: Option<usize>) -> Option<bool>
         requires { place_in place ≤ NO_PLACE }
         ensures { Tells self.now.notes.now i (place_in place) result }

@@ -164,6 +164,7 @@ impl<'a> Walk<'a> {
     }
 
     // Sends one feature, whose owner's profile is at hand.
+    #[inline(always)]
     #[cycle(feed)]
     fn feed_feature(&mut self, i: usize, component: u32, feature: u32, owner: Profile)
         requires { Sending self.old i (Member.Feature component feature ∷ []) × (owner ≡ profile_of self.old.pipeline.image.now (held_in self.old.notes.now) (Member.Component component)) }
@@ -175,6 +176,7 @@ impl<'a> Walk<'a> {
     }
 
     // Sends one member whose profile is at hand: as the notes tell, or by asking.
+    #[inline(always)]
     #[cycle(feed)]
     pub(crate) fn send(&mut self, i: usize, member: Member, profile: Profile)
         requires { Sending self.old i (member ∷ []) × (profile ≡ profile_of self.old.pipeline.image.now (held_in self.old.notes.now) member) }
@@ -200,6 +202,7 @@ impl<'a> Walk<'a> {
     }
 
     // What was told happens to a member.
+    #[inline(always)]
     fn take(&mut self, step: Step, member: Member)
         requires { Takes self.old step }
         ensures { Moved self.old (after step member (state_in self.old)) self.new }
