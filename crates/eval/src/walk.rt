@@ -146,6 +146,7 @@ impl<'a> Walk<'a> {
     }
 
     // Sends the features of a component through the calls from the i-th on.
+    #[inline(always)]
     #[cycle(feed)]
     pub(crate) fn feed_features(&mut self, i: usize, component: u32)
         requires { Sending self.old i (features_of self.old.pipeline.image.now component) }
@@ -182,7 +183,9 @@ impl<'a> Walk<'a> {
         requires { Sending self.old i (member ∷ []) × (profile ≡ profile_of self.old.pipeline.image.now (held_in self.old.notes.now) member) }
         ensures { Sent self.old i (member ∷ []) self.new }
     {
-        let place = self.place_of(member, profile);
+        let Some(place) = self.place_of(member, profile) else {
+            return self.feed(i, member);
+        };
         match self.step_of(i, place) {
             Some(step) => self.take(step, member),
             None => self.feed(i, member),
