@@ -218,6 +218,7 @@ impl<'a> Walk<'a> {
     }
 
     // A member that passes all calls has a row, and is counted.
+    #[inline(always)]
     fn list(&mut self, member: Member)
         requires { Takes self.old Step.Listed }
         ensures { Moved self.old (after Step.Listed member (state_in self.old)) self.new }
@@ -237,6 +238,7 @@ fn clear(collection: &mut [u32])
 }
 
 // Writes a member's row.
+#[inline(always)]
 pub(crate) fn put_member(collection: &mut [u32], row: usize, member: Member)
     requires { meant.COLLECTION_ROW * (row + 1) ≤ length collection.old }
     ensures { collection.new ≡ sets collection.old (meant.COLLECTION_ROW * row) (row_of member) }
