@@ -1,20 +1,20 @@
 -- What is known of analyses: nothing at first, then each that was compared. Assumes nothing.
-use mathlib.Core.Path.{◌≡◌, sym, ap, ◌∙◌}
-use mathlib.Core.Bool.{Bool, true, false}
+use mathlib.Core.Path.{◌≡◌, refl, sym, ap, ◌∙◌}
+use mathlib.Core.Bool.{Bool}
 use mathlib.Core.List.{List}
-use Prim.Native.Nat.{ℕ, ◌+◌, ◌*◌, ◌<◌}
-use native.Mathlib.Omega.{arith}
+use Prim.Native.Nat.{ℕ, zero, suc, ◌<◌}
 use lib.Dec.{eqb}
 use lib.ListN.{length, get_or, set, replicate}
 use lib.Seq.{get_or-set_same, get_or-set_other}
 use borrow.Author.Tests.{eqb-true, eqb-false}
+use Rattle.std.specs.Prelude.{Option, Some, None}
 use Rattle.syntax.specs.Text.{same}
 use Rattle.syntax.proofs.BoolLaws.{whether}
 use Rattle.board.specs.Image.{text, analysis}
 use Rattle.predicate.specs.declared.atom.Member.TheVariants.{Diagnostic}
 use Rattle.meaning.specs.Pipeline.{is_of_analysis}
-use Rattle.eval.specs.Feed.{KNOWN, Known}
-use Rattle.eval.proofs.MemoLaws.{zeros}
+use Rattle.eval.specs.declared.source.Analysis.{Analysis}
+use Rattle.eval.specs.Analysis.{KNOWN, Known}
 
 -- a diagnostic by the string of its analysis
 pub of_analysis : (image name : List ℕ) (diagnostic : ℕ) {string : ℕ} {r : Bool} → string ≡ analysis image diagnostic → same (text image string) name ≡ r
@@ -22,37 +22,36 @@ pub of_analysis : (image name : List ℕ) (diagnostic : ℕ) {string : ℕ} {r :
 unfolding is_of_analysis
 of_analysis image name diagnostic e h = sym h ∙ ap (λ (s : ℕ). same (text image s) name) e
 
-pub known_none : (image name : List ℕ) → Known image name (replicate KNOWN 0)
+nothing : (n i : ℕ) → ◌≡◌ {A = Option Analysis} (get_or (replicate n None) i None) None
+nothing zero i = refl
+nothing (suc n) zero = refl
+nothing (suc n) (suc i) = nothing n i
+
+pub known_none : (image name : List ℕ) → Known image name (replicate KNOWN None)
 known_none image name =
     record {
-      other = λ i s e. absurd (omega (arith, e, zeros KNOWN i));
-      named = λ i s e. absurd (omega (arith, e, zeros KNOWN i));
+      so = λ i s b e.
+          let none = nothing KNOWN i in
+          cc;
     }
 
+-- one of the table
+pub known_here : {image name : List ℕ} {table : List (Option Analysis)} (k : Known image name table) (i : ℕ) {found : Analysis} {string : ℕ}
+    → get_or table i None ≡ Some found → found.string ≡ string → same (text image string) name ≡ found.named
+known_here {image} {name} k i {found} e h = ap (λ (s : ℕ). same (text image s) name) (sym h) ∙ k.so i found.string found.named e
+
 -- one more
-module _ {image name table : List ℕ} (k : Known image name table) (at string : ℕ) (h : at < length table) where
-  at_or_not : {A : Type 0} (v i w : ℕ) → get_or (set table at v) i 0 ≡ w → (v ≡ w → A) → (get_or table i 0 ≡ w → A) → A
-  at_or_not v i w e here there =
-      whether (eqb i at)
-      (λ t. here (sym (get_or-set_same table at v 0 h) ∙ ap (λ (x : ℕ). get_or (set table at v) x 0) (sym (eqb-true i at t)) ∙ e))
-      (λ t. there (sym (get_or-set_other table at i v 0 (eqb-false i at t)) ∙ e))
-
-  pub known_other : same (text image string) name ≡ false → Known image name (set table at (2 * string + 2))
-  known_other f =
-      record {
-        other = λ i s e.
-            at_or_not (2 * string + 2) i (2 * s + 2) e
-            (λ q. ap (λ (x : ℕ). same (text image x) name) (omega (arith, q)) ∙ f)
-            (k.other i s);
-        named = λ i s e. at_or_not (2 * string + 2) i (2 * s + 2 + 1) e (λ q. absurd (omega (arith, q))) (k.named i s);
-      }
-
-  pub known_named : same (text image string) name ≡ true → Known image name (set table at (2 * string + 2 + 1))
-  known_named f =
-      record {
-        other = λ i s e. at_or_not (2 * string + 2 + 1) i (2 * s + 2) e (λ q. absurd (omega (arith, q))) (k.other i s);
-        named = λ i s e.
-            at_or_not (2 * string + 2 + 1) i (2 * s + 2 + 1) e
-            (λ q. ap (λ (x : ℕ). same (text image x) name) (omega (arith, q)) ∙ f)
-            (k.named i s);
-      }
+pub known_more : {image name : List ℕ} {table : List (Option Analysis)} (k : Known image name table) (at string : ℕ) {named : Bool} → at < length table
+    → same (text image string) name ≡ named → Known image name (set table at (Some (record { string = string; named = named })))
+known_more {image} {name} {table} k at string {named} h e =
+    record {
+      so = λ i s b q.
+          whether (eqb i at)
+          (λ t.
+          let same_place : i ≡ at = eqb-true i at t in
+          let new = get_or-set_same table at (Some (record { string = string; named = named })) None h in
+          let moved = ap (λ (x : ℕ). get_or (set table at (Some (record { string = string; named = named }))) x None) same_place in
+          let made : ◌≡◌ {A = Analysis} (record { string = string; named = named }) (record { string = s; named = b }) = cc in
+          ap (λ (a : Analysis). same (text image a.string) name) (sym made) ∙ e ∙ ap (λ (a : Analysis). a.named) made)
+          (λ t. k.so i s b (sym (get_or-set_other table at i (Some (record { string = string; named = named })) None (eqb-false i at t)) ∙ q));
+    }

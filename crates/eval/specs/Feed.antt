@@ -1,10 +1,8 @@
 -- Members sent through calls one after the other, and what is kept of those that arrive: how many, how many of them pass the last call's
 -- test, and, where the calls come to a collection, their rows. Assumes nothing: these are definitions.
-use Rattle.std.specs.Prelude.{ℕ, ◌+◌, ◌*◌, ◌≤◌, List, [], Bool, true, false, cond, ◌≡◌, ltb, length, get_or}
+use Rattle.std.specs.Prelude.{ℕ, ◌+◌, ◌*◌, ◌≤◌, List, [], Bool, true, false, cond, ◌≡◌, ltb, length}
 use Rattle.std.proofs.Math.Option.{Option, none, some}
 use Rattle.std.proofs.lemmas.List.Edits.{sets}
-use Rattle.syntax.specs.Text.{same}
-use Rattle.board.specs.Image.{text}
 use Rattle.board.specs.Check.{COLLECTION_ROW}
 use Rattle.predicate.specs.declared.atom.Member.{Member}
 use Rattle.meaning.specs.Value.{rows_of, with_members}
@@ -81,15 +79,6 @@ pub record Stands (last : Method) (s t : State) : Type 0 where
   pub fewer : s.passed ≤ s.arrived
   pub same : decided last s.arrived s.passed ≡ false → s ≡ t
   pub done : decided last s.arrived s.passed ≡ true → decided last t.arrived t.passed ≡ true
-
--- how many analyses are known
-abbrev pub KNOWN : ℕ
-KNOWN = 8
-
--- what a table says of analyses is so: twice the number of a string and 2, that its text is not a name; 1 more, that it is
-pub record Known (image name table : List ℕ) : Type 0 where
-  pub other : (i string : ℕ) → get_or table i 0 ≡ 2 * string + 2 → same (text image string) name ≡ false
-  pub named : (i string : ℕ) → get_or table i 0 ≡ 2 * string + 2 + 1 → same (text image string) name ≡ true
 
 -- all members of a source were sent, from a table that held `table`
 unfoldable pub walked : (image : List ℕ) → List Call → List Member → List ℕ → State

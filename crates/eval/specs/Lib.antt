@@ -7,3 +7,4 @@ pub mod Memo
 pub mod Step
 pub mod Listed
 pub mod Walk
+pub mod Analysis

@@ -35,6 +35,7 @@ const NOT_TO_KNOW: u8 = 3;
 
 impl<'a> Walk<'a> {
     // Where the notes of a member with this profile begin, if it has any. The way of most members goes by a memo without marks, which hands nothing over.
+    #[inline(always)]
     pub(crate) fn place_of(&self, member: Member, profile: Option<usize>) -> Option<usize>
         requires { profile ≡ profile_of self.now.pipeline.image.now (held_in self.now.notes.now) member }
         ensures { Placed self.now.pipeline.image.now self.now.notes.now member (place_in result) }
@@ -73,6 +74,7 @@ impl<'a> Walk<'a> {
     }
 
     // What is noted of the predicate of call i at a place.
+    #[inline(always)]
     pub(crate) fn noted(&self, i: usize, place: usize) -> u8
         requires { place ≤ meant.NO_PLACE }
         ensures { result ≡ note_in self.now.notes.now i place }

@@ -5,7 +5,7 @@ ghost use Rattle.meaning.specs.declared.Method.TheVariants.{Features};
 ghost use Rattle.meaning.specs.Pipeline.{is_of_analysis};
 ghost use Rattle.eval.specs.Ready.{IsCall};
 ghost use Rattle.eval.specs.Listed.{every_component};
-ghost use Rattle.eval.specs.Feed.{Known};
+ghost use Rattle.eval.specs.Analysis.{Known};
 ghost use Rattle.eval.specs.Walk.{every_of_analysis, SendsAll, SentAll, Sending, Sent};
 
 use crate::ready::Call;
@@ -18,9 +18,15 @@ use predicate::atom::Member;
 use profile;
 use syntax::{kind, text};
 
-// How many analyses are known: that of a string is at its number's rest by this, as twice the number and 2 if the text is not the name asked
-// for, and 1 more if it is.
+// How many analyses are known: that of a string is at its number's rest by this.
 const KNOWN: usize = 8;
+
+// An analysis by its string, and whether its text is the name asked for.
+#[derive(Clone, Copy)]
+struct Analysis {
+    string: u32,
+    named: bool,
+}
 
 // On a board with fewer components nothing is noted of them where their category is compared; on one with fewer than the second nothing
 // where a `has` is asked, which needs marks.
@@ -183,7 +189,7 @@ impl<'a> Walk<'a> {
     {
         let image = self.pipeline.image;
         let count = image::record_count(image, Section::Diagnostics);
-        let mut known = [0u64; KNOWN];
+        let mut known = [None; KNOWN];
         for diagnostic in 0..count {
             if !is_of_analysis(image, name, diagnostic, &mut known) {
                 continue;
@@ -198,23 +204,23 @@ impl<'a> Walk<'a> {
 }
 
 // Whether the analysis of a diagnostic has this name. The text is compared only where it is not among those that are known.
-fn is_of_analysis(image: &[u8], name: &[u8], diagnostic: u32, known: &mut [u64; KNOWN]) -> bool
+fn is_of_analysis(
+    image: &[u8],
+    name: &[u8],
+    diagnostic: u32,
+    known: &mut [Option<Analysis>; KNOWN],
+) -> bool
     requires { Known image.now name.now known.old }
     ensures { (result ≡ is_of_analysis image.now name.now (Member.Diagnostic diagnostic)) × Known image.now name.now known.new }
 {
     let string = image::field(image, Section::Diagnostics, diagnostic, image::ANALYSIS);
     let at = string as usize % KNOWN;
-    let other = 2 * u64::from(string) + 2;
-    if known[at] == other {
-        return false;
+    if let Some(analysis) = known[at] {
+        if analysis.string == string {
+            return analysis.named;
+        }
     }
-    if known[at] == other + 1 {
-        return true;
-    }
-    if text::same(image::string(image, string), name) {
-        known[at] = other + 1;
-        return true;
-    }
-    known[at] = other;
-    false
+    let named = text::same(image::string(image, string), name);
+    known[at] = Some(Analysis { string, named });
+    named
 }

@@ -1,6 +1,6 @@
 // What becomes of a member on its way through the calls, as far as the notes tell: nothing is asked.
 ghost use Rattle.std.specs.Prelude.{◌≤◌};
-ghost use Rattle.eval.specs.Memo.{NO_PLACE, place_in, Tells};
+ghost use Rattle.eval.specs.Memo.{NO_PLACE, Tells};
 ghost use Rattle.eval.specs.Step.{Steps};
 
 use crate::memo;
@@ -17,9 +17,10 @@ pub(crate) enum Step {
 
 impl<'a> Walk<'a> {
     // What becomes of a member whose notes begin at a place, by the calls from one on; nothing where the notes do not tell.
-    pub(crate) fn step_of(&self, from: usize, place: Option<usize>) -> Option<Step>
-        requires { place_in place ≤ NO_PLACE }
-        ensures { Steps self.now.pipeline.calls.now from (place_in place) self.now.notes.now result }
+    #[inline(always)]
+    pub(crate) fn step_of(&self, from: usize, place: usize) -> Option<Step>
+        requires { place ≤ NO_PLACE }
+        ensures { Steps self.now.pipeline.calls.now from place self.now.notes.now result }
     {
         let calls = self.pipeline.calls;
         for i in from..calls.len() {
@@ -40,12 +41,13 @@ impl<'a> Walk<'a> {
         Some(Step::Listed)
     }
 
-    // Whether the predicate of call i is true of the members whose notes begin at a place, if there is one and that is noted.
-    fn told(&self, i: usize, place: Option<usize>) -> Option<bool>
-        requires { place_in place ≤ NO_PLACE }
-        ensures { Tells self.now.notes.now i (place_in place) result }
+    // Whether the predicate of call i is true of the members whose notes begin at a place, if that is noted.
+    #[inline(always)]
+    fn told(&self, i: usize, place: usize) -> Option<bool>
+        requires { place ≤ NO_PLACE }
+        ensures { Tells self.now.notes.now i place result }
     {
-        match self.noted(i, place?) {
+        match self.noted(i, place) {
             memo::KNOWN_TRUE => Some(true),
             memo::KNOWN_FALSE => Some(false),
             _ => None,

@@ -145,6 +145,7 @@ impl<'a> Walk<'a> {
     }
 
     // Sends the features of a component through the calls from the i-th on.
+    #[inline(always)]
     #[cycle(feed)]
     pub(crate) fn feed_features(&mut self, i: usize, component: u32)
         requires { Sending self.old i (features_of self.old.pipeline.image.now component) }
@@ -163,6 +164,7 @@ impl<'a> Walk<'a> {
     }
 
     // Sends one feature, whose owner's profile is at hand.
+    #[inline(always)]
     #[cycle(feed)]
     fn feed_feature(&mut self, i: usize, component: u32, feature: u32, owner: Option<usize>)
         requires { Sending self.old i (Member.Feature component feature ∷ []) × (owner ≡ profile_of self.old.pipeline.image.now (held_in self.old.notes.now) (Member.Component component)) }
@@ -174,12 +176,15 @@ impl<'a> Walk<'a> {
     }
 
     // Sends one member whose profile is at hand: as the notes tell, or by asking.
+    #[inline(always)]
     #[cycle(feed)]
     pub(crate) fn send(&mut self, i: usize, member: Member, profile: Option<usize>)
         requires { Sending self.old i (member ∷ []) × (profile ≡ profile_of self.old.pipeline.image.now (held_in self.old.notes.now) member) }
         ensures { Sent self.old i (member ∷ []) self.new }
     {
-        let place = self.place_of(member, profile);
+        let Some(place) = self.place_of(member, profile) else {
+            return self.feed(i, member);
+        };
         match self.step_of(i, place) {
             Some(step) => self.take(step, member),
             None => self.feed(i, member),
@@ -199,6 +204,7 @@ impl<'a> Walk<'a> {
     }
 
     // What was told happens to a member.
+    #[inline(always)]
     fn take(&mut self, step: Step, member: Member)
         requires { Takes self.old step }
         ensures { Moved self.old (after step member (state_in self.old)) self.new }
@@ -211,6 +217,7 @@ impl<'a> Walk<'a> {
     }
 
     // A member that passes all calls has a row, and is counted.
+    #[inline(always)]
     fn list(&mut self, member: Member)
         requires { Takes self.old Step.Listed }
         ensures { Moved self.old (after Step.Listed member (state_in self.old)) self.new }
@@ -230,6 +237,7 @@ fn clear(collection: &mut [u32])
 }
 
 // Writes a member's row.
+#[inline(always)]
 pub(crate) fn put_member(collection: &mut [u32], row: usize, member: Member)
     requires { meant.COLLECTION_ROW * (row + 1) ≤ length collection.old }
     ensures { collection.new ≡ sets collection.old (meant.COLLECTION_ROW * row) (row_of member) }

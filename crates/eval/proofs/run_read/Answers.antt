@@ -1,12 +1,9 @@
 -- `run_read` refuses parse errors, and goes on with the rows of the tree. Assumes nothing.
-use Rattle.eval.proofs.RunLaws.{read_errors, read_part, read_short, read_few, read_given}
+use Rattle.eval.proofs.RunLaws.{read_errors, read_short, read_few, read_given}
 use Rattle.eval.proofs.run_read.Goals as goal
 
 pub returns-then-rows-ne0 : goal.returns-then-rows-ne0
 returns-then-rows-ne0 c = read_errors c.requires.0 c.args.image.now c.if-rows-ne0.true
-
-pub slice_bounds-eval_node-end : goal.slice_bounds-eval_node-end
-slice_bounds-eval_node-end c = read_part c.requires.0 c.args.image.now
 
 pub eval_node-requires : goal.eval_node-requires
 eval_node-requires c = (read_short c.requires.0 c.args.image.now, c.requires.1, read_few c.requires.0 c.args.image.now c.if-rows-ne0.false)

@@ -6,9 +6,6 @@ use Rattle.eval.proofs.listed.count_owned.Goals as goal
 pub loop-component-init : goal.loop-component-init
 loop-component-init c = counting_start _ c.record_count-count.ensures
 
-pub overflow_add-features : goal.overflow_add-features
-overflow_add-features c = omega (arith, c.loop-component.invariant.most, c.loop-component-test.true)
-
 pub loop-component-preserved : goal.loop-component-preserved
 loop-component-preserved c = counting_on c.loop-component.invariant c.loop-component-test.true c.count_features.ensures (omega arith)
 

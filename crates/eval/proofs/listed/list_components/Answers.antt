@@ -16,9 +16,6 @@ put_member-requires c = listing_room c.loop-component.invariant (Component _ ∷
 pub loop-component-preserved : goal.loop-component-preserved
 loop-component-preserved c = listing_on c.loop-component.invariant (Component _ ∷ []) (made_next Component _ _ c.loop-component-test.true) (lists_one (Component _) _ _ c.put_member.ensures)
 
-pub shape_of-collection : goal.shape_of-collection
-shape_of-collection c = c.loop-component.invariant.long
-
 pub returns : goal.returns
 returns c =
     let all : c.loop-component.component ≡ c.record_count-count.result = omega arith in

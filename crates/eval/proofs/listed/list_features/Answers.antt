@@ -11,14 +11,8 @@ loop-feature-init c = listing_start _ _ _ (features_are _ _ c.features_end-end.e
 pub put_member-requires : goal.put_member-requires
 put_member-requires c = listing_room c.loop-feature.invariant (Feature _ _ ∷ []) _ (made_next (Feature _) _ _ c.loop-feature-test.true) c.requires
 
-pub overflow_add-row : goal.overflow_add-row
-overflow_add-row c = omega (arith, listing_room c.loop-feature.invariant (Feature _ _ ∷ []) _ (made_next (Feature _) _ _ c.loop-feature-test.true) c.requires)
-
 pub loop-feature-preserved : goal.loop-feature-preserved
 loop-feature-preserved c = listing_on c.loop-feature.invariant (Feature _ _ ∷ []) (made_next (Feature _) _ _ c.loop-feature-test.true) (lists_one (Feature _ _) _ _ c.put_member.ensures)
-
-pub shape_of-collection : goal.shape_of-collection
-shape_of-collection c = c.loop-feature.invariant.long
 
 pub returns : goal.returns
 returns c = listing_end c.loop-feature.invariant (made_none (Feature _) _ _ (omega arith))

@@ -13,8 +13,5 @@ list_features-row-requires c = listing_room c.loop-component.invariant (features
 pub loop-component-preserved : goal.loop-component-preserved
 loop-component-preserved c = listing_on c.loop-component.invariant (features_of _ _) (owned_next _ _ _ c.loop-component-test.true) c.list_features-row.ensures
 
-pub shape_of-collection : goal.shape_of-collection
-shape_of-collection c = c.loop-component.invariant.long
-
 pub returns : goal.returns
 returns c = listing_end c.loop-component.invariant (owned_none _ _ _ (omega arith))

@@ -1,7 +1,6 @@
 -- `asks_below` looks at the rows below, by the laws of `Telling`. Assumes nothing.
 use mathlib.Core.Path.{sym, ap, ◌∙◌}
 use mathlib.Core.Bool.{not}
-use Prim.Native.Nat.{◌+◌}
 use native.Mathlib.Omega.{arith}
 use Rattle.predicate.proofs.RowLaws.{row_there, below_row}
 use Rattle.eval.proofs.MarkedLaws.{tells_more, telling_on, telling_end}
@@ -9,9 +8,6 @@ use Rattle.eval.proofs.marked.asks_below.Goals as goal
 
 pub returns-then-tree-lt-ROW : goal.returns-then-tree-lt-ROW
 returns-then-tree-lt-ROW c = tells_more
-
-pub overflow_cast-level : goal.overflow_cast-level
-overflow_cast-level c = omega (arith, c.type_inv.tree (c.args.at + 1))
 
 pub loop-member-init : goal.loop-member-init
 loop-member-init c = record { rest = λ t. t }
@@ -25,14 +21,14 @@ is_told-requires c = (row_there _ _ (below_row _ _ _ (sym c.is_below.ensures ∙
 pub returns-then-not-is_told : goal.returns-then-not-is_told
 returns-then-not-is_told c = tells_more
 
-pub overflow_add-row-in-loop-member : goal.overflow_add-row-in-loop-member
-overflow_add-row-in-loop-member c = omega (arith, row_there _ _ (below_row _ _ _ (sym c.is_below.ensures ∙ c.loop-member-test.true)).0)
-
-pub loop-member-smaller : goal.loop-member-smaller
-loop-member-smaller c = omega (arith, row_there _ _ (below_row _ _ _ (sym c.is_below.ensures ∙ c.loop-member-test.true)).0)
-
 pub loop-member-preserved : goal.loop-member-preserved
 loop-member-preserved c = telling_on c.loop-member.invariant (sym c.is_below.ensures ∙ c.loop-member-test.true) c.is_told.ensures (ap not c.if-not-is_told.false)
 
 pub returns : goal.returns
 returns c = telling_end c.loop-member.invariant (sym c.is_below.ensures ∙ c.loop-member-test.false)
+
+pub overflow_add-row-in-loop-member : goal.overflow_add-row-in-loop-member
+overflow_add-row-in-loop-member c = omega (arith, row_there _ _ (below_row _ _ _ (sym c.is_below.ensures ∙ c.loop-member-test.true)).0)
+
+pub loop-member-smaller : goal.loop-member-smaller
+loop-member-smaller c = omega (arith, row_there _ _ (below_row _ _ _ (sym c.is_below.ensures ∙ c.loop-member-test.true)).0)

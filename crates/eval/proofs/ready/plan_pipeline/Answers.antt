@@ -8,9 +8,6 @@ use Rattle.eval.proofs.ready.plan_pipeline.Goals as goal
 pub returns-in_default : goal.returns-in_default
 returns-in_default c = no_source c.args.rule.now c.args.tree.now c.args.at c.first_child.ensures c.in_default.is
 
-pub slice_bounds-kind_after-end-2 : goal.slice_bounds-kind_after-end-2
-slice_bounds-kind_after-end-2 c = calls_taken c.put_calls-count.ensures
-
 pub source_kind-requires : goal.source_kind-requires
 source_kind-requires c = (source_at c.args.rule.now c.args.tree.now c.args.at c.first_child.ensures c.in-Some.is).whole
 

@@ -2,6 +2,7 @@
 use Rattle.std.proofs.Common.{rules}
 use Rattle.eval.proofs.FeedLaws.{turn, over}
 use Rattle.eval.proofs.ListedLaws.{features_are}
+use Rattle.eval.proofs.MemoLaws.{placed_some}
 use Rattle.eval.proofs.SentLaws.{same_calls, here, going_profile, end_takes, end_listed, kept_sending, kept_sent, dropped_sent, owned_sending, owned_sent, owned_none, passed_sending, passed_sent, arriving, step_takes, step_sent, going_start, going_first, going_on, going_stop, going_end}
 use Rattle.predicate.specs.declared.atom.Member.TheVariants.{Feature}
 use Rattle.profile.proofs.ProfileLaws.{feature_owned}
@@ -60,7 +61,7 @@ pub feed_features-returns : goal.feed_features-returns
 feed_features-returns t c = going_end c.loop-feature.invariant (over _ _ (Feature c.args.component) _ _ (omega arith))
 
 pub send-take-requires : goal.send-take-requires
-send-take-requires t c = step_takes c.requires.0 c.place_of-place.ensures c.step_of.ensures c.in-Some.is
+send-take-requires t c = step_takes c.requires.0 (placed_some c.place_of.ensures c.in-Some.is) c.step_of.ensures c.in-Some-step_of.is
 
-pub send-returns-in-Some : goal.send-returns-in-Some
-send-returns-in-Some t c = step_sent c.requires.0 c.place_of-place.ensures c.step_of.ensures c.in-Some.is c.take.ensures
+pub send-returns-in-Some-step_of : goal.send-returns-in-Some-step_of
+send-returns-in-Some-step_of t c = step_sent c.requires.0 (placed_some c.place_of.ensures c.in-Some.is) c.step_of.ensures c.in-Some-step_of.is c.take.ensures

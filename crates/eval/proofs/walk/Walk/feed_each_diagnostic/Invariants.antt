@@ -4,7 +4,7 @@ use Rattle.predicate.specs.declared.atom.Member.TheVariants.{Diagnostic}
 use Rattle.meaning.specs.Calls.{kept}
 use Rattle.meaning.specs.Pipeline.{is_of_analysis}
 use Rattle.meaning.proofs.WalkLaws.{up_to}
-use Rattle.eval.specs.Feed.{Known}
+use Rattle.eval.specs.Analysis.{Known}
 use Rattle.eval.specs.Walk.{every_of_analysis}
 use Rattle.eval.proofs.SentLaws.{Going}
 use Rattle.eval.proofs.walk.Walk.feed_each_diagnostic.Given as goal
