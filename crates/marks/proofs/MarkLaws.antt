@@ -8,13 +8,12 @@ use native.Mathlib.Nat.{sub-zero}
 use native.Mathlib.Numerals.{add-one}
 use native.Mathlib.Omega.{arith}
 use borrow.Author.Tests.{eq-eqb, ne_eqb, lt-ltb, le-ltb, eqb-true, eqb-false, ltb-true, ltb-false, not-true, not-false}
-use borrow.Author.Count.{below_more}
 use lib.Dec.{eqb, ltb}
 use lib.ListN.{length, get_or, take, drop, set, replicate, length-set, length-drop, length-replicate, get_or-replicate}
 use lib.Seq.{take_all, set_out, get_or-set_same, get_or-set_other, ext_get_or}
-use Rattle.syntax.specs.Text.{ascii, same}
+use Rattle.syntax.specs.Text.{ascii}
 use Rattle.syntax.proofs.BoolLaws.{whether}
-use Rattle.board.specs.Image.{text, component_count, property_count, property_component, property_set, property_name}
+use Rattle.board.specs.Image.{component_count, property_count, property_component}
 use Rattle.std.specs.Prelude.{Option, Some, None}
 use Rattle.matching.specs.Search.{find, set_before, name_after, property_set_of, property_name_of}
 use Rattle.instance.specs.Instance.{some, is_property, has_property, has_feature}

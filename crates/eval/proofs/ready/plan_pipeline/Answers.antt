@@ -1,5 +1,5 @@
 -- `plan_pipeline` finds the source, makes the calls ready and asks the table for the kind. Assumes nothing.
-use Rattle.eval.proofs.PlanLaws.{calls_taken, no_source, source_at, planned_refused, planned_ready}
+use Rattle.eval.proofs.PlanLaws.{no_source, source_at, planned_refused, planned_ready}
 use Rattle.std.proofs.Common.{rules, Err}
 use mathlib.Core.Path.{◌≡◌, sym, subst}
 use Rattle.eval.specs.Ready.{Plans}
