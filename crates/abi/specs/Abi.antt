@@ -1,23 +1,19 @@
 -- What the static library's functions give, in numbers. Assumes nothing: these are definitions.
-use Rattle.std.specs.Prelude.{ℕ, ◌≡◌, List}
-use Rattle.syntax.specs.Refusal.{refusal_number}
-use Rattle.lexer.specs.Read.{tokens_read, token_table}
-use Rattle.syntax.specs.declared.refusal.Check.{Check}
-use Rattle.lexer.specs.declared.Lexed.{Lexed}
-use Rattle.trees.specs.Read.{rows_read, tree_table, error_table}
-use Rattle.trees.specs.declared.Reading.{Reading}
+use Rattle.std.specs.Prelude.{ℕ, ◌≡◌, List, Option, Some, None, Ok, Err}
+use Rattle.syntax.specs.Refusal.{refusal_number, Check}
+use Rattle.lexer.specs.Read.{Lexed, tokens_read, token_table}
+use Rattle.trees.specs.Read.{Reading, rows_read, tree_table, error_table}
 use Rattle.message.specs.Write.{written, out_after}
-use Rattle.message.specs.declared.Message.{Message}
 
 -- 0 for tokens that were read, else the refusal's number
 abbrev pub answer_number : Lexed → ℕ
-answer_number (Lexed.Tokens n) = 0
-answer_number (Lexed.Refused r) = refusal_number r
+answer_number (Ok n) = 0
+answer_number (Err r) = refusal_number r
 
 -- the number of tokens, in a place that held c; a refusal leaves it
 abbrev pub count_after : Lexed → ℕ → ℕ
-count_after (Lexed.Tokens n) c = n
-count_after (Lexed.Refused r) c = c
+count_after (Ok n) c = n
+count_after (Err r) c = c
 
 -- the answer r, the place of the count and the token table after reading a rule
 pub record Answers (check : Check) (rule before after : List ℕ) (c₀ c₁ r : ℕ) : Type 0 where
@@ -27,21 +23,21 @@ pub record Answers (check : Check) (rule before after : List ℕ) (c₀ c₁ r :
 
 -- 0 for a rule that was read, else the refusal's number
 abbrev pub reading_number : Reading → ℕ
-reading_number (Reading.Rows a b c) = 0
-reading_number (Reading.Refused r) = refusal_number r
+reading_number (Ok rows) = 0
+reading_number (Err r) = refusal_number r
 
 -- the numbers of token, tree and error rows, in places that held x; a refusal leaves them
 abbrev pub token_count : Reading → ℕ → ℕ
-token_count (Reading.Rows a b c) x = a
-token_count (Reading.Refused r) x = x
+token_count (Ok rows) x = rows.tokens
+token_count (Err r) x = x
 
 abbrev pub tree_count : Reading → ℕ → ℕ
-tree_count (Reading.Rows a b c) x = b
-tree_count (Reading.Refused r) x = x
+tree_count (Ok rows) x = rows.tree
+tree_count (Err r) x = x
 
 abbrev pub error_count : Reading → ℕ → ℕ
-error_count (Reading.Rows a b c) x = c
-error_count (Reading.Refused r) x = x
+error_count (Ok rows) x = rows.errors
+error_count (Err r) x = x
 
 -- the answer r and the three places of the row numbers after reading a rule
 pub record RowsAnswer (check : Check) (rule : List ℕ) (x₀ x₁ y₀ y₁ z₀ z₁ r : ℕ) : Type 0 where
@@ -57,14 +53,14 @@ pub record Tables (check : Check) (rule tokens₀ tokens₁ tree₀ tree₁ erro
   pub errors : errors₁ ≡ error_table check rule errors₀
 
 -- 0 for a message that was written, 1 where there was no room
-abbrev pub message_number : Message → ℕ
-message_number (Message.Written n) = 0
-message_number Message.NoRoom = 1
+abbrev pub message_number : Option ℕ → ℕ
+message_number (Some n) = 0
+message_number None = 1
 
 -- the number of its bytes, in a place that held x
-abbrev pub written_after : Message → ℕ → ℕ
-written_after (Message.Written n) x = n
-written_after Message.NoRoom x = x
+abbrev pub written_after : Option ℕ → ℕ → ℕ
+written_after (Some n) x = n
+written_after None x = x
 
 -- the answer r, the place of the number and the bytes after writing a message
 pub record MessageAnswer (message before after : List ℕ) (x₀ x₁ r : ℕ) : Type 0 where
@@ -74,5 +70,5 @@ pub record MessageAnswer (message before after : List ℕ) (x₀ x₁ r : ℕ) :
 
 -- 0 for what passes, else the refusal's number
 abbrev pub check_number : Check → ℕ
-check_number Check.Passed = 0
-check_number (Check.Refused r) = refusal_number r
+check_number (Ok tt) = 0
+check_number (Err r) = refusal_number r

@@ -1,17 +1,15 @@
 -- The eight numbers by which `spar_run` and `spar_read` answer, and all that they leave. Assumes nothing: these are definitions.
-use Rattle.std.specs.Prelude.{ℕ, ◌≤◌, ◌≡◌, Bool, cond, List, [], ◌∷◌, ◌++◌, ltb, length}
-use Rattle.std.proofs.lemmas.List.Edits.{sets}
+use Rattle.std.specs.Prelude.{ℕ, ◌≤◌, ◌≡◌, Bool, cond, List, [], ◌∷◌, ◌++◌, ltb, length, Ok, Err}
 use Rattle.syntax.specs.Table.{with_rows}
-use Rattle.syntax.specs.declared.refusal.Check.{Check}
+use Rattle.syntax.specs.Refusal.{Check}
 use Rattle.lexer.specs.Read.{check_rule, token_table}
-use Rattle.trees.specs.Read.{rows_read, tree_table, error_table}
-use Rattle.trees.specs.declared.Reading.{Reading}
+use Rattle.trees.specs.Read.{Reading, rows_read, tree_table, error_table}
+use Rattle.trees.specs.declared.Rows.{Rows}
 use Rattle.meaning.specs.Value.{collection_table}
 use Rattle.meaning.specs.Outcome as meant
 use Rattle.calls.specs.declared.value.Value.{Value}
-use Rattle.calls.specs.declared.value.Outcome.{Outcome}
 use Rattle.calls.specs.declared.value.Verdict.{Verdict}
-use Rattle.calls.specs.Answer.{answer_of, verdict_for}
+use Rattle.calls.specs.Answer.{Outcome, answer_of, verdict_for}
 use Rattle.calls.specs.Numbers.{value_number, value_amount, value_warned, outcome_number, outcome_amount, outcome_warned, verdict_number}
 use Rattle.eval.specs.Run.{lent}
 
@@ -31,8 +29,8 @@ outcome_numbers outcome verdict = outcome_number outcome ∷ outcome_amount outc
 
 -- the second part: 1 and the numbers of token, tree and error rows; 0 where none are given
 abbrev pub row_numbers : Reading → List ℕ
-row_numbers (Reading.Rows a b c) = 1 ∷ a ∷ b ∷ c ∷ []
-row_numbers (Reading.Refused r) = 0 ∷ 0 ∷ 0 ∷ 0 ∷ []
+row_numbers (Ok rows) = 1 ∷ rows.tokens ∷ rows.tree ∷ rows.errors ∷ []
+row_numbers (Err r) = 0 ∷ 0 ∷ 0 ∷ 0 ∷ []
 
 -- the eight numbers of a run
 abbrev pub run_numbers : (rule image : List ℕ) → meant.Lent → List ℕ
@@ -45,8 +43,8 @@ abbrev pub READ : ℕ
 READ = 6
 
 abbrev pub reading_numbers : Reading → List ℕ
-reading_numbers (Reading.Rows a b c) = READ ∷ 0 ∷ 0 ∷ verdict_number Verdict.Open ∷ []
-reading_numbers (Reading.Refused r) = outcome_numbers (Outcome.Refused r) Verdict.Refused
+reading_numbers (Ok rows) = READ ∷ 0 ∷ 0 ∷ verdict_number Verdict.Open ∷ []
+reading_numbers (Err r) = outcome_numbers (Err r) Verdict.Refused
 
 -- the eight numbers of a reading, after a check
 abbrev pub read_numbers : Check → List ℕ → List ℕ
@@ -77,10 +75,6 @@ pub record ReadAnswer (rule tokens₀ tokens₁ tree₀ tree₁ errors₀ errors
   pub tree : tree₁ ≡ unless_short answer₀ tree₀ (tree_table (check_rule rule (length tokens₀) (length tree₀) (length errors₀)) rule tree₀)
   pub errors : errors₁ ≡ unless_short answer₀ errors₀ (error_table (check_rule rule (length tokens₀) (length tree₀) (length errors₀)) rule errors₀)
 
--- numbers are written into an answer from a place on; no public contract needs this and the next
-pub record Puts (before : List ℕ) (at : ℕ) (numbers after : List ℕ) : Type 0 where
-  pub puts : after ≡ sets before at numbers
-
--- numbers of rows, where they are given, are small
+-- numbers of rows, where they are given, are small; no public contract needs this
 pub record RowsFew (reading : Reading) : Type 0 where
-  pub few : (a b c : ℕ) → reading ≡ Reading.Rows a b c → (a ≤ 500) × (b ≤ 3505) × (c ≤ 3004)
+  pub few : (rows : Rows) → reading ≡ Ok rows → (rows.tokens ≤ 500) × (rows.tree ≤ 3505) × (rows.errors ≤ 3004)

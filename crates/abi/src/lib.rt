@@ -10,11 +10,7 @@ ghost use Rattle.message.specs.Message.{message_of};
 ghost use Rattle.abi.specs.Abi.{Answers, RowsAnswer, Tables, MessageAnswer, check_number};
 ghost use Rattle.abi.specs.Numbers.{ReadAnswer, RunAnswer};
 
-use lexer::Lexed;
-use message::Message;
-use syntax::refusal;
-use syntax::refusal::Check;
-use trees::Reading;
+use message::ErrorRow;
 
 // Reads a rule into any three tables. It gives 1, and the eight numbers of the reading at the front of `answer`; or 0, with all tables as
 // they were, where `answer` has fewer than eight numbers.
@@ -31,8 +27,8 @@ pub fn spar_read(
         return 0;
     }
     let reading = parser::parse_expr(rule, tokens, tree, errors);
-    answer::put_reading(answer, reading);
-    answer::put_rows(answer, reading);
+    let first = answer::reading_numbers(reading);
+    answer::write(answer, first, answer::row_numbers(reading));
     1
 }
 
@@ -53,11 +49,8 @@ pub fn spar_run(
         return 0;
     }
     let given = eval::run(rule, image, tokens, tree, errors, collection);
-    let outcome = given.outcome;
-    let verdict = given.verdict;
-    let reading = given.reading;
-    answer::put_outcome(answer, outcome, verdict);
-    answer::put_rows(answer, reading);
+    let first = answer::outcome_numbers(given.outcome, given.verdict);
+    answer::write(answer, first, answer::row_numbers(given.reading));
     1
 }
 
@@ -73,11 +66,11 @@ pub fn assertion_read_tokens(
     ensures { Answers (check_rule rule.now (length tokens.old) tree errors) rule.now tokens.old tokens.new count.old count.new result }
 {
     match lexer::read_tokens(rule, tokens, tree, errors) {
-        Lexed::Tokens(n) => {
+        Ok(n) => {
             *count = n as u32;
             0
         }
-        Lexed::Refused(r) => refusal::number(r),
+        Err(r) => u32::from(r),
     }
 }
 
@@ -96,17 +89,13 @@ pub fn assertion_parse_expr(
     ensures tables { Tables (check_rule rule.now (length tokens.old) (length tree.old) (length errors.old)) rule.now tokens.old tokens.new tree.old tree.new errors.old errors.new }
 {
     match parser::parse_expr(rule, tokens, tree, errors) {
-        Reading::Rows {
-            tokens: a,
-            tree: b,
-            errors: c,
-        } => {
-            *token_rows = a as u32;
-            *tree_rows = b as u32;
-            *error_rows = c as u32;
+        Ok(rows) => {
+            *token_rows = rows.tokens as u32;
+            *tree_rows = rows.tree as u32;
+            *error_rows = rows.errors as u32;
             0
         }
-        Reading::Refused(r) => refusal::number(r),
+        Err(r) => u32::from(r),
     }
 }
 
@@ -123,12 +112,18 @@ pub fn assertion_message(
 ) -> u32
     ensures { MessageAnswer (message_of rule.now form expected first end) out.old out.new written.old written.new result }
 {
-    match message::write_message(rule, form, expected, first, end, out) {
-        Message::Written(n) => {
+    let row = ErrorRow {
+        form,
+        expected,
+        first,
+        end,
+    };
+    match message::write_message(rule, row, out) {
+        Some(n) => {
             *written = n;
             0
         }
-        Message::NoRoom => 1,
+        None => 1,
     }
 }
 
@@ -137,7 +132,7 @@ pub fn assertion_check_image(image: &[u8], collection: usize) -> u32
     ensures { result ≡ check_number (check_image image.now collection) }
 {
     match board::check_image(image, collection) {
-        Check::Passed => 0,
-        Check::Refused(r) => refusal::number(r),
+        Ok(()) => 0,
+        Err(r) => u32::from(r),
     }
 }

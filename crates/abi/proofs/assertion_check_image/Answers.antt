@@ -2,8 +2,8 @@
 use mathlib.Core.Path.{sym, ◌∙◌}
 use Rattle.abi.proofs.assertion_check_image.Goals as goal
 
-pub returns-in-Passed : goal.returns-in-Passed
-returns-in-Passed c = rw (sym c.check_image.ensures ∙ c.in-Passed.is)
+pub returns-in-Ok : goal.returns-in-Ok
+returns-in-Ok c = rw (sym c.check_image.ensures ∙ c.in-Ok.is)
 
-pub returns-in-Refused : goal.returns-in-Refused
-returns-in-Refused c = rw (sym c.check_image.ensures ∙ c.in-Refused.is) c.number.ensures
+pub returns-in-Err : goal.returns-in-Err
+returns-in-Err c = rw (sym c.check_image.ensures ∙ c.in-Err.is) c.from.ensures

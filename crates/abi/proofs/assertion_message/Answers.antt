@@ -2,12 +2,12 @@
 use mathlib.Core.Path.{sym, ◌∙◌}
 use Rattle.abi.proofs.assertion_message.Goals as goal
 
-pub returns-in-Written : goal.returns-in-Written
-returns-in-Written c =
-    let e = sym c.in-Written.is ∙ c.write_message.ensures.answer in
+pub returns-in-Some : goal.returns-in-Some
+returns-in-Some c =
+    let e = sym c.in-Some.is ∙ c.write_message.ensures.answer in
     record { answer = rw (← e); count = rw (← e); out = c.write_message.ensures.out }
 
-pub returns-in-NoRoom : goal.returns-in-NoRoom
-returns-in-NoRoom c =
-    let e = sym c.in-NoRoom.is ∙ c.write_message.ensures.answer in
+pub returns-in-None : goal.returns-in-None
+returns-in-None c =
+    let e = sym c.in-None.is ∙ c.write_message.ensures.answer in
     record { answer = rw (← e); count = rw (← e); out = c.write_message.ensures.out }

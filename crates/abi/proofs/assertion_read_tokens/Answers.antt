@@ -6,14 +6,14 @@ use native.Mathlib.Omega.{arith}
 use Rattle.abi.proofs.assertion_read_tokens.Goals as goal
 
 pub overflow_cast-count : goal.overflow_cast-count
-overflow_cast-count c = omega (arith, tokens_few c.args.rule.now (length c.args.tokens.now) c.args.tree c.args.errors c.in-Tokens.n (sym c.in-Tokens.is ∙ c.read_tokens.ensures.answer))
+overflow_cast-count c = omega (arith, tokens_few c.args.rule.now (length c.args.tokens.now) c.args.tree c.args.errors c.in-Ok.n (sym c.in-Ok.is ∙ c.read_tokens.ensures.answer))
 
-pub returns-in-Tokens : goal.returns-in-Tokens
-returns-in-Tokens c =
-    let e = sym c.in-Tokens.is ∙ c.read_tokens.ensures.answer in
+pub returns-in-Ok : goal.returns-in-Ok
+returns-in-Ok c =
+    let e = sym c.in-Ok.is ∙ c.read_tokens.ensures.answer in
     record { answer = rw (← e); count = rw (← e); table = c.read_tokens.ensures.table }
 
-pub returns-in-Refused : goal.returns-in-Refused
-returns-in-Refused c =
-    let e = sym c.in-Refused.is ∙ c.read_tokens.ensures.answer in
-    record { answer = rw (← e) c.number.ensures; count = rw (← e); table = c.read_tokens.ensures.table }
+pub returns-in-Err : goal.returns-in-Err
+returns-in-Err c =
+    let e = sym c.in-Err.is ∙ c.read_tokens.ensures.answer in
+    record { answer = rw (← e) c.from.ensures; count = rw (← e); table = c.read_tokens.ensures.table }

@@ -6,8 +6,8 @@ use Rattle.abi.proofs.spar_read.Goals as goal
 pub returns-then-answer-lt-ANSWER : goal.returns-then-answer-lt-ANSWER
 returns-then-answer-lt-ANSWER c = read_short (omega arith)
 
-pub put_rows-requires : goal.put_rows-requires
-put_rows-requires c = (omega arith, read_rows c.parse_expr-reading.ensures)
+pub row_numbers-requires : goal.row_numbers-requires
+row_numbers-requires c = read_rows c.parse_expr-reading.ensures
 
 pub returns : goal.returns
-returns c = read_answer c.parse_expr-reading.ensures (omega arith) c.put_reading.ensures c.put_rows.ensures
+returns c = read_answer c.parse_expr-reading.ensures (omega arith) c.reading_numbers-first.ensures c.row_numbers.ensures c.write.ensures
