@@ -14,7 +14,7 @@ ghost use Rattle.trees.specs.Parse.{Parser, in_node, next, next_is, fails, fails
 ghost use Rattle.trees.specs.Read.{check_tables, Reads};
 ghost use Rattle.trees.specs.Writing.{NoneFrom, NoOpsFrom};
 ghost use Rattle.trees.specs.Writing as tables;
-ghost use Rattle.parser.specs.Parser.{left, Ready, Asks, Did, Started, Inside, Finished, Reported};
+ghost use Rattle.parser.specs.Parser.{left, Ready, Asks, Did, Started, Inside, Finished, Reported, expected_number};
 
 use reader::Reader;
 use syntax::form::Form;
@@ -132,6 +132,13 @@ fn is_comparison(kind: Kind) -> bool
     )
 }
 
+// The number of the kind expected, as an error row has it: 0 where the form of error expects no kind.
+fn expected_number(expected: Option<Kind>) -> u32
+    ensures { result ≡ expected_number expected }
+{
+    expected.map_or(0, u32::from)
+}
+
 // Token helpers.
 impl<'a> ExprParser<'a> {
     // A reader of the tokens that are left.
@@ -244,7 +251,7 @@ impl ExprParser<'_> {
         if self.next_is(kind) {
             self.put_token();
         } else {
-            self.fail(Form::Expect, u32::from(kind));
+            self.fail(Form::Expect, Some(kind));
         }
     }
 
@@ -257,7 +264,7 @@ impl ExprParser<'_> {
         if self.at_ident(text) {
             self.put_token();
         } else {
-            self.fail(Form::ExpectIdent, 0);
+            self.fail(Form::ExpectIdent, None);
         }
     }
 
@@ -309,9 +316,9 @@ impl ExprParser<'_> {
     }
 
     // An error at the next token, or at the end of text.
-    fn fail(&mut self, form: Form, expected: u32)
-        requires { Asks self.old (fails (forms.number form) expected) }
-        ensures { Did self.old self.new (fails (forms.number form) expected) }
+    fn fail(&mut self, form: Form, expected: Option<Kind>)
+        requires { Asks self.old (fails (forms.number form) (expected_number expected)) }
+        ensures { Did self.old self.new (fails (forms.number form) (expected_number expected)) }
     {
         self.put_error(form, expected, self.at.token);
     }
@@ -322,16 +329,17 @@ impl ExprParser<'_> {
         ensures { Did self.old self.new (fails_ahead (forms.number form)) }
     {
         let found = self.reader().skip_ws().place;
-        self.put_error(form, 0, found);
+        self.put_error(form, None, found);
     }
 
     // An error row at the token `found`, or at the end of text.
-    fn put_error(&mut self, form: Form, expected: u32, found: usize)
+    fn put_error(&mut self, form: Form, expected: Option<Kind>, found: usize)
         requires ready { Ready self.old }
         requires room { self.old.at.error + 4 ≤ length self.old.errors.now }
-        ensures { Reported self.old self.new (forms.number form) expected (drop found (lex self.old.rule.now)) }
+        ensures { Reported self.old self.new (forms.number form) (expected_number expected) (drop found (lex self.old.rule.now)) }
     {
         let form = u32::from(form);
+        let expected = expected_number(expected);
         let end = self.rule.len() as u32;
         let row = match Reader::new(self.tokens, found).row() {
             Some(token) => [form, expected, token.first, token.end],
@@ -362,7 +370,7 @@ impl ExprParser<'_> {
         ensures { Did self.old self.new left_over }
     {
         if !self.at_eof() {
-            self.fail(Form::LeftOver, 0);
+            self.fail(Form::LeftOver, None);
             self.take_remaining();
         }
     }
