@@ -1,5 +1,6 @@
 -- What the parser's methods ask of a parser and leave in it. Assumes nothing: these are definitions.
-use Rattle.std.specs.Prelude.{◌≡◌, ℕ, ◌+◌, ◌-◌, ◌<◌, ◌≤◌, ◌^◌, List, [], ◌∷◌, length, drop, Option, Some, None}
+use Rattle.std.specs.Prelude.{◌≡◌, ℕ, ◌+◌, ◌-◌, ◌<◌, ◌≤◌, ◌^◌, List, [], ◌∷◌, length, drop, Option, Some, None, Bool, ◌||◌}
+use Rattle.syntax.specs.Text.{ascii, same}
 use Rattle.syntax.specs.Kinds.{number}
 use Rattle.syntax.specs.declared.kind.Kind.{Kind}
 use Rattle.std.proofs.lemmas.List.Edits.{sets}
@@ -71,3 +72,10 @@ pub record Reported (s n : ExprParser) (form expected : ℕ) (us : List Token) :
 abbrev pub expected_number : Option Kind → ℕ
 expected_number None = 0
 expected_number (Some k) = number k
+
+-- the methods that take a predicate, and those that take nothing
+abbrev pub is_predicate_method : List ℕ → Bool
+is_predicate_method w = same w (ascii "where") || (same w (ascii "all") || (same w (ascii "any") || same w (ascii "none")))
+
+abbrev pub is_plain_method : List ℕ → Bool
+is_plain_method w = same w (ascii "features") || same w (ascii "diagnostics")

@@ -9,17 +9,18 @@ ghost use Rattle.syntax.specs.Forms as forms;
 ghost use Rattle.syntax.specs.Text.{ascii};
 ghost use Rattle.lexer.specs.Lex.{lex, token_rows};
 ghost use Rattle.lexer.specs.Read.{check_rule};
-ghost use Rattle.trees.specs.Look.{skip_ws, tail_of, first_kind, current_text, at_kind, at_text, at_ident, peek_kind, at_message_dot, at_field, at_predicate_method, at_plain_method, is_comparison, has_count_compare_ahead, has_binary_op_at_level};
+ghost use Rattle.trees.specs.Look.{skip_ws, tail_of, first_kind, current_text, at_kind, at_ident, at_message_dot, at_field, is_comparison, has_count_compare_ahead, has_binary_op_at_level};
 ghost use Rattle.trees.specs.Parse.{Parser, in_node, next, next_is, fails, fails_ahead, eat_ws, bump, expect, expect_ident, literal, call_expr, ident_expr, contains_expr, compare_expr, simple_atom, predicate_args, no_args, no_method, parse_method, parse_dot_call, parse, OrExpr, OrRest, AndExpr, AndRest, Atom, Calls, parse_source, parse_pipeline, parse_pipeline_or_count_compare, remaining, left_over, parse_root};
 ghost use Rattle.trees.specs.Read.{check_tables, Reads};
 ghost use Rattle.trees.specs.Writing.{NoneFrom, NoOpsFrom};
 ghost use Rattle.trees.specs.Writing as tables;
-ghost use Rattle.parser.specs.Parser.{left, Ready, Asks, Did, Started, Inside, Finished, Reported, expected_number};
+ghost use Rattle.parser.specs.Parser.{left, Ready, Asks, Did, Started, Inside, Finished, Reported, expected_number, is_predicate_method, is_plain_method};
 
 use reader::Reader;
 use syntax::form::Form;
 use syntax::kind::Kind;
 use syntax::refusal::Refusal;
+use syntax::text;
 use trees::{Cursor, Ops, Reading, Rows};
 
 // Reads a rule that passes refusals 1 to 4 into the three tables; a refusal leaves them as they are.
@@ -132,6 +133,21 @@ fn is_comparison(kind: Kind) -> bool
     )
 }
 
+fn is_predicate_method(method: &[u8]) -> bool
+    ensures { result ≡ is_predicate_method method.now }
+{
+    text::same(method, b"where")
+        || text::same(method, b"all")
+        || text::same(method, b"any")
+        || text::same(method, b"none")
+}
+
+fn is_plain_method(method: &[u8]) -> bool
+    ensures { result ≡ is_plain_method method.now }
+{
+    text::same(method, b"features") || text::same(method, b"diagnostics")
+}
+
 // The number of the kind expected, as an error row has it: 0 where the form of error expects no kind.
 fn expected_number(expected: Option<Kind>) -> u32
     ensures { result ≡ expected_number expected }
@@ -174,18 +190,18 @@ impl<'a> ExprParser<'a> {
         self.current_kind() == Some(u32::from(kind))
     }
 
+    // Whether that token is this word: one look serves its kind and its text.
     fn at_ident(&self, text: &[u8]) -> bool
         requires { Ready self.now }
         ensures { result ≡ at_ident text.now (left self.now) }
     {
-        self.at_kind(Kind::Ident) && self.at_text(text)
-    }
-
-    fn at_text(&self, text: &[u8]) -> bool
-        requires { Ready self.now }
-        ensures { result ≡ at_text text.now (left self.now) }
-    {
-        self.current_text() == text
+        let Some(token) = self.reader().skip_ws().row() else {
+            return false;
+        };
+        if token.kind != Kind::Ident as u32 {
+            return false;
+        }
+        text::same(&self.rule[token.first as usize..token.end as usize], text)
     }
 
     fn at_eof(&self) -> bool
@@ -468,34 +484,18 @@ impl ExprParser<'_> {
         requires { Asks self.old (parse_method (parse OrExpr)) }
         ensures { Did self.old self.new (parse_method (parse OrExpr)) }
     {
-        if self.at_predicate_method() {
+        let method = self.current_text();
+        if is_predicate_method(method) {
             self.bump();
             self.predicate_args();
-        } else if self.at_text(b"count") {
+        } else if text::same(method, b"count") {
             self.bump();
             self.no_args();
-        } else if self.at_plain_method() {
+        } else if is_plain_method(method) {
             self.bump();
         } else {
             self.no_method();
         }
-    }
-
-    fn at_predicate_method(&self) -> bool
-        requires { Ready self.now }
-        ensures { result ≡ at_predicate_method (left self.now) }
-    {
-        self.at_text(b"where")
-            || self.at_text(b"all")
-            || self.at_text(b"any")
-            || self.at_text(b"none")
-    }
-
-    fn at_plain_method(&self) -> bool
-        requires { Ready self.now }
-        ensures { result ≡ at_plain_method (left self.now) }
-    {
-        self.at_text(b"features") || self.at_text(b"diagnostics")
     }
 
     // '(' or_expr ')'
