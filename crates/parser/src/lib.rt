@@ -9,6 +9,7 @@ ghost use Rattle.syntax.specs.Forms as forms;
 ghost use Rattle.syntax.specs.Text.{ascii};
 ghost use Rattle.lexer.specs.Lex.{lex, token_rows};
 ghost use Rattle.lexer.specs.Read.{check_rule};
+ghost use Rattle.reader.specs.Reader.{row_at, kind_at};
 ghost use Rattle.trees.specs.Look.{skip_ws, tail_of, first_kind, current_text, at_kind, at_ident, at_message_dot, at_field, is_comparison, has_count_compare_ahead, has_binary_op_at_level};
 ghost use Rattle.trees.specs.Parse.{Parser, in_node, next, next_is, fails, fails_ahead, eat_ws, bump, expect, expect_ident, literal, call_expr, ident_expr, contains_expr, compare_expr, simple_atom, predicate_args, no_args, no_method, parse_method, parse_dot_call, parse, OrExpr, OrRest, AndExpr, AndRest, Atom, Calls, parse_source, parse_pipeline, parse_pipeline_or_count_compare, remaining, left_over, parse_root};
 ghost use Rattle.trees.specs.Read.{check_tables, Reads};
@@ -16,7 +17,7 @@ ghost use Rattle.trees.specs.Writing.{NoneFrom, NoOpsFrom};
 ghost use Rattle.trees.specs.Writing as tables;
 ghost use Rattle.parser.specs.Parser.{left, Ready, Asks, Did, Started, Inside, Finished, Reported, expected_number, is_predicate_method, is_plain_method};
 
-use reader::Reader;
+use reader::{Reader, Row};
 use syntax::form::Form;
 use syntax::kind::Kind;
 use syntax::refusal::Refusal;
@@ -233,7 +234,31 @@ impl<'a> ExprParser<'a> {
         requires { Ready self.now }
         ensures { result ≡ next_is (number kind) (left self.now) }
     {
-        self.reader().kind() == Some(u32::from(kind))
+        self.next_kind() == Some(u32::from(kind))
+    }
+
+    // The kind of the next token.
+    fn next_kind(&self) -> Option<u32>
+        requires { Ready self.now }
+        ensures { result ≡ kind_at self.now.tokens.now self.now.at.token }
+    {
+        self.next_row().map(|token| token.kind)
+    }
+
+    // The next token, as the reader finds it; its place is known to be within the rows, so no division is needed for it.
+    fn next_row(&self) -> Option<Row>
+        requires { Ready self.now }
+        ensures { result ≡ row_at self.now.tokens.now self.now.at.token }
+    {
+        let at = 3 * self.at.token;
+        if self.tokens.len() <= at {
+            return None;
+        }
+        Some(Row {
+            kind: self.tokens[at],
+            first: self.tokens[at + 1],
+            end: self.tokens[at + 2],
+        })
     }
 }
 
@@ -289,7 +314,7 @@ impl ExprParser<'_> {
         requires { Asks self.old remaining }
         ensures { Did self.old self.new remaining }
     {
-        while self.reader().kind().is_some() {
+        while self.next_kind().is_some() {
             self.put_token();
         }
     }
@@ -299,7 +324,7 @@ impl ExprParser<'_> {
         requires { Asks self.old next }
         ensures { Did self.old self.new next }
     {
-        let Some(token) = self.reader().row() else {
+        let Some(token) = self.next_row() else {
             return;
         };
         let row = [token.kind, self.level, self.at.byte, token.end];
