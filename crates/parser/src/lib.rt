@@ -275,6 +275,7 @@ impl ExprParser<'_> {
     }
 
     // Blanks, and the token after them.
+    #[inline(always)]
     fn bump(&mut self)
         requires { Asks self.old bump }
         ensures { Did self.old self.new bump }
@@ -284,6 +285,7 @@ impl ExprParser<'_> {
     }
 
     // Blanks, and the token after them if it is of this kind, else an error.
+    #[inline(always)]
     fn expect(&mut self, kind: Kind)
         requires { Asks self.old (expect (number kind)) }
         ensures { Did self.old self.new (expect (number kind)) }
@@ -373,7 +375,9 @@ impl ExprParser<'_> {
         self.put_error(form, None, found);
     }
 
-    // An error row at the token `found`, or at the end of text.
+    // An error row at the token `found`, or at the end of text. It stands apart, so that reading a rule without errors stays short.
+    #[cold]
+    #[inline(never)]
     fn put_error(&mut self, form: Form, expected: Option<Kind>, found: usize)
         requires ready { Ready self.old }
         requires room { self.old.at.error + 4 ≤ length self.old.errors.now }
