@@ -152,11 +152,13 @@ fn run_rule<W: Write>(out: &mut W, image: &[u8], rule: &[u8]) -> io::Result<()> 
     print_lines::<LINES, _, _>(out, |lines| answer::write_head(ran.outcome, lines))?;
     match ran.reading {
         Err(_) => Ok(()),
-        Ok(Rows {
-            tokens: _,
-            tree,
-            errors,
-        }) => {
+        Ok(
+            Rows {
+                tokens: _,
+                tree,
+                errors,
+            },
+        ) => {
             print_errors(out, rule, rows::first::<4>(&tables.errors, errors))?;
             print_members(out, image, ran.outcome, &tables.collection)?;
             if matches!(ran.verdict, Verdict::Fail) {

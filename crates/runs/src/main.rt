@@ -171,11 +171,13 @@ fn verdict_number(verdict: Verdict) -> u8 {
 // Whether there are numbers of rows, and those of token, tree and error rows.
 fn print_reading<W: Write>(out: &mut W, reading: Reading) -> io::Result<()> {
     match reading {
-        Ok(Rows {
-            tokens,
-            tree,
-            errors,
-        }) => writeln!(out, "1 {tokens} {tree} {errors}"),
+        Ok(
+            Rows {
+                tokens,
+                tree,
+                errors,
+            },
+        ) => writeln!(out, "1 {tokens} {tree} {errors}"),
         Err(_) => writeln!(out, "0 0 0 0"),
     }
 }
