@@ -12,13 +12,13 @@ use borrow.Rule.Slice.PartMut.{put_mid}
 use Rattle.std.proofs.lemmas.List.Edits.{sets-eq}
 use Rattle.std.specs.Prelude.{Some, None, Result, Ok, Err, MatchResult}
 use borrow.Author.Tests.{ne_eqb}
-use Rattle.syntax.specs.Text.{same}
+use Rattle.syntax.specs.Text.{ascii, same}
 use Rattle.lexer.specs.Lex.{Token, lex}
 use Rattle.lexer.proofs.ReadLaws.{lex_length}
 use Rattle.reader.specs.declared.Row.{Row}
 use Rattle.reader.specs.Reader.{row_at, kind_at, past_ws}
 use Rattle.reader.specs.Reader as reader
-use Rattle.trees.specs.Look.{skip_ws, at_kind, at_ident, first_kind, tail_of, current_text, is_comparison}
+use Rattle.trees.specs.Look.{skip_ws, at_kind, at_ident, first_kind, tail_of, current_text, is_comparison, at_text, at_predicate_method, at_plain_method}
 use Rattle.trees.specs.Parse.{Parser, done, next, bump, fails, fails_ahead, ◌▹◌, in_node, choose, eat_ws, next_is_ident, parse_dot_call, parse, OrExpr}
 use Rattle.trees.specs.Rows.{error_rows}
 use Rattle.trees.proofs.PlaceLaws.{tail_drop, past_here, past_within, kind_is, current_is, Seen, seen, unseen}
@@ -26,14 +26,14 @@ use Rattle.trees.proofs.LookLaws as looks
 use Rattle.trees.proofs.StepLaws.{sees_kind, next_ahead, bump_ahead}
 use Rattle.trees.proofs.TreeLaws.{eat_rest, skip_twice}
 use Rattle.trees.proofs.CycleLaws.{dot_ahead}
-use Rattle.syntax.specs.Kind.{DOT, EQ_EQ, NEQ, GE, GT, LE, LT}
+use Rattle.syntax.specs.Kind.{DOT, EQ_EQ, NEQ, GE, GT, LE, LT, IDENT}
 use Rattle.syntax.specs.Kinds.{number, Names}
 use Rattle.trees.specs.declared.Cursor.{Cursor}
 use Rattle.syntax.specs.declared.kind.Kind.{Kind}
 use Rattle.syntax.specs.declared.kind.UnknownKind.{UnknownKind}
 use Rattle.trees.proofs.WritingLaws as writing
 use Rattle.parser.specs.declared.ExprParser.{ExprParser}
-use Rattle.parser.specs.Parser.{left, Ready, Asks, Keeps, Did, Started, Finished, Inside, Reported}
+use Rattle.parser.specs.Parser.{left, Ready, Asks, Keeps, Did, Started, Finished, Inside, Reported, is_predicate_method, is_plain_method}
 
 pub keeps_same : {s : ExprParser} → Keeps s s
 keeps_same = record { rule = refl; tokens = refl; ops = refl; tree = refl; errors = refl }
@@ -207,6 +207,22 @@ compared [] (b ∷ y) = refl
 compared (a ∷ x) [] = refl
 compared (a ∷ x) (b ∷ y) = ap (λ (t : Bool). eqb a b && t) (compared x y)
 
+-- the methods, by the text of the first token that is no blank
+pub predicate_method : (ts : List Token) → is_predicate_method (current_text ts) ≡ at_predicate_method ts
+unfolding at_predicate_method at_text
+predicate_method ts = refl
+
+pub count_method : (ts : List Token) → same (current_text ts) (ascii "count") ≡ at_text (ascii "count") ts
+unfolding at_text
+count_method ts = refl
+
+pub plain_method : (ts : List Token) → is_plain_method (current_text ts) ≡ at_plain_method ts
+unfolding at_plain_method at_text
+plain_method ts = refl
+
+same_word : {k k' : ℕ} {x x' : List ℕ} (w : List ℕ) → k ≡ k' → x ≡ x' → (eqb k IDENT && same x w) ≡ (eqb k' IDENT && same x' w)
+same_word w p q = rw (p, q)
+
 -- `a || b`, by what its parts gave
 pub or_then : {v r a : Bool} (b : Bool) → r ≡ a → r ≡ true → v ≡ r → v ≡ (a || b)
 or_then b e t w = w ∙ t ∙ sym (rw (sym e ∙ t))
@@ -245,6 +261,16 @@ module _ {s : ExprParser} (r : Ready s) where
 
   pub text_end : None ≡ row_at s.tokens.now (past_ws s.tokens.now s.at.token) → [] ≡ current_text (left s)
   text_end e = let w = unseen s.rule.now r.here.rows _ e in rw (← ahead_here, w)
+
+  -- a word, by one look
+  pub ident_here : {row : Row} (w : List ℕ) → Some row ≡ row_at s.tokens.now (past_ws s.tokens.now s.at.token)
+      → at_ident w (left s) ≡ (eqb row.kind IDENT && same (take (row.end - row.first) (drop row.first s.rule.now)) w)
+  unfolding at_ident
+  ident_here w e = let t = text_there e in rw (← ahead_here, t.here) (same_word w (sym t.kind) (sym t.text))
+
+  pub ident_end : (w : List ℕ) → None ≡ row_at s.tokens.now (past_ws s.tokens.now s.at.token) → at_ident w (left s) ≡ false
+  unfolding at_ident
+  ident_end w e = let n = unseen s.rule.now r.here.rows _ e in rw (← ahead_here, n)
 
   -- the bytes of a token are within the rule
   pub text_within : {row : Row} → Some row ≡ row_at s.tokens.now (past_ws s.tokens.now s.at.token) → (row.first ≤ row.end) × (row.end ≤ length s.rule.now)

@@ -1,5 +1,8 @@
 -- What the parser's methods ask of a parser and leave in it. Assumes nothing: these are definitions.
-use Rattle.std.specs.Prelude.{◌≡◌, ℕ, ◌+◌, ◌-◌, ◌<◌, ◌≤◌, ◌^◌, List, [], ◌∷◌, length, drop}
+use Rattle.std.specs.Prelude.{◌≡◌, ℕ, ◌+◌, ◌-◌, ◌<◌, ◌≤◌, ◌^◌, List, [], ◌∷◌, length, drop, Option, Some, None, Bool, ◌||◌}
+use Rattle.syntax.specs.Text.{ascii, same}
+use Rattle.syntax.specs.Kinds.{number}
+use Rattle.syntax.specs.declared.kind.Kind.{Kind}
 use Rattle.std.proofs.lemmas.List.Edits.{sets}
 use Rattle.lexer.specs.Lex.{Token, lex}
 use Rattle.trees.specs.Parse.{Parser}
@@ -64,3 +67,15 @@ pub record Reported (s n : ExprParser) (form expected : ℕ) (us : List Token) :
   pub tree : n.tree.now ≡ s.tree.now
   pub at : n.at ≡ record { token = s.at.token; byte = s.at.byte; row = s.at.row; error = s.at.error + 4 }
   pub errors : n.errors.now ≡ sets s.errors.now s.at.error (error_rows (length s.rule.now) (record { form = form; expected = expected; left = us } ∷ []))
+
+-- the number of the kind expected in an error row
+abbrev pub expected_number : Option Kind → ℕ
+expected_number None = 0
+expected_number (Some k) = number k
+
+-- the methods that take a predicate, and those that take nothing
+abbrev pub is_predicate_method : List ℕ → Bool
+is_predicate_method w = same w (ascii "where") || (same w (ascii "all") || (same w (ascii "any") || same w (ascii "none")))
+
+abbrev pub is_plain_method : List ℕ → Bool
+is_plain_method w = same w (ascii "features") || same w (ascii "diagnostics")

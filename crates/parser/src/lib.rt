@@ -9,17 +9,19 @@ ghost use Rattle.syntax.specs.Forms as forms;
 ghost use Rattle.syntax.specs.Text.{ascii};
 ghost use Rattle.lexer.specs.Lex.{lex, token_rows};
 ghost use Rattle.lexer.specs.Read.{check_rule};
-ghost use Rattle.trees.specs.Look.{skip_ws, tail_of, first_kind, current_text, at_kind, at_text, at_ident, peek_kind, at_message_dot, at_field, at_predicate_method, at_plain_method, is_comparison, has_count_compare_ahead, has_binary_op_at_level};
+ghost use Rattle.reader.specs.Reader.{row_at, kind_at};
+ghost use Rattle.trees.specs.Look.{skip_ws, tail_of, first_kind, current_text, at_kind, at_ident, at_message_dot, at_field, is_comparison, has_count_compare_ahead, has_binary_op_at_level};
 ghost use Rattle.trees.specs.Parse.{Parser, in_node, next, next_is, fails, fails_ahead, eat_ws, bump, expect, expect_ident, literal, call_expr, ident_expr, contains_expr, compare_expr, simple_atom, predicate_args, no_args, no_method, parse_method, parse_dot_call, parse, OrExpr, OrRest, AndExpr, AndRest, Atom, Calls, parse_source, parse_pipeline, parse_pipeline_or_count_compare, remaining, left_over, parse_root};
 ghost use Rattle.trees.specs.Read.{check_tables, Reads};
 ghost use Rattle.trees.specs.Writing.{NoneFrom, NoOpsFrom};
 ghost use Rattle.trees.specs.Writing as tables;
-ghost use Rattle.parser.specs.Parser.{left, Ready, Asks, Did, Started, Inside, Finished, Reported};
+ghost use Rattle.parser.specs.Parser.{left, Ready, Asks, Did, Started, Inside, Finished, Reported, expected_number, is_predicate_method, is_plain_method};
 
-use reader::Reader;
+use reader::{Reader, Row};
 use syntax::form::Form;
 use syntax::kind::Kind;
 use syntax::refusal::Refusal;
+use syntax::text;
 use trees::{Cursor, Ops, Reading, Rows};
 
 // Reads a rule that passes refusals 1 to 4 into the three tables; a refusal leaves them as they are.
@@ -132,6 +134,28 @@ fn is_comparison(kind: Kind) -> bool
     )
 }
 
+fn is_predicate_method(method: &[u8]) -> bool
+    ensures { result ≡ is_predicate_method method.now }
+{
+    text::same(method, b"where")
+        || text::same(method, b"all")
+        || text::same(method, b"any")
+        || text::same(method, b"none")
+}
+
+fn is_plain_method(method: &[u8]) -> bool
+    ensures { result ≡ is_plain_method method.now }
+{
+    text::same(method, b"features") || text::same(method, b"diagnostics")
+}
+
+// The number of the kind expected, as an error row has it: 0 where the form of error expects no kind.
+fn expected_number(expected: Option<Kind>) -> u32
+    ensures { result ≡ expected_number expected }
+{
+    expected.map_or(0, u32::from)
+}
+
 // Token helpers.
 impl<'a> ExprParser<'a> {
     // A reader of the tokens that are left.
@@ -167,18 +191,18 @@ impl<'a> ExprParser<'a> {
         self.current_kind() == Some(u32::from(kind))
     }
 
+    // Whether that token is this word: one look serves its kind and its text.
     fn at_ident(&self, text: &[u8]) -> bool
         requires { Ready self.now }
         ensures { result ≡ at_ident text.now (left self.now) }
     {
-        self.at_kind(Kind::Ident) && self.at_text(text)
-    }
-
-    fn at_text(&self, text: &[u8]) -> bool
-        requires { Ready self.now }
-        ensures { result ≡ at_text text.now (left self.now) }
-    {
-        self.current_text() == text
+        let Some(token) = self.reader().skip_ws().row() else {
+            return false;
+        };
+        if token.kind != Kind::Ident as u32 {
+            return false;
+        }
+        text::same(&self.rule[token.first as usize..token.end as usize], text)
     }
 
     fn at_eof(&self) -> bool
@@ -210,7 +234,31 @@ impl<'a> ExprParser<'a> {
         requires { Ready self.now }
         ensures { result ≡ next_is (number kind) (left self.now) }
     {
-        self.reader().kind() == Some(u32::from(kind))
+        self.next_kind() == Some(u32::from(kind))
+    }
+
+    // The kind of the next token.
+    fn next_kind(&self) -> Option<u32>
+        requires { Ready self.now }
+        ensures { result ≡ kind_at self.now.tokens.now self.now.at.token }
+    {
+        self.next_row().map(|token| token.kind)
+    }
+
+    // The next token, as the reader finds it; its place is known to be within the rows, so no division is needed for it.
+    fn next_row(&self) -> Option<Row>
+        requires { Ready self.now }
+        ensures { result ≡ row_at self.now.tokens.now self.now.at.token }
+    {
+        let at = 3 * self.at.token;
+        if self.tokens.len() <= at {
+            return None;
+        }
+        Some(Row {
+            kind: self.tokens[at],
+            first: self.tokens[at + 1],
+            end: self.tokens[at + 2],
+        })
     }
 }
 
@@ -227,6 +275,7 @@ impl ExprParser<'_> {
     }
 
     // Blanks, and the token after them.
+    #[inline(always)]
     fn bump(&mut self)
         requires { Asks self.old bump }
         ensures { Did self.old self.new bump }
@@ -236,6 +285,7 @@ impl ExprParser<'_> {
     }
 
     // Blanks, and the token after them if it is of this kind, else an error.
+    #[inline(always)]
     fn expect(&mut self, kind: Kind)
         requires { Asks self.old (expect (number kind)) }
         ensures { Did self.old self.new (expect (number kind)) }
@@ -244,7 +294,7 @@ impl ExprParser<'_> {
         if self.next_is(kind) {
             self.put_token();
         } else {
-            self.fail(Form::Expect, u32::from(kind));
+            self.fail(Form::Expect, Some(kind));
         }
     }
 
@@ -257,7 +307,7 @@ impl ExprParser<'_> {
         if self.at_ident(text) {
             self.put_token();
         } else {
-            self.fail(Form::ExpectIdent, 0);
+            self.fail(Form::ExpectIdent, None);
         }
     }
 
@@ -266,7 +316,7 @@ impl ExprParser<'_> {
         requires { Asks self.old remaining }
         ensures { Did self.old self.new remaining }
     {
-        while self.reader().kind().is_some() {
+        while self.next_kind().is_some() {
             self.put_token();
         }
     }
@@ -276,7 +326,7 @@ impl ExprParser<'_> {
         requires { Asks self.old next }
         ensures { Did self.old self.new next }
     {
-        let Some(token) = self.reader().row() else {
+        let Some(token) = self.next_row() else {
             return;
         };
         let row = [token.kind, self.level, self.at.byte, token.end];
@@ -309,9 +359,9 @@ impl ExprParser<'_> {
     }
 
     // An error at the next token, or at the end of text.
-    fn fail(&mut self, form: Form, expected: u32)
-        requires { Asks self.old (fails (forms.number form) expected) }
-        ensures { Did self.old self.new (fails (forms.number form) expected) }
+    fn fail(&mut self, form: Form, expected: Option<Kind>)
+        requires { Asks self.old (fails (forms.number form) (expected_number expected)) }
+        ensures { Did self.old self.new (fails (forms.number form) (expected_number expected)) }
     {
         self.put_error(form, expected, self.at.token);
     }
@@ -322,16 +372,19 @@ impl ExprParser<'_> {
         ensures { Did self.old self.new (fails_ahead (forms.number form)) }
     {
         let found = self.reader().skip_ws().place;
-        self.put_error(form, 0, found);
+        self.put_error(form, None, found);
     }
 
-    // An error row at the token `found`, or at the end of text.
-    fn put_error(&mut self, form: Form, expected: u32, found: usize)
+    // An error row at the token `found`, or at the end of text. It stands apart, so that reading a rule without errors stays short.
+    #[cold]
+    #[inline(never)]
+    fn put_error(&mut self, form: Form, expected: Option<Kind>, found: usize)
         requires ready { Ready self.old }
         requires room { self.old.at.error + 4 ≤ length self.old.errors.now }
-        ensures { Reported self.old self.new (forms.number form) expected (drop found (lex self.old.rule.now)) }
+        ensures { Reported self.old self.new (forms.number form) (expected_number expected) (drop found (lex self.old.rule.now)) }
     {
         let form = u32::from(form);
+        let expected = expected_number(expected);
         let end = self.rule.len() as u32;
         let row = match Reader::new(self.tokens, found).row() {
             Some(token) => [form, expected, token.first, token.end],
@@ -362,7 +415,7 @@ impl ExprParser<'_> {
         ensures { Did self.old self.new left_over }
     {
         if !self.at_eof() {
-            self.fail(Form::LeftOver, 0);
+            self.fail(Form::LeftOver, None);
             self.take_remaining();
         }
     }
@@ -460,34 +513,18 @@ impl ExprParser<'_> {
         requires { Asks self.old (parse_method (parse OrExpr)) }
         ensures { Did self.old self.new (parse_method (parse OrExpr)) }
     {
-        if self.at_predicate_method() {
+        let method = self.current_text();
+        if is_predicate_method(method) {
             self.bump();
             self.predicate_args();
-        } else if self.at_text(b"count") {
+        } else if text::same(method, b"count") {
             self.bump();
             self.no_args();
-        } else if self.at_plain_method() {
+        } else if is_plain_method(method) {
             self.bump();
         } else {
             self.no_method();
         }
-    }
-
-    fn at_predicate_method(&self) -> bool
-        requires { Ready self.now }
-        ensures { result ≡ at_predicate_method (left self.now) }
-    {
-        self.at_text(b"where")
-            || self.at_text(b"all")
-            || self.at_text(b"any")
-            || self.at_text(b"none")
-    }
-
-    fn at_plain_method(&self) -> bool
-        requires { Ready self.now }
-        ensures { result ≡ at_plain_method (left self.now) }
-    {
-        self.at_text(b"features") || self.at_text(b"diagnostics")
     }
 
     // '(' or_expr ')'

@@ -5,7 +5,6 @@ ghost use Rattle.report.specs.Answer.{head_text, verdict_text, outcome_text, rea
 
 use calls::value::{Outcome, Value, Verdict};
 use calls::verdict;
-use syntax::refusal;
 use syntax::refusal::Refusal;
 use texts::Writer;
 
@@ -45,7 +44,7 @@ pub fn write_outcome(outcome: Outcome, out: &mut Writer<'_>)
 pub fn write_refusal(refusal: Refusal, out: &mut Writer<'_>)
     ensures { Wrote (refusal_text refusal) out.old out.new }
 {
-    let number = refusal::number(refusal);
+    let number = u32::from(refusal);
     out.write_numbered(b"refusal ", u64::from(number), b": ");
     out.append(reason(refusal));
 }

@@ -49,6 +49,7 @@ impl TryFrom<u32> for Form {
     }
 }
 
+// The same numbers as constants, for code that matches the number of a row.
 pub const EXPECT: u32 = 1;
 
 pub const EXPECT_IDENT: u32 = 2;

@@ -97,6 +97,7 @@ impl TryFrom<u32> for Kind {
     }
 }
 
+// The same numbers as constants, for code that matches the number of a row.
 pub const WHITESPACE: u32 = 0;
 
 pub const IDENT: u32 = 1;
@@ -159,4 +160,5 @@ pub const CONTAINS_EXPR: u32 = 29;
 
 pub const COUNT_COMPARE_EXPR: u32 = 30;
 
+// The number of no kind: it stands for the kind of a token that is not there.
 pub const NONE: u32 = 31;

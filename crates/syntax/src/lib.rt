@@ -1,10 +1,8 @@
-// What every crate above shares: the kinds of tokens and nodes, the refusals, the lesser of two numbers, texts and their
-// parts, and UTF-8.
+// What every crate above shares: the kinds of tokens and nodes, the refusals, texts and their parts, and UTF-8.
 #![tactic(auto)]
 
 pub mod form;
 pub mod kind;
-pub mod number;
 pub mod refusal;
 pub mod text;
 pub mod utf8;

@@ -23,24 +23,10 @@ pub enum Refusal {
     IntegerTooLarge = 16,
 }
 
-// What a check says.
-#[derive(Clone, Copy)]
-pub enum Check {
-    Passed,
-    Refused(Refusal),
-}
-
 impl From<Refusal> for u32 {
     ghost from_gives = { λ refusal n. n ≡ refusal_number refusal };
 
     fn from(refusal: Refusal) -> u32 {
         refusal as u32
     }
-}
-
-// The number by which a refusal is known.
-pub fn number(r: Refusal) -> u32
-    ensures { result ≡ refusal_number r }
-{
-    r as u32
 }

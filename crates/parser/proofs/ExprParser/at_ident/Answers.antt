@@ -1,12 +1,23 @@
--- `at_ident` asks for the kind and the text. Assumes nothing.
+-- `at_ident` asks for the kind and the text of one token. Assumes nothing.
 use mathlib.Core.Path.{sym, ◌∙◌}
-use Rattle.trees.specs.Look.{at_ident, at_kind, at_text}
+use borrow.Author.Tests.{eq-eqb, ne_eqb}
+use Rattle.parser.proofs.ParserLaws.{ident_here, ident_end, text_within}
 use Rattle.parser.proofs.ExprParser.at_ident.Goals as goal
 
-pub returns-then-at_kind : goal.returns-then-at_kind
-unfolding at_ident at_kind at_text
-returns-then-at_kind c = rw (sym c.at_kind.ensures ∙ c.if-at_kind.true) c.at_text.ensures
+pub returns-in_default : goal.returns-in_default
+returns-in_default c = sym (ident_end c.requires c.args.text.now (sym c.in_default.is ∙ (rw (c.skip_ws.ensures.0, c.skip_ws.ensures.1, c.reader.ensures.0, c.reader.ensures.1) at c.row.ensures)))
 
-pub returns-else-at_kind : goal.returns-else-at_kind
-unfolding at_ident at_kind at_text
-returns-else-at_kind c = c.if-at_kind.false ∙ sym (rw (sym c.at_kind.ensures ∙ c.if-at_kind.false))
+pub returns-then-token : goal.returns-then-token
+returns-then-token c = sym (ident_here c.requires c.args.text.now (sym c.in-Some.is ∙ (rw (c.skip_ws.ensures.0, c.skip_ws.ensures.1, c.reader.ensures.0, c.reader.ensures.1) at c.row.ensures)) ∙ rw (ne_eqb _ _ c.if-token.true))
+
+pub slice_bounds-same-count : goal.slice_bounds-same-count
+slice_bounds-same-count c = (text_within c.requires (sym c.in-Some.is ∙ (rw (c.skip_ws.ensures.0, c.skip_ws.ensures.1, c.reader.ensures.0, c.reader.ensures.1) at c.row.ensures))).0
+
+pub slice_bounds-same-start : goal.slice_bounds-same-start
+slice_bounds-same-start c = (text_within c.requires (sym c.in-Some.is ∙ (rw (c.skip_ws.ensures.0, c.skip_ws.ensures.1, c.reader.ensures.0, c.reader.ensures.1) at c.row.ensures))).0
+
+pub slice_bounds-same-end : goal.slice_bounds-same-end
+slice_bounds-same-end c = (text_within c.requires (sym c.in-Some.is ∙ (rw (c.skip_ws.ensures.0, c.skip_ws.ensures.1, c.reader.ensures.0, c.reader.ensures.1) at c.row.ensures))).1
+
+pub returns : goal.returns
+returns c = c.same.ensures ∙ sym (ident_here c.requires c.args.text.now (sym c.in-Some.is ∙ (rw (c.skip_ws.ensures.0, c.skip_ws.ensures.1, c.reader.ensures.0, c.reader.ensures.1) at c.row.ensures)) ∙ rw (eq-eqb _ _ c.if-token.false))

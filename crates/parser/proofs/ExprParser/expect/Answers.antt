@@ -11,10 +11,10 @@ pub put_token-requires : goal.put_token-requires
 put_token-requires c = asks_true _ _ _ (sym c.next_is.ensures ∙ c.if-next_is.true) (asks_then (asks_is (expect_is _) c.requires) c.eat_ws.ensures)
 
 pub fail-requires : goal.fail-requires
-fail-requires c = rw c.from.ensures (asks_false _ _ _ (sym c.next_is.ensures ∙ c.if-next_is.false) (asks_then (asks_is (expect_is _) c.requires) c.eat_ws.ensures))
+fail-requires c = asks_false _ _ _ (sym c.next_is.ensures ∙ c.if-next_is.false) (asks_then (asks_is (expect_is _) c.requires) c.eat_ws.ensures)
 
 pub returns-then-next_is : goal.returns-then-next_is
 returns-then-next_is c = did_is (expect_is _) (did_then c.eat_ws.ensures (did_true _ _ _ (sym c.next_is.ensures ∙ c.if-next_is.true) c.put_token.ensures))
 
 pub returns-else-next_is : goal.returns-else-next_is
-returns-else-next_is c = did_is (expect_is _) (did_then c.eat_ws.ensures (did_false _ _ _ (sym c.next_is.ensures ∙ c.if-next_is.false) (rw c.from.ensures at c.fail.ensures)))
+returns-else-next_is c = did_is (expect_is _) (did_then c.eat_ws.ensures (did_false _ _ _ (sym c.next_is.ensures ∙ c.if-next_is.false) c.fail.ensures))

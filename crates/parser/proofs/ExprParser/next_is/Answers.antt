@@ -5,4 +5,4 @@ use Rattle.parser.proofs.ParserLaws.{next_here}
 use Rattle.parser.proofs.ExprParser.next_is.Goals as goal
 
 pub returns : goal.returns
-returns c = c.eq.ensures ∙ rw (rw (c.reader.ensures.0, c.reader.ensures.1) at c.kind.ensures, next_here c.requires, c.from.ensures) (next_test c.args.kind _)
+returns c = c.eq.ensures ∙ rw (c.next_kind.ensures, next_here c.requires, c.from.ensures) (next_test c.args.kind _)

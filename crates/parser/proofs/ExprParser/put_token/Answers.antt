@@ -5,13 +5,13 @@ use Rattle.parser.proofs.ParserLaws.{did_end, did_token, token_room, token_small
 use Rattle.parser.proofs.ExprParser.put_token.Goals as goal
 
 pub returns-in_default : goal.returns-in_default
-returns-in_default c = did_end c.requires.ready (sym c.in_default.is ∙ (rw (c.reader.ensures.0, c.reader.ensures.1) at c.row.ensures))
+returns-in_default c = did_end c.requires.ready (sym c.in_default.is ∙ (c.next_row.ensures))
 
 pub put_row-requires : goal.put_row-requires
-put_row-requires c = token_room c.requires (sym c.in-Some.is ∙ (rw (c.reader.ensures.0, c.reader.ensures.1) at c.row.ensures))
+put_row-requires c = token_room c.requires (sym c.in-Some.is ∙ (c.next_row.ensures))
 
 pub overflow_add-self : goal.overflow_add-self
-overflow_add-self c = omega (arith, token_small c.requires (sym c.in-Some.is ∙ (rw (c.reader.ensures.0, c.reader.ensures.1) at c.row.ensures)))
+overflow_add-self c = omega (arith, token_small c.requires (sym c.in-Some.is ∙ (c.next_row.ensures)))
 
 pub returns : goal.returns
-returns c = record { keeps = record { rule = refl; tokens = refl; ops = refl; tree = refl; errors = refl }; level = refl; did = did_token c.requires (sym c.in-Some.is ∙ (rw (c.reader.ensures.0, c.reader.ensures.1) at c.row.ensures)) c.put_row.ensures }
+returns c = record { keeps = record { rule = refl; tokens = refl; ops = refl; tree = refl; errors = refl }; level = refl; did = did_token c.requires (sym c.in-Some.is ∙ (c.next_row.ensures)) c.put_row.ensures }
