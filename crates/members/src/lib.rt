@@ -5,7 +5,6 @@ ghost use Rattle.texts.specs.Append.{Wrote};
 ghost use Rattle.members.specs.Member.{component_text, feature_text, port_text, diagnostic_text, member_text};
 
 use board::image;
-use board::image::Section;
 use calls::value::Value;
 use texts::Writer;
 
@@ -61,7 +60,7 @@ pub fn write_member(image: &[u8], value: Value, first: u32, second: u32, out: &m
 pub fn write_component(image: &[u8], component: u32, out: &mut Writer<'_>)
     ensures { Wrote (component_text image.now component) out.old out.new }
 {
-    let category = image::field(image, Section::Components, component, image::CATEGORY);
+    let category = image::category(image, component);
     out.write_numbered(b"  component ", u64::from(component), b": ");
     out.write_item(&CATEGORIES, category);
     out.append(b"\n");
@@ -71,7 +70,7 @@ pub fn write_component(image: &[u8], component: u32, out: &mut Writer<'_>)
 pub fn write_feature(image: &[u8], component: u32, feature: u32, out: &mut Writer<'_>)
     ensures { Wrote (feature_text image.now component feature) out.old out.new }
 {
-    let name = image::field(image, Section::Features, feature, image::FEATURE_NAME);
+    let name = image::feature_name(image, feature);
     out.write_numbered(b"  component ", u64::from(component), b": feature ");
     out.write_shown(image::string(image, name));
     write_port(image, feature, out);
@@ -82,8 +81,8 @@ pub fn write_feature(image: &[u8], component: u32, feature: u32, out: &mut Write
 fn write_port(image: &[u8], feature: u32, out: &mut Writer<'_>)
     ensures { Wrote (port_text image.now feature) out.old out.new }
 {
-    let kind = image::field(image, Section::Features, feature, image::FEATURE_KIND);
-    let direction = image::field(image, Section::Features, feature, image::DIRECTION);
+    let kind = image::feature_kind(image, feature);
+    let direction = image::direction(image, feature);
     out.append(b", ");
     out.write_item(&FEATURE_KINDS, kind);
     if direction == 0 {
@@ -97,8 +96,8 @@ fn write_port(image: &[u8], feature: u32, out: &mut Writer<'_>)
 pub fn write_diagnostic(image: &[u8], diagnostic: u32, out: &mut Writer<'_>)
     ensures { Wrote (diagnostic_text image.now diagnostic) out.old out.new }
 {
-    let severity = image::field(image, Section::Diagnostics, diagnostic, image::SEVERITY);
-    let message = image::field(image, Section::Diagnostics, diagnostic, image::MESSAGE);
+    let severity = image::severity(image, diagnostic);
+    let message = image::message(image, diagnostic);
     out.append(b"  ");
     out.write_item(&SEVERITIES, severity);
     out.append(b": ");

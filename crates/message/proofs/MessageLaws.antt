@@ -1,6 +1,6 @@
 -- Laws of the messages: their parts, form by form, and their lengths. Assumes nothing.
 use mathlib.Core.Path.{◌≡◌, refl, sym, ◌∙◌, subst}
-use mathlib.Core.Bool.{Bool, true, cond, ◌&&◌}
+use mathlib.Core.Bool.{Bool, true, false, cond, ◌&&◌}
 use mathlib.Core.List.{List, [], ◌∷◌, ◌++◌}
 use Prim.Native.Nat.{ℕ, zero-le, ◌+◌, ◌≤◌, ◌<◌}
 use native.Mathlib.Omega.{arith}
@@ -8,6 +8,9 @@ use borrow.Author.Tests.{eqb-true, eqb-false, ne_eqb, leb-true}
 use lib.Dec.{T, eqb, leb}
 use lib.ListN.{length, length-append}
 use Rattle.syntax.specs.Kind.{COUNT_COMPARE_EXPR}
+use Rattle.syntax.specs.Forms.{number}
+use Rattle.syntax.specs.declared.form.Form.{Form}
+use Rattle.syntax.specs.declared.form.Form.TheVariants.{Expect, ExpectIdent, LeftOver, Source, Method, Atom}
 use Rattle.syntax.specs.Text.{ascii, bytes_between}
 use Rattle.syntax.proofs.BoolLaws.{whether, and_left, and_right, T→true}
 use Rattle.syntax.proofs.TextLaws.{part_length}
@@ -66,28 +69,39 @@ found_some (b ∷ s) some = refl
 
 -- a number that is no form
 abbrev pub NoForm : ℕ → Type 0
-NoForm f = (((((Unit {0} × (f ≡ EXPECT → ⊥)) × (f ≡ EXPECT_IDENT → ⊥)) × (f ≡ LEFT_OVER → ⊥)) × (f ≡ SOURCE → ⊥)) × (f ≡ METHOD → ⊥)) × (f ≡ ATOM → ⊥)
+NoForm n = (form : Form) → number form ≡ n → ⊥
+
+no_form : {n : ℕ} → (n ≡ EXPECT → ⊥) → (n ≡ EXPECT_IDENT → ⊥) → (n ≡ LEFT_OVER → ⊥) → (n ≡ SOURCE → ⊥) → (n ≡ METHOD → ⊥) → (n ≡ ATOM → ⊥) → NoForm n
+no_form n₁ n₂ n₃ n₄ n₅ n₆ Expect e = n₁ (sym e)
+no_form n₁ n₂ n₃ n₄ n₅ n₆ ExpectIdent e = n₂ (sym e)
+no_form n₁ n₂ n₃ n₄ n₅ n₆ LeftOver e = n₃ (sym e)
+no_form n₁ n₂ n₃ n₄ n₅ n₆ Source e = n₄ (sym e)
+no_form n₁ n₂ n₃ n₄ n₅ n₆ Method e = n₅ (sym e)
+no_form n₁ n₂ n₃ n₄ n₅ n₆ Atom e = n₆ (sym e)
 
 -- by cases on the form
-by_form : (P : ℕ → Type 0) → P EXPECT → P EXPECT_IDENT → P LEFT_OVER → P SOURCE → P METHOD → P ATOM → ((f : ℕ) → NoForm f → P f) → (f : ℕ) → P f
-by_form P p₁ p₂ p₃ p₄ p₅ p₆ none f =
+by_form : (P : ℕ → Type 0) → P EXPECT → P EXPECT_IDENT → P LEFT_OVER → P SOURCE → P METHOD → P ATOM → ((n : ℕ) → NoForm n → P n) → (n : ℕ) → P n
+by_form P p₁ p₂ p₃ p₄ p₅ p₆ none n =
     is EXPECT p₁ (λ n₁. is EXPECT_IDENT p₂ (λ n₂. is LEFT_OVER p₃ (λ n₃.
-    is SOURCE p₄ (λ n₄. is METHOD p₅ (λ n₅. is ATOM p₆ (λ n₆. none f ((((((tt, n₁), n₂), n₃), n₄), n₅), n₆)))))))
+    is SOURCE p₄ (λ n₄. is METHOD p₅ (λ n₅. is ATOM p₆ (λ n₆. none n (no_form n₁ n₂ n₃ n₄ n₅ n₆)))))))
   where
-    is : (k : ℕ) → P k → ((f ≡ k → ⊥) → P f) → P f
-    is k y n = whether (eqb f k) (λ e. subst P (sym (eqb-true f k e)) y) (λ e. n (eqb-false f k e))
+    is : (k : ℕ) → P k → ((n ≡ k → ⊥) → P n) → P n
+    is k y other = whether (eqb n k) (λ e. subst P (sym (eqb-true n k e)) y) (λ e. other (eqb-false n k e))
 
 -- it has none of six texts
-none_of : {f : ℕ} (p₁ p₂ p₃ p₄ p₅ p₆ : List ℕ) → NoForm f
-    → cond (eqb f EXPECT) p₁ (cond (eqb f EXPECT_IDENT) p₂ (cond (eqb f LEFT_OVER) p₃ (cond (eqb f SOURCE) p₄ (cond (eqb f METHOD) p₅ (cond (eqb f ATOM) p₆ []))))) ≡ []
-none_of p₁ p₂ p₃ p₄ p₅ p₆ n =
-    rw (ne_eqb _ _ n.0.0.0.0.0.1, ne_eqb _ _ n.0.0.0.0.1, ne_eqb _ _ n.0.0.0.1, ne_eqb _ _ n.0.0.1, ne_eqb _ _ n.0.1, ne_eqb _ _ n.1)
+none_of : {n : ℕ} (p₁ p₂ p₃ p₄ p₅ p₆ : List ℕ) → NoForm n
+    → cond (eqb n EXPECT) p₁ (cond (eqb n EXPECT_IDENT) p₂ (cond (eqb n LEFT_OVER) p₃ (cond (eqb n SOURCE) p₄ (cond (eqb n METHOD) p₅ (cond (eqb n ATOM) p₆ []))))) ≡ []
+none_of {n} p₁ p₂ p₃ p₄ p₅ p₆ none =
+    rw (other Expect, other ExpectIdent, other LeftOver, other Source, other Method, other Atom)
+  where
+    other : (form : Form) → eqb n (number form) ≡ false
+    other form = ne_eqb _ _ (λ e. none form (sym e))
 
-pub no_head : (f e : ℕ) → NoForm f → head_of f e ≡ []
+no_head : (f e : ℕ) → NoForm f → head_of f e ≡ []
 unfolding head_of
 no_head f e n = none_of _ _ _ _ _ _ n
 
-pub no_found : (f : ℕ) (text : List ℕ) → NoForm f → found_of f text ≡ []
+no_found : (f : ℕ) (text : List ℕ) → NoForm f → found_of f text ≡ []
 unfolding found_of
 no_found f text n = none_of _ _ _ _ _ _ n
 
@@ -105,6 +119,10 @@ message_parts e text =
 pub message_is : (rule : List ℕ) (form expected first end : ℕ) → message_of rule form expected first end ≡ head_of form expected ++ found_of form (bytes_between rule first end)
 unfolding message_of
 message_is rule form expected first end = message_parts expected (bytes_between rule first end) form
+
+pub no_message_of : (rule : List ℕ) (form expected first end : ℕ) → NoForm form → message_of rule form expected first end ≡ []
+unfolding message_of
+no_message_of rule form expected first end n = no_message form expected (bytes_between rule first end) n
 
 -- a head is short, and so is what stands for the token, but for its text
 abbrev pub LONGEST_HEAD : ℕ

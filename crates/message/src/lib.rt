@@ -2,13 +2,14 @@
 #![tactic(auto)]
 
 ghost use Rattle.std.specs.Prelude.{◌≡◌, ◌^◌, ◌<◌, length, map};
-ghost use Rattle.syntax.specs.Form.{EXPECT, EXPECT_IDENT, LEFT_OVER, SOURCE, METHOD, ATOM};
+ghost use Rattle.syntax.specs.Forms.{number};
 ghost use Rattle.texts.specs.Append.{Wrote};
 ghost use Rattle.message.specs.Message.{kind_name, quoted, text_or_eof, found, message_of};
 ghost use Rattle.message.specs.Write.{Writes};
 ghost use Rattle.message.specs.Parts.{head_of, found_of, nth, whole};
 
-use syntax::{form, text};
+use syntax::form::Form;
+use syntax::text;
 use texts::Writer;
 
 // A row of the error table: the form, the kind that was due, and where the token found begins and ends.
@@ -70,13 +71,16 @@ impl<'a> Pieces<'a> {
 }
 
 // Writes the message of an error row at the front of `out`, and leaves the bytes past it as they are: the number of its bytes. Where `out`
-// is shorter than the message, all of it stays as it is.
+// is shorter than the message, all of it stays as it is. The message of a number that is no form is empty.
 pub fn write_message(rule: &[u8], row: ErrorRow, out: &mut [u8]) -> Option<usize>
     ensures { Writes (message_of rule.now row.form row.expected row.first row.end) out.old out.new result }
 {
-    let head = head_by_form(row.form, row.expected);
-    let found = found_by_form(
-        row.form,
+    let Ok(form) = Form::try_from(row.form) else {
+        return Some(0);
+    };
+    let head = head(form, row.expected);
+    let found = found_of(
+        form,
         text::part(rule, row.first as usize, row.end as usize),
     );
     let len = head.len() + found.len();
@@ -89,43 +93,38 @@ pub fn write_message(rule: &[u8], row: ErrorRow, out: &mut [u8]) -> Option<usize
     Some(len)
 }
 
-// What stands before the token found; nothing for a number that is no form.
+// What stands before the token found, of each form.
 #[tactic(auto, unfolding(crate::specs::Parts::head_of))]
-fn head_by_form(form: u32, expected: u32) -> Pieces<'static>
-    ensures { whole result ≡ head_of form expected }
+fn head(form: Form, expected: u32) -> Pieces<'static>
+    ensures { whole result ≡ head_of (number form) expected }
 {
     match form {
-        form::EXPECT => Pieces {
+        Form::Expect => Pieces {
             first: b"expected '",
             middle: kind_name(expected),
             last: b"', found ",
         },
-        form::EXPECT_IDENT => Pieces::one(b"expected 'contains', found "),
-        form::LEFT_OVER => Pieces::one(b"unexpected "),
-        form::SOURCE => Pieces::one(b"expected 'components' or 'analysis', found "),
-        form::METHOD => Pieces::one(
+        Form::ExpectIdent => Pieces::one(b"expected 'contains', found "),
+        Form::LeftOver => Pieces::one(b"unexpected "),
+        Form::Source => Pieces::one(b"expected 'components' or 'analysis', found "),
+        Form::Method => Pieces::one(
             b"expected method name (where, all, any, none, count, features, diagnostics), found ",
         ),
-        form::ATOM => Pieces::one(
+        Form::Atom => Pieces::one(
             b"expected 'not', 'has', 'connected', 'category', 'kind', 'direction', 'severity', 'message', or '(', found ",
         ),
-        _ => Pieces::one(b""),
     }
 }
 
-// What stands for the token found, which has no text at the end of the rule; nothing for a number that is no form.
+// What stands for the token found, which has no text at the end of the rule.
 #[tactic(auto, unfolding(crate::specs::Parts::found_of))]
-fn found_by_form<'a>(form: u32, text: &'a [u8]) -> Pieces<'a>
-    ensures { whole result ≡ found_of form text.now }
+fn found_of<'a>(form: Form, text: &'a [u8]) -> Pieces<'a>
+    ensures { whole result ≡ found_of (number form) text.now }
 {
     match form {
-        form::EXPECT => found(text),
-        form::EXPECT_IDENT => found(text),
-        form::LEFT_OVER => Pieces::quoted(text),
-        form::SOURCE => Pieces::quoted(text_or_eof(text)),
-        form::METHOD => Pieces::quoted(text),
-        form::ATOM => Pieces::quoted(text_or_eof(text)),
-        _ => Pieces::one(b""),
+        Form::Expect | Form::ExpectIdent => found(text),
+        Form::LeftOver | Form::Method => Pieces::quoted(text),
+        Form::Source | Form::Atom => Pieces::quoted(text_or_eof(text)),
     }
 }
 

@@ -10,4 +10,4 @@ use Rattle.members.proofs.write_component.Goals as goal
 
 pub returns : goal.returns
 unfolding component_text category_text category_words
-returns c = wrote_then (wrote_then (rw c.from.ensures at c.write_numbered.ensures) (word_wrote _ _ category_words refl (rw c.field-category.ensures at c.write_item.ensures))) c.append.ensures
+returns c = wrote_then (wrote_then (rw c.from.ensures at c.write_numbered.ensures) (word_wrote _ _ category_words refl (rw c.category-category.ensures at c.write_item.ensures))) c.append.ensures

@@ -9,4 +9,4 @@ use Rattle.members.proofs.write_diagnostic.Goals as goal
 
 pub returns : goal.returns
 unfolding diagnostic_text severity_text severity_words
-returns c = wrote_then (wrote_then (wrote_then (wrote_then c.append.ensures (word_wrote _ _ severity_words refl (rw c.field-severity.ensures at c.write_item.ensures))) c.append-2.ensures) (rw (c.string.ensures, c.field-message.ensures) at c.write_shown.ensures)) c.append-3.ensures
+returns c = wrote_then (wrote_then (wrote_then (wrote_then c.append.ensures (word_wrote _ _ severity_words refl (rw c.severity-severity.ensures at c.write_item.ensures))) c.append-2.ensures) (rw (c.string.ensures, c.message-message.ensures) at c.write_shown.ensures)) c.append-3.ensures
