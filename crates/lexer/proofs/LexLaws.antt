@@ -21,7 +21,6 @@ use borrow.Author.Tests.{ltb-true, ltb-false}
 use Rattle.std.specs.List.{take_while, prefix_len, position_or_len}
 use Rattle.lexer.specs.Lex.{Token, run, quoted, equals, more, kind_of, past, token, lex_from, lex}
 use Rattle.lexer.specs.Tokens.{joined, has_quote, is_closed, closed}
-use Rattle.lexer.specs.LexScan.{TokenAt}
 
 -- a run, byte by byte
 pub run_true : (p : ℕ → Bool) (b : ℕ) (s : List ℕ) → p b ≡ true → run p (b ∷ s) ≡ suc (run p s)
@@ -95,26 +94,22 @@ pub lex_nil : lex [] ≡ []
 unfolding lex lex_from
 lex_nil = refl
 
+pub lex_empty : (s : List ℕ) → length s ≡ 0 → lex s ≡ []
+lex_empty [] z = lex_nil
+lex_empty (b ∷ s) z = absurd (omega arith)
+
 pub lex_cons : (b : ℕ) (s : List ℕ) → lex (b ∷ s) ≡ token b s ∷ lex (drop (past b s) s)
 unfolding lex lex_from
 lex_cons b s = ap (λ (ts : List Token). token b s ∷ ts) (lex_from_drop s (past b s))
 
--- the first token from a place on, as the code finds its end and then its kind
-pub token_at : {rule : List ℕ} {at end kind : ℕ} {k : Shape} → at < length rule → k ≡ shape_of (get_or rule at 0)
-    → end ≡ at + 1 + more k (drop (at + 1) rule)
-    → kind ≡ kind_of k (take (end - at) (drop at rule))
-    → TokenAt rule at kind end
+-- the first token, as the code finds its shape, its length and then its kind
+pub first_token : {whole text rest : List ℕ} {b : ℕ} {s : List ℕ} {k : Shape} {n kind : ℕ} → whole ≡ b ∷ s → k ≡ shape_of b → n ≡ more k s
+    → text ≡ take (1 + n) whole → rest ≡ drop (1 + n) whole → kind ≡ kind_of k text
+    → lex whole ≡ record { kind = kind; text = text } ∷ lex rest
 unfolding token past
-token_at {rule} {at} {end} {kind} {k} h q e w =
-    let n = more k (drop (at + 1) rule) in
-    let e' : end - at ≡ suc n = omega arith in
-    let l : n ≤ length (drop (at + 1) rule) = more_le k (drop (at + 1) rule) in
-    let d : drop end rule ≡ drop n (drop (at + 1) rule) = ap (λ (i : ℕ). drop i rule) e ∙ sym (drop-drop n (at + 1) rule) in
-    record {
-      longer = omega arith;
-      within = omega (arith, length-drop (at + 1) rule);
-      tokens = rw (w, e', d, from rule at h, q) (lex_cons (get_or rule at 0) (drop (at + 1) rule));
-    }
+first_token {whole} {text} {rest} {b} {s} {k} {n} w q e t r g =
+    let z : 1 + n ≡ suc (more k s) = omega arith in
+    rw (g, t, r, w, z, q) (lex_cons b s)
 
 -- token texts joined give the rule back
 tile : (s : List ℕ) (n : ℕ) → joined (lex_from s n) ≡ drop n s

@@ -1,13 +1,13 @@
 -- Reading a rule token by token: counting its openers, writing its rows, and what a check that it passed says. Assumes nothing.
 use mathlib.Core.Path.{◌≡◌, refl, sym, ap, ◌∙◌}
 use mathlib.Core.Bool.{Bool, true, false, cond, not}
-use mathlib.Core.List.{List, [], ◌∷◌}
+use mathlib.Core.List.{List, [], ◌∷◌, ◌++◌}
 use Prim.Native.Nat.{ℕ, zero, suc, zero-le, suc-le-suc, ◌+◌, ◌*◌, ◌-◌, ◌≤◌}
 use native.Mathlib.Omega.{arith}
 use borrow.Author.Tests.{ltb-false}
 use lib.Dec.{ltb}
-use lib.ListN.{length, take, drop, length-drop, drop_of_length-le}
-use lib.Seq.{sets, length-sets, length-take-le}
+use lib.ListN.{length, length-append}
+use lib.Seq.{sets, length-sets}
 use Rattle.syntax.specs.Table.{with_rows}
 use Rattle.syntax.specs.Utf8.{utf8}
 use Rattle.syntax.specs.declared.refusal.Refusal.{Refusal}
@@ -16,73 +16,82 @@ use Rattle.syntax.proofs.TableLaws.{sets_append, sets_front}
 use Rattle.syntax.specs.Refusal.{Check}
 use Rattle.std.specs.Prelude.{Ok, Err}
 use Rattle.lexer.specs.Lex.{Token, past, lex_from, lex, token_rows, is_opener, openers_in}
-use Rattle.lexer.specs.LexScan.{TokenAt}
+use Rattle.lexer.specs.Tokens.{joined}
 use Rattle.lexer.specs.Read.{Lexed, MAX_RULE, TOKEN_ROW, tokens_short, tables_short, check_rule, check_room, tokens_read, Reads}
-use Rattle.lexer.proofs.LexLaws.{lex_nil}
+use Rattle.lexer.proofs.LexLaws.{lex_joined}
 
--- n openers are found among the tokens up to `at`
-pub record Counted (rule : List ℕ) (at n : ℕ) : Type 0 where
-  pub within : at ≤ length rule
-  pub fewer : n ≤ at
-  pub count : n + openers_in (lex (drop at rule)) ≡ openers_in (lex rule)
+-- a rule has no more tokens than bytes
+lex_from_length : (s : List ℕ) (n : ℕ) → length (lex_from s n) ≤ length s
+unfolding lex_from
+lex_from_length [] n = zero-le
+lex_from_length (b ∷ s) zero = suc-le-suc (lex_from_length s (past b s))
+lex_from_length (b ∷ s) (suc n) = omega (arith, lex_from_length s n)
 
-pub counted_start : {rule : List ℕ} → Counted rule 0 0
-counted_start = record { within = omega arith; fewer = omega arith; count = omega arith }
+pub lex_length : (s : List ℕ) → length (lex s) ≤ length s
+unfolding lex
+lex_length s = lex_from_length s 0
 
-module _ {rule : List ℕ} {at n kind end : ℕ} (c : Counted rule at n) (t : TokenAt rule at kind end) where
-  next_openers : openers_in (lex (drop at rule)) ≡ cond (is_opener kind) 1 0 + openers_in (lex (drop end rule))
+-- n openers are found among all tokens but those that are left
+pub record Counted (all left : List Token) (n : ℕ) : Type 0 where
+  pub fewer : n + length left ≤ length all
+  pub count : n + openers_in left ≡ openers_in all
+
+pub counted_start : {all left : List Token} → left ≡ all → Counted all left 0
+counted_start e = rw e record { fewer = omega arith; count = omega arith }
+
+module _ {all left rest : List Token} {t : Token} {n : ℕ} (c : Counted all left n) (e : left ≡ t ∷ rest) where
+  next_openers : openers_in left ≡ cond (is_opener t.kind) 1 0 + openers_in rest
   unfolding openers_in
-  next_openers = rw t.tokens
+  next_openers = rw e
 
-  pub counted_step : is_opener kind ≡ true → Counted rule end (n + 1)
-  counted_step e =
-      let next : openers_in (lex (drop at rule)) ≡ 1 + openers_in (lex (drop end rule)) = next_openers ∙ rw e in
-      record { within = t.within; fewer = omega (arith, c.fewer, t.longer); count = omega (arith, c.count) }
+  pub counted_step : is_opener t.kind ≡ true → Counted all rest (n + 1)
+  counted_step k =
+      let next : openers_in left ≡ 1 + openers_in rest = next_openers ∙ rw k in
+      record { fewer = omega (arith, c.fewer, ap length e); count = omega (arith, c.count) }
 
-  pub counted_skip : is_opener kind ≡ false → Counted rule end n
-  counted_skip e =
-      let next : openers_in (lex (drop at rule)) ≡ 0 + openers_in (lex (drop end rule)) = next_openers ∙ rw e in
-      record { within = t.within; fewer = omega (arith, c.fewer, t.longer); count = omega (arith, c.count) }
+  pub counted_skip : is_opener t.kind ≡ false → Counted all rest n
+  counted_skip k =
+      let next : openers_in left ≡ 0 + openers_in rest = next_openers ∙ rw k in
+      record { fewer = omega (arith, c.fewer, ap length e); count = omega (arith, c.count) }
 
-pub counted_end : {rule : List ℕ} {at n : ℕ} → Counted rule at n → length rule ≤ at → n ≡ openers_in (lex rule)
+pub counted_end : {all left : List Token} {n : ℕ} → Counted all left n → left ≡ [] → n ≡ openers_in all
 unfolding openers_in
-counted_end {rule} {at} c h =
-    let z : openers_in (lex (drop at rule)) ≡ 0 = rw (drop_of_length-le rule h, lex_nil) refl in
-    omega (arith, c.count)
+counted_end c e = let z : openers_in [] ≡ 0 = refl in omega (arith, c.count, ap openers_in e)
 
--- the tokens up to `at` stand in the first n rows of t, which was t₀: writing the others behind them ends as writing all does
-pub record Written (rule t₀ t : List ℕ) (at n : ℕ) : Type 0 where
-  pub within : at ≤ length rule
-  pub fewer : n ≤ at
+-- all tokens but those that are left stand in the first n rows of t, which was t₀, and have `at` bytes: writing the others behind them ends
+-- as writing all does
+pub record Written (all left : List Token) (t₀ t : List ℕ) (at n : ℕ) : Type 0 where
+  pub bytes : at + length (joined left) ≡ length (joined all)
   pub long : length t ≡ length t₀
-  pub count : n + length (lex (drop at rule)) ≡ length (lex rule)
-  pub rows : sets t (n * TOKEN_ROW) (token_rows at (lex (drop at rule))) ≡ sets t₀ 0 (token_rows 0 (lex rule))
+  pub count : n + length left ≡ length all
+  pub rows : sets t (n * TOKEN_ROW) (token_rows at left) ≡ sets t₀ 0 (token_rows 0 all)
 
-pub written_start : {rule t : List ℕ} → Written rule t t 0 0
-written_start = record { within = omega arith; fewer = omega arith; long = refl; count = omega arith; rows = refl }
+pub written_start : {all left : List Token} {t : List ℕ} → left ≡ all → Written all left t t 0 0
+written_start e = rw e record { bytes = omega arith; long = refl; count = omega arith; rows = refl }
 
-module _ {rule : List ℕ} {at kind end : ℕ} (k : TokenAt rule at kind end) where
-  text_length : at + length (take (end - at) (drop at rule)) ≡ end
-  text_length =
-      let e = length-take-le (end - at) (drop at rule) (simp length-drop (omega (arith, k.longer, k.within))) in
-      omega (arith, k.longer)
+module _ {all left rest : List Token} {tok : Token} {t₀ t : List ℕ} {at n : ℕ} (w : Written all left t₀ t at n) (e : left ≡ tok ∷ rest) where
+  next_bytes : length (joined left) ≡ length tok.text + length (joined rest)
+  unfolding joined
+  next_bytes = rw e (length-append tok.text (joined rest))
 
-  next_rows : token_rows at (lex (drop at rule)) ≡ kind ∷ at ∷ end ∷ token_rows end (lex (drop end rule))
+  pub written_within : (rule : List ℕ) → all ≡ lex rule → at + length tok.text ≤ length rule
+  written_within rule a = omega (arith, w.bytes, next_bytes, ap length (lex_joined rule), ap (λ (ts : List Token). length (joined ts)) a)
+
+  next_rows : token_rows at left ≡ tok.kind ∷ at ∷ (at + length tok.text) ∷ token_rows (at + length tok.text) rest
   unfolding token_rows
-  next_rows = rw (k.tokens, text_length)
+  next_rows = rw e
 
-  pub written_step : {t₀ t t' : List ℕ} {n : ℕ} → Written rule t₀ t at n → t' ≡ sets t (n * TOKEN_ROW) (kind ∷ at ∷ end ∷ []) → Written rule t₀ t' end (n + 1)
-  written_step {t₀} {t} {t'} {n} w e =
+  pub written_step : {t' : List ℕ} {end : ℕ} → end ≡ at + length tok.text → t' ≡ sets t (TOKEN_ROW * n) (tok.kind ∷ at ∷ end ∷ []) → Written all rest t₀ t' end (n + 1)
+  written_step {t'} {end} q p =
+      let row = tok.kind ∷ at ∷ end ∷ [] in
       let three : (n + 1) * TOKEN_ROW ≡ n * TOKEN_ROW + TOKEN_ROW = omega arith in
-      let c : length (lex (drop at rule)) ≡ suc (length (lex (drop end rule))) = ap length k.tokens in
+      let here : TOKEN_ROW * n ≡ n * TOKEN_ROW = omega arith in
+      let others : row ++ token_rows end rest ≡ token_rows at left = rw q (sym next_rows) in
       record {
-        within = k.within;
-        fewer = omega (arith, w.fewer, k.longer);
-        long = ap length e ∙ length-sets t (n * TOKEN_ROW) (kind ∷ at ∷ end ∷ []) ∙ w.long;
-        count = omega (arith, w.count);
-        rows =
-            rw (three, e) (sym (sets_append (kind ∷ at ∷ end ∷ []) (token_rows end (lex (drop end rule))) t (n * TOKEN_ROW)))
-            ∙ ap (sets t (n * TOKEN_ROW)) (sym next_rows) ∙ w.rows;
+        bytes = omega (arith, w.bytes, next_bytes);
+        long = ap length p ∙ length-sets t (TOKEN_ROW * n) row ∙ w.long;
+        count = omega (arith, w.count, ap length e);
+        rows = rw (three, p, here) (sym (sets_append row (token_rows end rest) t (n * TOKEN_ROW))) ∙ ap (sets t (n * TOKEN_ROW)) others ∙ w.rows;
       }
 
 pub token_rows_length : (at : ℕ) (ts : List Token) → length (token_rows at ts) ≡ length ts * TOKEN_ROW
@@ -90,14 +99,13 @@ unfolding token_rows
 token_rows_length at [] = refl
 token_rows_length at (t ∷ ts) = omega (arith, token_rows_length (at + length t.text) ts)
 
-pub written_end : {rule t₀ t : List ℕ} {at n : ℕ} → Written rule t₀ t at n → length rule ≤ at → length rule * TOKEN_ROW ≤ length t₀
+pub written_end : (rule : List ℕ) {all left : List Token} {t₀ t : List ℕ} {at n : ℕ} → all ≡ lex rule → Written all left t₀ t at n → left ≡ [] → length rule * TOKEN_ROW ≤ length t₀
     → (n ≡ length (lex rule)) × (t ≡ with_rows (token_rows 0 (lex rule)) t₀)
 unfolding token_rows
-written_end {rule} {t₀} {t} {at} {n} w h room =
-    let z : lex (drop at rule) ≡ [] = rw (drop_of_length-le rule h) lex_nil in
-    let l : length (lex (drop at rule)) ≡ 0 = ap length z in
-    let few : length (token_rows 0 (lex rule)) ≤ length t₀ = omega (arith, token_rows_length 0 (lex rule), w.count, w.fewer, w.within) in
-    (omega (arith, w.count), sym (rw z) ∙ w.rows ∙ sets_front (token_rows 0 (lex rule)) t₀ few)
+written_end rule {all} {left} {t₀} {t} {at} {n} a w z room =
+    let few : length (token_rows 0 all) ≤ length t₀ = omega (arith, token_rows_length 0 all, ap length a, lex_length rule) in
+    let r : t ≡ sets t₀ 0 (token_rows 0 all) = rw z at w.rows in
+    rw (← a) (omega (arith, w.count, ap length z), r ∙ sets_front (token_rows 0 all) t₀ few)
 
 never : {r : Refusal} → ◌≡◌ {A = Check} (Err r) (Ok tt) → ⊥
 never e = let z : ◌≡◌ {A = ℕ} 0 1 = cc in omega arith
@@ -130,17 +138,6 @@ passed_reads p q h = rw p (rw q at h)
 
 pub refused_reads : {k : Check} {rule before : List ℕ} {r : Refusal} → k ≡ Err r → Reads k rule before before (Err r)
 refused_reads e = rw e record { answer = refl; table = refl }
-
--- a rule has no more tokens than bytes
-lex_from_length : (s : List ℕ) (n : ℕ) → length (lex_from s n) ≤ length s
-unfolding lex_from
-lex_from_length [] n = zero-le
-lex_from_length (b ∷ s) zero = suc-le-suc (lex_from_length s (past b s))
-lex_from_length (b ∷ s) (suc n) = omega (arith, lex_from_length s n)
-
-pub lex_length : (s : List ℕ) → length (lex s) ≤ length s
-unfolding lex
-lex_length s = lex_from_length s 0
 
 -- a number of tokens that was given is at most the most bytes of a rule
 pub tokens_few : (rule : List ℕ) (tokens tree errors n : ℕ) → Ok n ≡ tokens_read (check_rule rule tokens tree errors) rule → n ≤ MAX_RULE

@@ -2,13 +2,18 @@
 -- Assumes nothing: these are definitions.
 use Rattle.std.specs.Prelude.{ℕ, ◌-◌, ◌≤◌, ◌<◌, ◌≡◌, cond, ◌&&◌, ◌||◌, List, ◌∷◌, length, take, drop}
 use Rattle.syntax.specs.Text.{is}
-use Rattle.lexer.specs.Lex.{lex}
+use Rattle.syntax.specs.Kinds.{number}
+use Rattle.lexer.specs.declared.Token.{Token as Read}
+use Rattle.lexer.specs.declared.Tokens.{Tokens}
+use Rattle.lexer.specs.Lex.{Token, lex}
 
--- from `at` on, the tokens of a rule are one of this kind that ends at `end`, and then those from `end` on
-pub record TokenAt (rule : List ℕ) (at kind end : ℕ) : Type 0 where
-  pub longer : at < end
-  pub within : end ≤ length rule
-  pub tokens : lex (drop at rule) ≡ record { kind = kind; text = take (end - at) (drop at rule) } ∷ lex (drop end rule)
+-- a token of the code as one of `lex`
+abbrev pub token_of : Read → Token
+token_of t = record { kind = number t.kind; text = t.text.now }
+
+-- the tokens that are left
+abbrev pub tokens_left : Tokens → List Token
+tokens_left s = lex s.rest.now
 
 -- 1 where a token `(` or `not` may begin with the byte b before a byte c, else 0: a bound for code that has not read the tokens
 unfoldable pub openers_at : ℕ → ℕ → ℕ

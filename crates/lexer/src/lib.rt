@@ -10,7 +10,8 @@ ghost use Rattle.syntax.specs.Table.{with_rows};
 ghost use Rattle.syntax.specs.Kinds.{number};
 ghost use Rattle.lexer.specs.Bytes.{is_blank, is_ascii_whitespace, is_ascii_digit, is_ident_start, is_ident_continue, is_trailing, shape_of, goes_on};
 ghost use Rattle.lexer.specs.Lex.{quoted, equals, more, word_kind, kind_of, lex, token_rows, is_opener, openers_in};
-ghost use Rattle.lexer.specs.LexScan.{TokenAt, openers_at};
+ghost use Rattle.std.specs.Iterator.{YieldsFirstBy, item_count};
+ghost use Rattle.lexer.specs.LexScan.{token_of, tokens_left, openers_at};
 ghost use Rattle.lexer.specs.Read.{tables_short, check_rule, check_room, Reads};
 ghost use Rattle.lexer.specs.Read as meant;
 
@@ -103,18 +104,15 @@ fn openers_at(b: u8, next: u8) -> u16
     u16::from(b == b'(' || b == b'n' && next == b'o')
 }
 
-// How many tokens are `(` or `not`. A step is as long as a token, so that no range counts it.
+// How many tokens are `(` or `not`.
 fn count_openers(rule: &[u8]) -> usize
     ensures { result ≡ openers_in (lex rule.now) }
 {
-    let mut next = 0;
     let mut n = 0;
-    while next < rule.len() {
-        let t = token_at(rule, next);
-        if is_opener(t.kind) {
+    for token in (Tokens { rest: rule }) {
+        if is_opener(token.kind) {
             n += 1;
         }
-        next = t.end;
     }
     n
 }
@@ -132,13 +130,12 @@ fn write_tokens(rule: &[u8], tokens: &mut [u32]) -> usize
 {
     let mut at = 0;
     let mut written = 0;
-    while at < rule.len() {
-        let t = token_at(rule, at);
-        let end = t.end;
+    for token in (Tokens { rest: rule }) {
+        let end = at + token.text.len();
         put_row(
             tokens,
-            written * TOKEN_ROW,
-            u32::from(t.kind),
+            TOKEN_ROW * written,
+            token.kind.into(),
             at as u32,
             end as u32,
         );
@@ -158,22 +155,36 @@ fn put_row(table: &mut [u32], at: usize, kind: u32, first: u32, end: u32)
     table[at + 2] = end;
 }
 
-// A token that begins at a known place: its kind, and the place past its last byte.
+// A token: its kind, and its bytes, a part of the rule.
 #[derive(Clone, Copy)]
-struct Token {
+struct Token<'a> {
     kind: Kind,
-    end: usize,
+    text: &'a [u8],
 }
 
-// The token that begins at `at`.
-fn token_at(rule: &[u8], at: usize) -> Token
-    requires { at < length rule.now }
-    ensures { TokenAt rule.now at (number result.kind) result.end }
-{
-    let shape = shape_of(rule[at]);
-    let end = at + 1 + more(&rule[at + 1..], shape);
-    let kind = kind_of(&rule[at..end], shape);
-    Token { kind, end }
+// The tokens of a rule, one after the other, by the bytes that are left.
+#[derive(Drop)]
+struct Tokens<'a> {
+    rest: &'a [u8],
+}
+
+impl<'a> Iterator for Tokens<'a> {
+    type Item = Token<'a>;
+
+    ghost next_gives = { YieldsFirstBy token_of tokens_left };
+
+    ghost remaining = { item_count tokens_left };
+
+    fn next(&mut self) -> Option<Token<'a>> {
+        let (first, behind) = self.rest.split_first()?;
+        let shape = shape_of(*first);
+        let (text, rest) = self.rest.split_at(1 + more(behind, shape));
+        self.rest = rest;
+        Some(Token {
+            kind: kind_of(text, shape),
+            text,
+        })
+    }
 }
 
 // The shape of a token, by its first byte. A symbol has its kind; an operator has its kind alone and its kind with a `=` behind it.

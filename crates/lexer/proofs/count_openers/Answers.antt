@@ -1,23 +1,20 @@
 -- `count_openers` counts token by token. Assumes nothing.
 use mathlib.Core.Path.{sym, ◌∙◌}
-use Rattle.lexer.proofs.ReadLaws.{counted_start, counted_step, counted_skip, counted_end}
 use native.Mathlib.Omega.{arith}
+use Rattle.lexer.proofs.ReadLaws.{lex_length, counted_start, counted_step, counted_skip, counted_end}
 use Rattle.lexer.proofs.count_openers.Goals as goal
 
-pub loop-next-init : goal.loop-next-init
-loop-next-init c = counted_start
+pub loop-token-init : goal.loop-token-init
+loop-token-init c = counted_start (rw c.into_iter-token-iterator.ensures.into_iter_gives)
 
-pub loop-next-smaller-then-is_opener : goal.loop-next-smaller-then-is_opener
-loop-next-smaller-then-is_opener c = omega (arith, c.token_at-t.ensures.longer)
+pub overflow_add-n : goal.overflow_add-n
+overflow_add-n c = omega (arith, c.loop-token.invariant.fewer, lex_length c.args.rule.now)
 
-pub loop-next-preserved-then-is_opener : goal.loop-next-preserved-then-is_opener
-loop-next-preserved-then-is_opener c = counted_step c.loop-next.invariant c.token_at-t.ensures (sym c.is_opener.ensures ∙ c.if-is_opener.true)
+pub loop-token-preserved-then-is_opener : goal.loop-token-preserved-then-is_opener
+loop-token-preserved-then-is_opener c = counted_step c.loop-token.invariant (c.in-Some.ensures {u = tt}).steps (sym c.is_opener.ensures ∙ c.if-is_opener.true)
 
-pub loop-next-smaller : goal.loop-next-smaller
-loop-next-smaller c = omega (arith, c.token_at-t.ensures.longer)
-
-pub loop-next-preserved : goal.loop-next-preserved
-loop-next-preserved c = counted_skip c.loop-next.invariant c.token_at-t.ensures (sym c.is_opener.ensures ∙ c.if-is_opener.false)
+pub loop-token-preserved : goal.loop-token-preserved
+loop-token-preserved c = counted_skip c.loop-token.invariant (c.in-Some.ensures {u = tt}).steps (sym c.is_opener.ensures ∙ c.if-is_opener.false)
 
 pub returns : goal.returns
-returns c = counted_end c.loop-next.invariant c.loop-next-test.false
+returns c = counted_end c.loop-token.invariant c.in-None.ensures.steps.0

@@ -1,22 +1,33 @@
 -- `write_tokens` writes a row for each token, and finishing from each place ends as the whole does. Assumes nothing.
-use Rattle.lexer.proofs.ReadLaws.{written_start, written_step, written_end}
+use mathlib.Core.Path.{refl, ap}
 use native.Mathlib.Omega.{arith}
+use lib.ListN.{length}
+use Rattle.lexer.proofs.ReadLaws.{lex_length, written_start, written_within, written_step, written_end}
 use Rattle.lexer.proofs.write_tokens.Goals as goal
 
-pub loop-at-init : goal.loop-at-init
-loop-at-init c = written_start
+pub loop-token-init : goal.loop-token-init
+loop-token-init c = written_start (rw c.into_iter-token-iterator.ensures.into_iter_gives)
+
+pub overflow_add-end : goal.overflow_add-end
+overflow_add-end c = omega (arith, written_within c.loop-token.invariant (c.in-Some.ensures {u = tt}).steps c.args.rule.now refl)
+
+pub overflow_mul-written : goal.overflow_mul-written
+overflow_mul-written c = omega (arith, c.loop-token.invariant.count, lex_length c.args.rule.now)
+
+pub overflow_cast-at : goal.overflow_cast-at
+overflow_cast-at c = omega (arith, written_within c.loop-token.invariant (c.in-Some.ensures {u = tt}).steps c.args.rule.now refl)
 
 pub overflow_cast-end : goal.overflow_cast-end
-overflow_cast-end c = omega (arith, c.token_at-t.ensures.within)
+overflow_cast-end c = omega (arith, written_within c.loop-token.invariant (c.in-Some.ensures {u = tt}).steps c.args.rule.now refl)
 
-pub loop-at-smaller : goal.loop-at-smaller
-loop-at-smaller c = omega (arith, c.token_at-t.ensures.longer)
+pub put_row-requires : goal.put_row-requires
+put_row-requires c = omega (arith, c.loop-token.invariant.count, ap length (c.in-Some.ensures {u = tt}).steps, lex_length c.args.rule.now, c.loop-token.invariant.long, c.requires.1)
 
-pub loop-at-preserved : goal.loop-at-preserved
-loop-at-preserved c = written_step c.token_at-t.ensures c.loop-at.invariant (rw c.from.ensures at c.put_row.ensures)
+pub overflow_add-written : goal.overflow_add-written
+overflow_add-written c = omega (arith, c.loop-token.invariant.count, lex_length c.args.rule.now)
 
-pub shape_of-tokens : goal.shape_of-tokens
-shape_of-tokens c = c.loop-at.invariant.long
+pub loop-token-preserved : goal.loop-token-preserved
+loop-token-preserved c = written_step c.loop-token.invariant (c.in-Some.ensures {u = tt}).steps refl (rw c.into.ensures at c.put_row.ensures)
 
 pub returns : goal.returns
-returns c = written_end c.loop-at.invariant c.loop-at-test.false c.requires.1
+returns c = written_end c.args.rule.now refl c.loop-token.invariant c.in-None.ensures.steps.0 c.requires.1
