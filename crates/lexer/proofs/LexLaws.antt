@@ -3,16 +3,15 @@ use mathlib.Core.Path.{◌≡◌, refl, sym, ap, ◌∙◌}
 use mathlib.Core.Bool.{Bool, true, false, ◌&&◌, and_assoc}
 use mir.Val.{bool_byte}
 use mathlib.Core.List.{List, [], ◌∷◌, ◌++◌, append_assoc}
-use Prim.Native.Nat.{ℕ, zero, suc, ◌+◌, ◌-◌, ◌≤◌, ◌<◌, zero-le, suc-le-suc}
+use Prim.Native.Nat.{ℕ, zero, suc, ◌+◌, ◌≤◌, ◌<◌, zero-le, suc-le-suc}
 use native.Mathlib.Nat.{le_of_suc-le-suc, not-suc-le-zero}
 use native.Mathlib.Omega.{arith}
 use lib.Dec.{T}
-use lib.ListN.{drop, get_or, length, length-drop, length-take, take, take-append-drop}
-use lib.Seq.{drop-drop, take-append-le}
+use lib.ListN.{drop, get_or, length, length-take, take, take-append-drop}
+use lib.Seq.{take-append-le}
 use Rattle.syntax.specs.Kind.{DOT, L_PAREN, R_PAREN}
 use Rattle.syntax.specs.Text.{is}
 use Rattle.syntax.proofs.BoolLaws.{whether, and_left, and_right}
-use Rattle.syntax.proofs.TextLaws.{from}
 use Rattle.lexer.specs.declared.Shape.{Shape}
 use Rattle.lexer.specs.declared.Shape.TheVariants.{Blanks, Quoted, Symbol, Operator, Digits, Word, Character}
 use Rattle.lexer.specs.Bytes.{shape_of, goes_on, is_ascii_whitespace, is_ascii_digit, is_ident_continue, is_trailing}

@@ -1,6 +1,6 @@
 -- What only private functions' contracts need: `token_at`'s and `openers_at`'s. No reader of `lex` needs this file.
 -- Assumes nothing: these are definitions.
-use Rattle.std.specs.Prelude.{ℕ, ◌-◌, ◌≤◌, ◌<◌, ◌≡◌, cond, ◌&&◌, ◌||◌, List, ◌∷◌, length, take, drop}
+use Rattle.std.specs.Prelude.{ℕ, cond, ◌&&◌, ◌||◌, List}
 use Rattle.syntax.specs.Text.{is}
 use Rattle.syntax.specs.Kinds.{number}
 use Rattle.lexer.specs.declared.Token.{Token as Read}

@@ -130,12 +130,12 @@ fn write_tokens(rule: &[u8], tokens: &mut [u32]) -> usize
 {
     let mut at = 0;
     let mut written = 0;
-    for token in (Tokens { rest: rule }) {
-        let end = at + token.text.len();
+    for Token { kind, text } in (Tokens { rest: rule }) {
+        let end = at + text.len();
         put_row(
             tokens,
             TOKEN_ROW * written,
-            token.kind.into(),
+            kind.into(),
             at as u32,
             end as u32,
         );

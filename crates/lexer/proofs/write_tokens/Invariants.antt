@@ -4,5 +4,5 @@ use Rattle.lexer.specs.LexScan.{tokens_left}
 use Rattle.lexer.proofs.ReadLaws.{Written}
 use Rattle.lexer.proofs.write_tokens.Given as goal
 
-abbrev pub invariant-loop-token : goal.invariant-loop-token
-invariant-loop-token l = Written (lex l.rule) (tokens_left l.token-iterator) l.initial.tokens l.tokens l.at l.written
+abbrev pub invariant-loop-kind : goal.invariant-loop-kind
+invariant-loop-kind l = Written (lex l.rule) (tokens_left l.kind-iterator) l.initial.tokens l.tokens l.at l.written
