@@ -1,7 +1,7 @@
 // parser.rs: the messages of its parse errors, as text, from a rule and a row of the error table.
 #![tactic(auto)]
 
-ghost use Rattle.std.specs.Prelude.{◌≡◌, ◌^◌, ◌<◌, length, map};
+ghost use Rattle.std.specs.Prelude.{◌≡◌, [], ◌∷◌, ◌^◌, ◌<◌, length, map};
 ghost use Rattle.syntax.specs.Forms.{number};
 ghost use Rattle.texts.specs.Append.{Wrote};
 ghost use Rattle.message.specs.Message.{kind_name, quoted, text_or_eof, found, message_of};
@@ -19,6 +19,20 @@ pub struct ErrorRow {
     pub expected: u32,
     pub first: u32,
     pub end: u32,
+}
+
+impl From<[u32; 4]> for ErrorRow {
+    ghost from_gives = { λ row error. row ≡ error.form ∷ error.expected ∷ error.first ∷ error.end ∷ [] };
+
+    fn from(row: [u32; 4]) -> ErrorRow {
+        let [form, expected, first, end] = row;
+        ErrorRow {
+            form,
+            expected,
+            first,
+            end,
+        }
+    }
 }
 
 // Three pieces of a text.
@@ -79,10 +93,7 @@ pub fn write_message(rule: &[u8], row: ErrorRow, out: &mut [u8]) -> Option<usize
         return Some(0);
     };
     let head = head(form, row.expected);
-    let found = found_of(
-        form,
-        text::part(rule, row.first as usize, row.end as usize),
-    );
+    let found = found_of(form, text::part(rule, row.first as usize, row.end as usize));
     let len = head.len() + found.len();
     if out.len() < len {
         return None;
