@@ -3,12 +3,12 @@ use mathlib.Core.Path.{◌≡◌, refl, sym, ap, ◌∙◌}
 use mathlib.Core.Bool.{Bool, true, false, ◌&&◌, and_assoc}
 use mir.Val.{bool_byte}
 use mathlib.Core.List.{List, [], ◌∷◌, ◌++◌, append_assoc}
-use Prim.Native.Nat.{ℕ, zero, suc, ◌+◌, ◌≤◌, ◌<◌, zero-le, suc-le-suc}
+use Prim.Native.Nat.{ℕ, zero, suc, ◌+◌, ◌-◌, ◌≤◌, ◌<◌, zero-le, suc-le-suc}
 use native.Mathlib.Nat.{le_of_suc-le-suc, not-suc-le-zero}
 use native.Mathlib.Omega.{arith}
 use lib.Dec.{T}
 use lib.ListN.{drop, get_or, length, length-take, take, take-append-drop}
-use lib.Seq.{take-append-le}
+use lib.Seq.{take-append-le, take_all}
 use Rattle.syntax.specs.Kind.{DOT, L_PAREN, R_PAREN}
 use Rattle.syntax.specs.Text.{is}
 use Rattle.syntax.proofs.BoolLaws.{whether, and_left, and_right}
@@ -102,13 +102,21 @@ unfolding lex lex_from
 lex_cons b s = ap (λ (ts : List Token). token b s ∷ ts) (lex_from_drop s (past b s))
 
 -- the first token, as the code finds its shape, its length and then its kind
-pub first_token : {whole text rest : List ℕ} {b : ℕ} {s : List ℕ} {k : Shape} {n kind : ℕ} → whole ≡ b ∷ s → k ≡ shape_of b → n ≡ more k s
-    → text ≡ take (1 + n) whole → rest ≡ drop (1 + n) whole → kind ≡ kind_of k text
-    → lex whole ≡ record { kind = kind; text = text } ∷ lex rest
+behind_is : (b : ℕ) (s : List ℕ) (k : Shape) {n : ℕ} → n ≡ more k (take (length (b ∷ s) - 1) (drop 1 (b ∷ s))) → n ≡ more k s
+behind_is b s k e = e ∙ ap (more k) (take_all (length (b ∷ s) - 1) s (omega arith))
+
+pub first_within : (text : List ℕ) (k : Shape) {n : ℕ} → 0 < length text → n ≡ more k (take (length text - 1) (drop 1 text)) → 1 + n ≤ length text
+first_within [] k some e = absurd (omega arith)
+first_within (b ∷ s) k some e = omega (arith, behind_is b s k e, more_le k s)
+
+pub first_tokens : (text : List ℕ) (k : Shape) {n kind : ℕ} → 0 < length text → k ≡ shape_of (get_or text 0 0)
+    → n ≡ more k (take (length text - 1) (drop 1 text)) → kind ≡ kind_of k (take (1 + n) text)
+    → lex text ≡ record { kind = kind; text = take (1 + n) text } ∷ lex (drop (1 + n) text)
 unfolding token past
-first_token {whole} {text} {rest} {b} {s} {k} {n} w q e t r g =
-    let z : 1 + n ≡ suc (more k s) = omega arith in
-    rw (g, t, r, w, z, q) (lex_cons b s)
+first_tokens [] k some q e w = absurd (omega arith)
+first_tokens (b ∷ s) k {n} some q e w =
+    let z : 1 + n ≡ suc (more k s) = omega (arith, behind_is b s k e) in
+    rw (w, z, q) (lex_cons b s)
 
 -- token texts joined give the rule back
 tile : (s : List ℕ) (n : ℕ) → joined (lex_from s n) ≡ drop n s

@@ -11,7 +11,7 @@ ghost use Rattle.syntax.specs.Kinds.{number};
 ghost use Rattle.lexer.specs.Bytes.{is_blank, is_ascii_whitespace, is_ascii_digit, is_ident_start, is_ident_continue, is_trailing, shape_of, goes_on};
 ghost use Rattle.lexer.specs.Lex.{quoted, equals, more, word_kind, kind_of, lex, token_rows, is_opener, openers_in};
 ghost use Rattle.std.specs.Iterator.{YieldsFirstBy, item_count};
-ghost use Rattle.lexer.specs.LexScan.{token_of, tokens_left, openers_at};
+ghost use Rattle.lexer.specs.LexScan.{token_of, tokens_left, IsFirst, openers_at};
 ghost use Rattle.lexer.specs.Read.{tables_short, check_rule, check_room, Reads};
 ghost use Rattle.lexer.specs.Read as meant;
 
@@ -175,16 +175,34 @@ impl<'a> Iterator for Tokens<'a> {
 
     ghost remaining = { item_count tokens_left };
 
+    #[inline(always)]
+    #[tactic(auto, using(crate::proofs::LexLaws::lex_empty))]
     fn next(&mut self) -> Option<Token<'a>> {
-        let (first, behind) = self.rest.split_first()?;
-        let shape = shape_of(*first);
-        let (text, rest) = self.rest.split_at(1 + more(behind, shape));
+        if self.rest.is_empty() {
+            return None;
+        }
+        let First { kind, len } = first_token(self.rest);
+        let (text, rest) = self.rest.split_at(len);
         self.rest = rest;
-        Some(Token {
-            kind: kind_of(text, shape),
-            text,
-        })
+        Some(Token { kind, text })
     }
+}
+
+// A text's first token, by its kind and its length.
+#[derive(Clone, Copy)]
+struct First {
+    kind: Kind,
+    len: usize,
+}
+
+fn first_token(text: &[u8]) -> First
+    requires { 0 < length text.now }
+    ensures { IsFirst text.now result }
+{
+    let shape = shape_of(text[0]);
+    let len = 1 + more(&text[1..], shape);
+    let kind = kind_of(&text[..len], shape);
+    First { kind, len }
 }
 
 // The shape of a token, by its first byte. A symbol has its kind; an operator has its kind alone and its kind with a `=` behind it.
