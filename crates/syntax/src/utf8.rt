@@ -25,8 +25,8 @@ fn highest(s: &[u8]) -> u8
     s.iter().fold(0, |highest: u8, b| highest.max(*b))
 }
 
-// The same, character by character. The library's words for UTF-8 and Table 3-7 agree, by `library_agrees`; the function is not inlined, so
-// that the quick pass saves no registers for it.
+// The same, character by character. The library's words for UTF-8 and Table 3-7 agree, by `library_agrees`. It is not inlined, so that the
+// quick pass has fewer registers to save.
 #[inline(never)]
 #[tactic(auto, using(crate::proofs::LibraryLaws::library_agrees))]
 fn is_well_formed(s: &[u8]) -> bool
