@@ -6,4 +6,3 @@ pub mod Refusal
 pub mod Text
 pub mod Table
 pub mod Utf8
-pub mod Utf8Scan

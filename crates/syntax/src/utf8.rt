@@ -1,26 +1,10 @@
-// UTF-8: whether bytes are a well-formed text. Most texts are ASCII alone, which one quick pass tells; any other is read byte by byte, with
-// nothing kept but what the next byte must be.
+// UTF-8: whether bytes are a well-formed text. Most texts are ASCII alone, which one quick pass tells; any other is read by the library.
 ghost use Rattle.std.specs.Prelude.{◌≡◌, max};
 ghost use Rattle.std.specs.List.{fold};
 ghost use Rattle.syntax.specs.Utf8.{utf8, is_ascii};
-ghost use Rattle.syntax.specs.Utf8Scan.{Steps};
-
-// What the bytes read so far ask of the next ones: how many must come to end a character, and the range of the first of them.
-#[derive(Clone, Copy)]
-struct Pending {
-    count: u8,
-    low: u8,
-    high: u8,
-}
-
-// Nothing: a character may begin.
-const NOTHING: Pending = Pending {
-    count: 0,
-    low: 0,
-    high: 0,
-};
 
 // Whether the bytes are UTF-8.
+#[tactic(auto, using(crate::proofs::Utf8Laws::ascii_utf8))]
 pub fn is_utf8(s: &[u8]) -> bool
     ensures { result ≡ utf8 s.now }
 {
@@ -28,6 +12,7 @@ pub fn is_utf8(s: &[u8]) -> bool
 }
 
 // Whether the bytes are ASCII alone. All are looked at in any case, so that the compiler takes many at once.
+#[tactic(auto, using(crate::proofs::Utf8Laws::highest_ascii))]
 pub fn is_ascii(s: &[u8]) -> bool
     ensures { result ≡ is_ascii s.now }
 {
@@ -40,57 +25,12 @@ fn highest(s: &[u8]) -> u8
     s.iter().fold(0, |highest: u8, b| highest.max(*b))
 }
 
-// Whether the bytes are UTF-8, byte by byte.
+// The same, character by character. The library's words for UTF-8 and Table 3-7 agree, by `library_agrees`. It is not inlined, so that the
+// quick pass has fewer registers to save.
+#[inline(never)]
+#[tactic(auto, using(crate::proofs::LibraryLaws::library_agrees))]
 fn is_well_formed(s: &[u8]) -> bool
     ensures { result ≡ utf8 s.now }
 {
-    let mut n = NOTHING;
-    for b in s {
-        let Some(after) = pending_after(n, *b) else {
-            return false;
-        };
-        n = after;
-    }
-    n.count == 0
-}
-
-// What is asked after one byte more; none where no byte can mend what was read.
-fn pending_after(n: Pending, b: u8) -> Option<Pending>
-    ensures { Steps n.count n.low n.high b result }
-{
-    if n.count == 0 {
-        return lead(b);
-    }
-    if b < n.low || n.high < b {
-        return None;
-    }
-    Some(Pending {
-        count: n.count - 1,
-        low: 0x80,
-        high: 0xBF,
-    })
-}
-
-// What a first byte asks: the rows of Table 3-7.
-fn lead(b: u8) -> Option<Pending>
-    ensures { Steps 0 0 0 b result }
-{
-    match b {
-        0x00..=0x7F => Some(NOTHING),
-        0xC2..=0xDF => Some(asks(1, 0x80, 0xBF)),
-        0xE0 => Some(asks(2, 0xA0, 0xBF)),
-        0xE1..=0xEC => Some(asks(2, 0x80, 0xBF)),
-        0xED => Some(asks(2, 0x80, 0x9F)),
-        0xEE..=0xEF => Some(asks(2, 0x80, 0xBF)),
-        0xF0 => Some(asks(3, 0x90, 0xBF)),
-        0xF1..=0xF3 => Some(asks(3, 0x80, 0xBF)),
-        0xF4 => Some(asks(3, 0x80, 0x8F)),
-        _ => None,
-    }
-}
-
-fn asks(count: u8, low: u8, high: u8) -> Pending
-    ensures { result ≡ record { count = count; low = low; high = high } }
-{
-    Pending { count, low, high }
+    std::str::from_utf8(s).is_ok()
 }
