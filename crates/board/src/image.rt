@@ -6,6 +6,8 @@ ghost use Rattle.board.specs.Image.{category, parent, first_feature, features_of
 ghost use Rattle.board.specs.Image as meant;
 ghost use Rattle.syntax.specs.Text.{same};
 
+use Section::{Components, Connections, Diagnostics, Features, Properties, Strings};
+
 // The sections, in the order in which the image has them.
 #[derive(Clone, Copy, PartialEq, Eq, Debug)]
 pub enum Section {
@@ -24,48 +26,53 @@ pub const NUMBER_SIZE: usize = 4;
 pub const PAIR_SIZE: usize = 8;
 
 // The numbers of a string's record, in their order.
-pub const STRING_OFFSET: u32 = 0;
-
-pub const STRING_LENGTH: u32 = 1;
+#[derive(Clone, Copy)]
+pub(crate) enum Text {
+    Offset,
+    Length,
+}
 
 // Those of a component's.
-pub const CATEGORY: u32 = 0;
-
-pub const PARENT: u32 = 1;
-
-pub const FIRST_FEATURE: u32 = 2;
-
-pub const FEATURE_COUNT: u32 = 3;
-
-pub const WIRED: u32 = 4;
+#[derive(Clone, Copy)]
+pub(crate) enum Component {
+    Category,
+    Parent,
+    FirstFeature,
+    Features,
+    Wired,
+}
 
 // Those of a feature's.
-pub const FEATURE_NAME: u32 = 0;
-
-pub const FEATURE_KIND: u32 = 1;
-
-pub const DIRECTION: u32 = 2;
+#[derive(Clone, Copy)]
+pub(crate) enum Feature {
+    Name,
+    Kind,
+    Direction,
+}
 
 // Those of a connection's.
-pub const OWNER: u32 = 0;
-
-pub const SOURCE: u32 = 1;
-
-pub const TARGET: u32 = 2;
+#[derive(Clone, Copy)]
+pub(crate) enum Connection {
+    Owner,
+    Source,
+    Target,
+}
 
 // Those of a property's.
-pub const PROPERTY_COMPONENT: u32 = 0;
-
-pub const PROPERTY_SET: u32 = 1;
-
-pub const PROPERTY_NAME: u32 = 2;
+#[derive(Clone, Copy)]
+pub(crate) enum Property {
+    Component,
+    Set,
+    Name,
+}
 
 // Those of a diagnostic's.
-pub const ANALYSIS: u32 = 0;
-
-pub const SEVERITY: u32 = 1;
-
-pub const MESSAGE: u32 = 2;
+#[derive(Clone, Copy)]
+pub(crate) enum Diagnostic {
+    Analysis,
+    Severity,
+    Message,
+}
 
 // How many records a section has.
 pub fn record_count(image: &[u8], section: Section) -> u32
@@ -90,111 +97,111 @@ pub fn field(image: &[u8], section: Section, index: u32, number: u32) -> u32
 pub fn category(image: &[u8], component: u32) -> u32
     ensures { result ≡ category image.now component }
 {
-    field(image, Section::Components, component, CATEGORY)
+    field(image, Components, component, Component::Category as u32)
 }
 
 // Its parent's number plus 1, or 0 where it has none.
 pub fn parent(image: &[u8], component: u32) -> u32
     ensures { result ≡ parent image.now component }
 {
-    field(image, Section::Components, component, PARENT)
+    field(image, Components, component, Component::Parent as u32)
 }
 
 // The number of its first feature, and how many it has.
 pub fn first_feature(image: &[u8], component: u32) -> u32
     ensures { result ≡ first_feature image.now component }
 {
-    field(image, Section::Components, component, FIRST_FEATURE)
+    field(image, Components, component, Component::FirstFeature as u32)
 }
 
 pub fn features_of(image: &[u8], component: u32) -> u32
     ensures { result ≡ features_of image.now component }
 {
-    field(image, Section::Components, component, FEATURE_COUNT)
+    field(image, Components, component, Component::Features as u32)
 }
 
 // Its wired mark.
 pub fn wired(image: &[u8], component: u32) -> u32
     ensures { result ≡ wired image.now component }
 {
-    field(image, Section::Components, component, WIRED)
+    field(image, Components, component, Component::Wired as u32)
 }
 
 // The string of a feature's name, its kind and its direction.
 pub fn feature_name(image: &[u8], feature: u32) -> u32
     ensures { result ≡ feature_name image.now feature }
 {
-    field(image, Section::Features, feature, FEATURE_NAME)
+    field(image, Features, feature, Feature::Name as u32)
 }
 
 pub fn feature_kind(image: &[u8], feature: u32) -> u32
     ensures { result ≡ feature_kind image.now feature }
 {
-    field(image, Section::Features, feature, FEATURE_KIND)
+    field(image, Features, feature, Feature::Kind as u32)
 }
 
 pub fn direction(image: &[u8], feature: u32) -> u32
     ensures { result ≡ direction image.now feature }
 {
-    field(image, Section::Features, feature, DIRECTION)
+    field(image, Features, feature, Feature::Direction as u32)
 }
 
 // The component that owns a connection.
 pub fn owner(image: &[u8], connection: u32) -> u32
     ensures { result ≡ owner image.now connection }
 {
-    field(image, Section::Connections, connection, OWNER)
+    field(image, Connections, connection, Connection::Owner as u32)
 }
 
 // The strings of the features' names at its ends, each plus 1, or 0 where there is no such end.
 pub fn source(image: &[u8], connection: u32) -> u32
     ensures { result ≡ source image.now connection }
 {
-    field(image, Section::Connections, connection, SOURCE)
+    field(image, Connections, connection, Connection::Source as u32)
 }
 
 pub fn target(image: &[u8], connection: u32) -> u32
     ensures { result ≡ target image.now connection }
 {
-    field(image, Section::Connections, connection, TARGET)
+    field(image, Connections, connection, Connection::Target as u32)
 }
 
 // The component that has a property, and the strings of the property's set and name.
 pub fn property_component(image: &[u8], property: u32) -> u32
     ensures { result ≡ property_component image.now property }
 {
-    field(image, Section::Properties, property, PROPERTY_COMPONENT)
+    field(image, Properties, property, Property::Component as u32)
 }
 
 pub fn property_set(image: &[u8], property: u32) -> u32
     ensures { result ≡ property_set image.now property }
 {
-    field(image, Section::Properties, property, PROPERTY_SET)
+    field(image, Properties, property, Property::Set as u32)
 }
 
 pub fn property_name(image: &[u8], property: u32) -> u32
     ensures { result ≡ property_name image.now property }
 {
-    field(image, Section::Properties, property, PROPERTY_NAME)
+    field(image, Properties, property, Property::Name as u32)
 }
 
 // The string of a diagnostic's analysis, its severity, and the string of its message.
 pub fn analysis(image: &[u8], diagnostic: u32) -> u32
     ensures { result ≡ analysis image.now diagnostic }
 {
-    field(image, Section::Diagnostics, diagnostic, ANALYSIS)
+    field(image, Diagnostics, diagnostic, Diagnostic::Analysis as u32)
 }
 
 pub fn severity(image: &[u8], diagnostic: u32) -> u32
     ensures { result ≡ severity image.now diagnostic }
 {
-    field(image, Section::Diagnostics, diagnostic, SEVERITY)
+    field(image, Diagnostics, diagnostic, Diagnostic::Severity as u32)
 }
 
 pub fn message(image: &[u8], diagnostic: u32) -> u32
     ensures { result ≡ message image.now diagnostic }
 {
-    field(image, Section::Diagnostics, diagnostic, MESSAGE)
+    field(image, Diagnostics, diagnostic, Diagnostic::Message as u32)
 }
 
 // The text of a string, a part of the image; empty where it does not lie in the image.
@@ -202,8 +209,8 @@ pub fn string(image: &[u8], number: u32) -> &[u8]
     ensures { result.now ≡ text image.now number }
 {
     let letters = section_offset(image, Section::Letters) as usize;
-    let from = letters + field(image, Section::Strings, number, STRING_OFFSET) as usize;
-    let end = from + field(image, Section::Strings, number, STRING_LENGTH) as usize;
+    let from = letters + field(image, Strings, number, Text::Offset as u32) as usize;
+    let end = from + field(image, Strings, number, Text::Length as u32) as usize;
     image.get(from..end).unwrap_or(&[])
 }
 

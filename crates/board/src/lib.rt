@@ -10,7 +10,7 @@ ghost use Rattle.board.specs.Check.{each, whole_records, all_whole_records, sect
 ghost use Rattle.board.specs.CheckScan.{component_at, below_at, all_below};
 ghost use Rattle.board.specs.CheckScan as meant;
 
-use image::Section;
+use image::{Component, Section, Text};
 use syntax::refusal::Refusal;
 use syntax::utf8;
 
@@ -139,8 +139,8 @@ impl<'a> Sectioned<'a> {
         let mut next = 0;
         for n in 0..image::record_count(image, Section::Strings) as usize {
             let at = first + image::PAIR_SIZE * n;
-            let offset = image::number_at(image, at, image::STRING_OFFSET) as usize;
-            let length = image::number_at(image, at, image::STRING_LENGTH) as usize;
+            let offset = image::number_at(image, at, Text::Offset as u32) as usize;
+            let length = image::number_at(image, at, Text::Length as u32) as usize;
             if offset != next {
                 return false;
             }
@@ -172,8 +172,8 @@ impl<'a> Sectioned<'a> {
         let mut next = 0;
         for n in 0..components as usize {
             let at = start + COMPONENT_SIZE * n;
-            let first = image::number_at(image, at, image::FIRST_FEATURE) as usize;
-            let count = image::number_at(image, at, image::FEATURE_COUNT) as usize;
+            let first = image::number_at(image, at, Component::FirstFeature as u32) as usize;
+            let count = image::number_at(image, at, Component::Features as u32) as usize;
             if first != next || !component_fits(image, at, components) {
                 return false;
             }
@@ -241,9 +241,9 @@ fn component_fits(image: &[u8], at: usize, components: u32) -> bool
     requires { at + meant.COMPONENT_SIZE ≤ length image.now }
     ensures { result ≡ component_at image.now at components }
 {
-    image::number_at(image, at, image::CATEGORY) < CATEGORIES
-        && image::number_at(image, at, image::PARENT) <= components
-        && image::number_at(image, at, image::WIRED) < WIRED_MARKS
+    image::number_at(image, at, Component::Category as u32) < CATEGORIES
+        && image::number_at(image, at, Component::Parent as u32) <= components
+        && image::number_at(image, at, Component::Wired as u32) < WIRED_MARKS
 }
 
 // Whether the three numbers of each of so many records from a place on are below their limits.
