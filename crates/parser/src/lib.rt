@@ -116,7 +116,7 @@ fn past_last(rule: &[u8], tokens: &[u32], kind: Kind) -> usize
     0
 }
 
-// A row of four numbers from `at` on.
+// A row of four numbers from `at` on. It is no more than a copy, which each crate has for its own rows: for all, it would test each place.
 fn put_row(table: &mut [u32], at: usize, row: [u32; 4])
     requires { at + 4 ≤ length table.old }
     ensures { table.new ≡ sets table.old at row }
@@ -262,7 +262,7 @@ impl<'a> ExprParser<'a> {
     }
 }
 
-// Token consumption.
+// Token consumption. Each token is written on the way to one of another kind, so that a `while` says it.
 impl ExprParser<'_> {
     // The blanks that come next.
     fn eat_ws(&mut self)
@@ -483,7 +483,7 @@ impl ExprParser<'_> {
         }
     }
 
-    // ( '.' method )*: the blanks after the last call stay in the pipeline.
+    // ( '.' method )*: the blanks after the last call stay in the pipeline. The loop ends behind them and before what is no call.
     fn parse_calls(&mut self)
         requires { Asks self.old (parse Calls) }
         ensures { Did self.old self.new (parse Calls) }
@@ -573,7 +573,8 @@ impl ExprParser<'_> {
 //          | 'message' '.' 'contains' '(' STRING ')'
 //          | '(' or_expr ')'
 //
-// An operand alone is its own node; more than one stand in a BINARY_EXPR.
+// An operand alone is its own node; more than one stand in a BINARY_EXPR. The first two rules are two functions, as in parser.rs: what they
+// share would take the next rule as a closure, and a closure handed around a cycle of calls gets no proof.
 impl ExprParser<'_> {
     // A node only where an `or` stands ahead.
     #[cycle(parse_or_expr)]

@@ -5,7 +5,7 @@ ghost use Rattle.report.specs.Error.{message_text, error_text};
 use message::ErrorRow;
 use texts::{Writer, place};
 
-// The room for a message. One of a rule that is not too long fits.
+// The room for a message, on the stack as the library has no heap. One of a rule that is not too long fits.
 const ROOM: usize = 1024;
 
 // The lines of an error row: the message, the line of the rule and the mark below it.
