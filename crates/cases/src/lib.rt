@@ -1,4 +1,5 @@
-// Reading and replaying a file of cases: decimal numbers, each with a byte after it, and texts, each with its length before it and a byte after it.
+// Reading a file of cases and replaying them: decimal numbers, each with a byte after it, and texts, each with its length before it and a
+// byte after it.
 #![tactic(auto)]
 
 pub mod noise;
