@@ -3,7 +3,7 @@
 ghost use Rattle.std.specs.Prelude.{◌≡◌, ◌++◌, ◌≤◌, length};
 ghost use Rattle.board.specs.Check.{MAX_IMAGE};
 ghost use Rattle.syntax.specs.Table.{with_rows};
-ghost use Rattle.calls.specs.Numbers.{value_amount, outcome_amount, verdict_number};
+ghost use Rattle.calls.specs.Numbers.{value_amount, outcome_amount};
 ghost use Rattle.abi.specs.Numbers.{value_numbers, outcome_numbers, reading_numbers, row_numbers, RowsFew};
 ghost use Rattle.abi.specs.Numbers as meant;
 
@@ -24,7 +24,7 @@ pub(crate) fn outcome_numbers(outcome: Outcome, verdict: Verdict) -> [u32; PART]
     requires { outcome_amount outcome ≤ MAX_IMAGE }
     ensures { result ≡ outcome_numbers outcome verdict }
 {
-    let last = verdict_number(verdict);
+    let last = u32::from(verdict);
     match outcome {
         Ok(value) => value_numbers(value, last),
         Err(r) => [0, u32::from(r), 0, last],
@@ -51,8 +51,8 @@ pub(crate) fn reading_numbers(reading: Reading) -> [u32; PART]
     ensures { result ≡ reading_numbers reading }
 {
     match reading {
-        Ok(_) => [READ, 0, 0, verdict_number(Verdict::Open)],
-        Err(r) => [0, u32::from(r), 0, verdict_number(Verdict::Refused)],
+        Ok(_) => [READ, 0, 0, u32::from(Verdict::Open)],
+        Err(r) => [0, u32::from(r), 0, u32::from(Verdict::Refused)],
     }
 }
 
@@ -74,16 +74,4 @@ pub(crate) fn write(answer: &mut [u32], first: [u32; PART], second: [u32; PART])
 {
     answer[..PART].copy_from_slice(&first);
     answer[PART..ANSWER].copy_from_slice(&second);
-}
-
-// The number of a verdict.
-fn verdict_number(verdict: Verdict) -> u32
-    ensures { result ≡ verdict_number verdict }
-{
-    match verdict {
-        Verdict::Pass => 0,
-        Verdict::Fail => 1,
-        Verdict::Refused => 2,
-        Verdict::Open => 3,
-    }
 }

@@ -1,3 +1,4 @@
 pub mod AnswerLaws
 pub mod CompareLaws
 pub mod MethodLaws
+pub mod TableLaws

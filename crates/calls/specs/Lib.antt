@@ -1,3 +1,4 @@
 pub mod Answer
 pub mod Integer
 pub mod Numbers
+pub mod Table

@@ -1,4 +1,7 @@
 // What a rule comes to, and the verdict on it.
+ghost use Rattle.std.specs.Prelude.{◌≡◌};
+ghost use Rattle.calls.specs.Numbers.{verdict_number};
+
 use syntax::refusal::Refusal;
 
 // A collection by the number of its members, which stand in the collection table; a boolean, or one that is warned because it is said
@@ -16,11 +19,19 @@ pub enum Value {
 // What running a rule gives: a value, or a refusal.
 pub type Outcome = Result<Value, Refusal>;
 
-// What an outcome says of a board. Open: neither true nor false.
+// What an outcome says of a board, with the number by which it is known. Open: neither true nor false.
 #[derive(Clone, Copy, PartialEq, Eq, Debug)]
 pub enum Verdict {
-    Pass,
-    Fail,
-    Refused,
-    Open,
+    Pass = 0,
+    Fail = 1,
+    Refused = 2,
+    Open = 3,
+}
+
+impl From<Verdict> for u32 {
+    ghost from_gives = { λ verdict n. n ≡ verdict_number verdict };
+
+    fn from(verdict: Verdict) -> u32 {
+        verdict as u32
+    }
 }

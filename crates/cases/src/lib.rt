@@ -1,4 +1,5 @@
-// Reading a file of cases: decimal numbers, each with a byte after it, and texts, each with its length before it and a byte after it.
+// Reading a file of cases and replaying them: decimal numbers, each with a byte after it, and texts, each with its length before it and a
+// byte after it.
 #![tactic(auto)]
 
 pub mod noise;
@@ -7,6 +8,8 @@ ghost use Rattle.std.specs.Prelude.{◌≡◌, ◌↔◌, ◌+◌, ◌<◌, ◌�
 ghost use Rattle.cases.specs.File.{is_digit_of, number, past_number};
 ghost use Rattle.std.specs.Iterator.{at_most};
 
+use std::io;
+use std::io::Write;
 use std::marker::PhantomData;
 
 // The number at the front of the input, and what is left past the byte that ends it. One above 9,999,999 is cut short.
@@ -105,4 +108,22 @@ impl<'a, C: Case<'a>> Iterator for Cases<'a, C> {
             }
         }
     }
+}
+
+// A case that is run by itself.
+pub trait Replayed<'a>: Case<'a> + Drop {
+    // Runs the case, and prints what it gives.
+    fn run<W: Write>(self, out: &mut W) -> io::Result<()>;
+}
+
+// Runs the cases of a file from the first on, and stops at one that is not in the format.
+pub fn replay<'a, C: Replayed<'a>, W: Write>(out: &mut W, input: &'a [u8]) -> io::Result<()> {
+    for (i, case) in Cases::<C>::new(input).enumerate() {
+        let Some(case) = case else {
+            return writeln!(out, "not a case");
+        };
+        writeln!(out, "case {}", i + 1)?;
+        case.run(out)?;
+    }
+    Ok(())
 }

@@ -11,8 +11,8 @@ use borrow.Author.Tests.{ne_eqb, eqb-true, not-true, not-false}
 use lib.Dec.{eqb}
 use Rattle.syntax.specs.Text.{same}
 use Rattle.syntax.proofs.BoolLaws.{whether, neither}
-use Rattle.board.specs.Image.{text, parent, first_feature, feature_name, connection_count, owner, property_count}
-use Rattle.instance.specs.Instance.{some, is_wired, component_connected, joins, feature_connected, owner_unwired, owners_wired, is_property, has_property, features_end, feature_is, has_feature}
+use Rattle.board.specs.Image.{text, parent, first_feature, feature_name, connection_count, owner}
+use Rattle.instance.specs.Instance.{some, is_wired, component_connected, joins, feature_connected, owner_unwired, owners_wired, features_end, feature_is, has_feature}
 
 -- records are passed over up to n and none passes: whether some does is for those from n to `end` to say
 pub record Searching (passes : ℕ → Bool) (end n : ℕ) (whole : Bool) : Type 0 where
@@ -48,11 +48,11 @@ module _ (image : List ℕ) (component feature : ℕ) where
   unfolding feature_connected
   feature_whole e h = rw (sym e ∙ h)
 
-  pub connections_start : {r : Bool} {f count : ℕ} {t : List ℕ} → r ≡ component_connected image component → r ≡ false
-      → f ≡ feature_name image feature → t ≡ text image f → count ≡ connection_count image
-      → Searching (joins image component t) count 0 (feature_connected image component feature)
+  pub connections_whole : {r : Bool} {f : ℕ} {t : List ℕ} → r ≡ component_connected image component → r ≡ false
+      → f ≡ feature_name image feature → t ≡ text image f
+      → some (joins image component t) 0 (connection_count image) ≡ feature_connected image component feature
   unfolding feature_connected
-  connections_start {r} {f} {count} {t} e h d g k = record { rest = rw (sym e ∙ h, ← d, ← g, ← k, sub-zero count) }
+  connections_whole e h d g = rw (sym e ∙ h, ← d, ← g)
 
 -- ---- the owners of connections
 
@@ -99,11 +99,6 @@ module _ (image : List ℕ) where
   connected_with_owner h component feature =
       whether (component_connected image component) (λ e. rw e)
       (λ e. rw (e, some_none (owner_unwired image) (joins image component (text image (feature_name image feature))) (none_joins component (text image (feature_name image feature)) e) 0 (connection_count image) (not-true (some (owner_unwired image) 0 (connection_count image)) h)))
-
-pub properties_start : (image : List ℕ) (component : ℕ) (set name : List ℕ) {count : ℕ} → count ≡ property_count image
-    → Searching (is_property image component set name) count 0 (has_property image component set name)
-unfolding has_property
-properties_start image component set name {count} e = record { rest = rw (← e, sub-zero count) }
 
 pub features_start : (image : List ℕ) (component : ℕ) (name : List ℕ) {end n : ℕ} → end ≡ features_end image component → n ≡ first_feature image component
     → Searching (feature_is image name) end n (has_feature image component name)

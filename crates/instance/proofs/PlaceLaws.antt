@@ -4,17 +4,18 @@ use mathlib.Core.Path.{◌≡◌, sym, subst, ◌∙◌}
 use mathlib.Core.Bool.{Bool, true, false, cond, ◌||◌, or-false, or_self}
 use mathlib.Core.List.{List}
 use Prim.Native.Nat.{ℕ, zero, suc, ◌+◌, ◌*◌, ◌-◌, ◌≤◌, ◌<◌}
-use native.Mathlib.Nat.{add-zero}
+use native.Mathlib.Nat.{add-zero, sub-zero}
 use native.Mathlib.Numerals.{add-one}
 use native.Mathlib.Omega.{arith}
 use borrow.Author.Tests.{eq-eqb, ne_eqb, le-leb}
 use lib.Dec.{eqb, eqb-suc-zero, eqb-suc-suc}
 use lib.ListN.{length, take, length-take}
 use lib.Seq.{get_or-take}
-use Rattle.board.specs.Image.{NUMBER_SIZE, little_endian, word, field, section_offset, wired, owner}
+use Rattle.board.specs.Image.{NUMBER_SIZE, little_endian, word, field, section_offset, record_count, connection_count, property_count, wired, owner}
+use Rattle.board.specs.declared.image.Section.{Section}
 use Rattle.board.specs.declared.image.Section.TheVariants.{Components, Connections, Features, Properties}
-use Rattle.instance.specs.Instance.{some, joins, owner_unwired, is_property, feature_is}
-use Rattle.instance.specs.Places.{RECORD_SIZE, COMPONENT_SIZE, FIFTH, other_owner, joins_at, is_property_at, feature_is_at, Skipped}
+use Rattle.instance.specs.Instance.{some, joins, owner_unwired, is_property, has_property, feature_is}
+use Rattle.instance.specs.Places.{RECORD_SIZE, COMPONENT_SIZE, FIFTH, other_owner, joins_at, is_property_at, feature_is_at, Skipped, IsOwned, record_passes}
 use Rattle.instance.proofs.InstanceLaws.{Searching, searching_hit, searching_miss, searching_done}
 
 -- a number that lies in an image's front is the image's
@@ -41,18 +42,31 @@ owners owner component (suc p) =
     rw (add-one owner, eqb-suc-zero p, eqb-suc-suc owner p, before)
 
 -- a record and what stands at its place
+connection_placed : (image : List ℕ) (component : ℕ) {other : ℕ} (name : List ℕ) → other ≡ other_owner image component
+    → (n : ℕ) → joins image component name n ≡ record_passes (joins_at image component other name) image Connections n
+unfolding joins joins_at other_owner field
+connection_placed image component name f n = rw (f, add-zero (section_offset image Connections + RECORD_SIZE * n), owners)
+
+property_placed : (image : List ℕ) (component : ℕ) (set name : List ℕ)
+    → (n : ℕ) → is_property image component set name n ≡ record_passes (is_property_at image component set name) image Properties n
+unfolding is_property is_property_at field
+property_placed image component set name n = rw (add-zero (section_offset image Properties + RECORD_SIZE * n))
+
+-- so what is said of the places is said of the records
+pub connections_placed : (image : List ℕ) (component : ℕ) {other : ℕ} (name : List ℕ) {r : Bool} → other ≡ other_owner image component
+    → r ≡ some (record_passes (joins_at image component other name) image Connections) 0 (record_count image Connections)
+    → r ≡ some (joins image component name) 0 (connection_count image)
+connections_placed image component name f e =
+    e ∙ sym (λ j. some (λ n. connection_placed image component name f n j) 0 (connection_count image))
+
+pub properties_whole : (image : List ℕ) (component : ℕ) (set name : List ℕ) {r : Bool}
+    → r ≡ some (record_passes (is_property_at image component set name) image Properties) 0 (record_count image Properties)
+    → r ≡ has_property image component set name
+unfolding has_property
+properties_whole image component set name e =
+    e ∙ sym (λ j. some (λ n. property_placed image component set name n j) 0 (property_count image))
+
 module _ (image : List ℕ) {first : ℕ} where
-  pub connection_placed : {other : ℕ} (component : ℕ) (name : List ℕ) → first ≡ section_offset image Connections → other ≡ other_owner image component
-      → (n : ℕ) → joins image component name n ≡ joins_at image component other name (first + RECORD_SIZE * n)
-  unfolding joins joins_at other_owner field
-  connection_placed component name e f n =
-      rw (f, e, add-zero (section_offset image Connections + RECORD_SIZE * n), owners)
-
-  pub property_placed : (component : ℕ) (set name : List ℕ) → first ≡ section_offset image Properties
-      → (n : ℕ) → is_property image component set name n ≡ is_property_at image component set name (first + RECORD_SIZE * n)
-  unfolding is_property is_property_at field
-  property_placed component set name e n = rw (e, add-zero (section_offset image Properties + RECORD_SIZE * n))
-
   pub feature_placed : (name : List ℕ) → first ≡ section_offset image Features
       → (n : ℕ) → feature_is_at image name (first + RECORD_SIZE * n) ≡ feature_is image name n
   unfolding feature_is feature_is_at field
@@ -88,10 +102,10 @@ pub record Walking (passes : ℕ → Bool) (first count at : ℕ) (whole : Bool)
   pub place : at ≡ first + RECORD_SIZE * n
   pub rest : Searching (λ n. passes (first + RECORD_SIZE * n)) count n whole
 
-pub walking_start : {passes p : ℕ → Bool} {first count : ℕ} {whole : Bool} → ((n : ℕ) → p n ≡ passes (first + RECORD_SIZE * n))
-    → Searching p count 0 whole → Walking passes first count first whole
-walking_start {first} {count} e s =
-    record { n = 0; place = sym (add-zero first); rest = record { rest = sym (λ j. some (λ n. e n j) 0 (count - 0)) ∙ s.rest } }
+pub walking_start : (p : ℕ → Bool) (image : List ℕ) (section : Section) {first count : ℕ} → first ≡ section_offset image section
+    → count ≡ record_count image section → Walking p first count first (some (record_passes p image section) 0 (record_count image section))
+walking_start p image section {first} {count} e f =
+    record { n = 0; place = sym (add-zero first); rest = record { rest = rw (e, f, sub-zero (record_count image section)) } }
 
 module _ {passes : ℕ → Bool} {first count at : ℕ} {whole : Bool} (w : Walking passes first count at whole) where
   -- the record at a place before the section's end
@@ -130,15 +144,11 @@ walking_over p w (Skipped.past {at} s h a b) = walking_miss (walking_over p w s)
 front_inside : (image : List ℕ) (end at : ℕ) → at + NUMBER_SIZE ≤ length (take end image) → at < end
 front_inside image end at h = omega (arith, length-take end image)
 
-module _ (image : List ℕ) (component : ℕ) {records : List ℕ} {first count : ℕ} (e : records ≡ take (first + RECORD_SIZE * count) image) where
-  pub connections_passing : (other : ℕ) (name : List ℕ) → Passing (joins_at image component other name) first count records component other
-  connections_passing other name = rw e (record {
-    inside = front_inside image (first + RECORD_SIZE * count);
-    unlike = λ at h a b. sym (joins_foreign image component other name at (word_front image (first + RECORD_SIZE * count) at h) a b);
-  })
-
-  pub properties_passing : (set name : List ℕ) → Passing (is_property_at image component set name) first count records component component
-  properties_passing set name = rw e (record {
-    inside = front_inside image (first + RECORD_SIZE * count);
-    unlike = λ at h a b. sym (property_elsewhere image component set name at (word_front image (first + RECORD_SIZE * count) at h) a);
-  })
+pub owned_passing : {p : ℕ → Bool} (image : List ℕ) {records : List ℕ} {one other first count : ℕ} → IsOwned p image one other
+    → records ≡ take (first + RECORD_SIZE * count) image → Passing p first count records one other
+owned_passing {p} image {records} {one} {other} {first} {count} o e =
+    let end : ℕ = first + RECORD_SIZE * count in
+    rw e (record {
+      inside = front_inside image end;
+      unlike = λ at h a b. o at (omega (arith, length-take end image)) (λ d. a (word_front image end at h ∙ d)) (λ d. b (word_front image end at h ∙ d));
+    })

@@ -1,8 +1,9 @@
 -- The records of a section by the places of their bytes: what only the private functions' contracts need. Assumes nothing: these are
 -- definitions.
-use Rattle.std.specs.Prelude.{◌≡◌, ℕ, ◌+◌, ◌-◌, ◌≤◌, Bool, cond, ◌&&◌, ◌||◌, List, eqb, length}
+use Rattle.std.specs.Prelude.{◌≡◌, ℕ, ◌+◌, ◌*◌, ◌-◌, ◌≤◌, ◌<◌, Bool, false, cond, ◌&&◌, ◌||◌, List, eqb, length}
 use Rattle.syntax.specs.Text.{same}
-use Rattle.board.specs.Image.{NUMBER_SIZE, word, text, parent}
+use Rattle.board.specs.declared.image.Section.{Section}
+use Rattle.board.specs.Image.{NUMBER_SIZE, word, text, parent, section_offset}
 use Rattle.instance.specs.Instance.{end_is}
 
 -- the bytes of a connection, a feature or a property, which have three numbers each, and where the second and the third of these are
@@ -46,6 +47,18 @@ is_property_at image component set name at =
 -- whether the feature at a place has this name
 unfoldable pub feature_is_at : List ℕ → List ℕ → ℕ → Bool
 feature_is_at image name at = same (text image (word image at)) name
+
+-- a test of places says what p does, and p is false of a record there whose first number is neither of two
+abbrev pub Tells : (ℕ → Bool → Type 0) → (ℕ → Bool) → Type 0
+Tells says p = (at : ℕ) (r : Bool) → at < PLACES → says at r → r ≡ p at
+
+abbrev pub IsOwned : (ℕ → Bool) → List ℕ → (one other : ℕ) → Type 0
+IsOwned p image one other =
+    (at : ℕ) → at + NUMBER_SIZE ≤ length image → (word image at ≡ one → ⊥) → (word image at ≡ other → ⊥) → p at ≡ false
+
+-- whether p is true of the place of a section's record of three numbers
+abbrev pub record_passes : (ℕ → Bool) → List ℕ → Section → ℕ → Bool
+record_passes p image section n = p (section_offset image section + RECORD_SIZE * n)
 
 -- records passed over from a place on, the first number of each there and neither of two
 pub data Skipped (records : List ℕ) (one other from : ℕ) : ℕ → Type 0 where

@@ -1,9 +1,10 @@
 // What eval.rs asks of a `SystemInstance`, asked of a board image. Any image, component, feature and text is taken.
 #![tactic(auto)]
 
-ghost use Rattle.std.specs.Prelude.{◌≡◌, ◌<◌, take};
-ghost use Rattle.instance.specs.Instance.{component_connected, end_is, feature_connected, owners_wired, has_property, features_end, has_feature};
-ghost use Rattle.instance.specs.Places.{PLACES, other_owner, joins_at, is_property_at, feature_is_at, Skipped};
+ghost use Rattle.std.specs.Prelude.{◌≡◌, ◌<◌, ℕ, Bool, take};
+ghost use Rattle.instance.specs.Instance.{some, component_connected, end_is, feature_connected, owners_wired, has_property, features_end, has_feature};
+ghost use Rattle.instance.specs.Places.{PLACES, other_owner, joins_at, is_property_at, feature_is_at, Skipped, Tells, IsOwned, record_passes};
+ghost use Rattle.board.specs.Image.{record_count};
 
 use board::image;
 use board::image::Section;
@@ -44,22 +45,9 @@ pub fn feature_connected(image: &[u8], component: u32, feature: u32) -> bool
     }
     let name = image::string(image, image::feature_name(image, feature));
     let other = other_owner(image, component);
-    let first = image::section_offset(image, Section::Connections) as usize;
-    let count = image::record_count(image, Section::Connections) as usize;
-    let end = first + RECORD_SIZE * count;
-    let records = front(image, end);
-    let mut at = first;
-    while at < end {
-        let here = next_owned(records, at, component, other);
-        if end <= here {
-            return false;
-        }
-        if joins(image, component, other, name, here) {
-            return true;
-        }
-        at = here + RECORD_SIZE;
-    }
-    false
+    any_owned(image, Section::Connections, component, other, |at| {
+        joins(image, component, other, name, at)
+    })
 }
 
 // Whether the owner of every connection is wired: then a feature is connected where its component is, and nowhere else. By `all` over the
@@ -87,6 +75,35 @@ fn other_owner(image: &[u8], component: u32) -> u32
     image::parent(image, component)
         .checked_sub(1)
         .unwrap_or(component)
+}
+
+// Whether some record of a section, of three numbers each, passes a test that only those pass whose first number is one of two.
+fn any_owned<F: Fn(usize) -> bool>(
+    image: &[u8],
+    section: Section,
+    one: u32,
+    other: u32,
+    test: F,
+) -> bool
+    requires callable { (at : ℕ) → at < PLACES → F.pre test at }
+    ensures { (p : ℕ → Bool) → Tells (F.post test) p → IsOwned p image.now one other → result ≡ some (record_passes p image.now section) 0 (record_count image.now section) }
+{
+    let first = image::section_offset(image, section) as usize;
+    let count = image::record_count(image, section) as usize;
+    let end = first + RECORD_SIZE * count;
+    let records = front(image, end);
+    let mut at = first;
+    while at < end {
+        let here = next_owned(records, at, one, other);
+        if end <= here {
+            return false;
+        }
+        if test(here) {
+            return true;
+        }
+        at = here + RECORD_SIZE;
+    }
+    false
 }
 
 // The image up to a place, as far as it goes.
@@ -147,22 +164,9 @@ fn end_is(image: &[u8], end: u32, name: &[u8]) -> bool
 pub fn has_property(image: &[u8], component: u32, set: &[u8], name: &[u8]) -> bool
     ensures { result ≡ has_property image.now component set.now name.now }
 {
-    let first = image::section_offset(image, Section::Properties) as usize;
-    let count = image::record_count(image, Section::Properties) as usize;
-    let end = first + RECORD_SIZE * count;
-    let records = front(image, end);
-    let mut at = first;
-    while at < end {
-        let here = next_owned(records, at, component, component);
-        if end <= here {
-            return false;
-        }
-        if is_property(image, component, set, name, here) {
-            return true;
-        }
-        at = here + RECORD_SIZE;
-    }
-    false
+    any_owned(image, Section::Properties, component, component, |at| {
+        is_property(image, component, set, name, at)
+    })
 }
 
 // Whether the property at a place is the component's and of this set and name.

@@ -1,9 +1,29 @@
 // The values of the fields that a board has as numbers, from 0 on in the order of the numbers.
-ghost use Rattle.matching.specs.Words.{Numbered, category_number, category_words, feature_kind_number, feature_kind_words, direction_number, direction_words, severity_number, severity_words};
+ghost use Rattle.std.specs.Prelude.{◌≡◌, ℕ, List, [], get_or, Result};
+ghost use Rattle.matching.specs.declared.value.UnknownNumber.{UnknownNumber};
+ghost use Rattle.matching.specs.Words.{Numbered, one_of, category_number, category_words, feature_kind_number, feature_kind_words, direction_number, direction_words, severity_number, severity_words};
 
 // A number that no value of the field has.
 #[derive(Clone, Copy, PartialEq, Eq)]
 pub struct UnknownNumber(pub u32);
+
+// A field's value, which a board has as a number and a rule as a word.
+pub trait FieldValue: TryFrom<u32, Error = UnknownNumber> {
+    ghost number: { Self → ℕ };
+
+    // The words for each number.
+    ghost words: { List (List (List ℕ)) };
+
+    // The text that is compared with them: what was typed, folded or as it is.
+    ghost compared: { List ℕ → List ℕ };
+
+    // Whether the word is one for this value.
+    fn is_meant_by(self, value: &[u8]) -> bool
+        ensures { result ≡ one_of (compared value.now) (get_or words (number self) []) };
+
+    // A value is the one that has its number, and a number that no value has, has no words.
+    ghost numbered: { (n : ℕ) (r : Result Self UnknownNumber) → Self.try_from_gives n r → Numbered number words n r };
+}
 
 // What a component is.
 #[derive(Clone, Copy, PartialEq, Eq)]

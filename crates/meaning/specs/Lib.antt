@@ -7,3 +7,4 @@ pub mod Outcome
 pub mod Cases
 pub mod Holds
 pub mod Demand3
+pub mod Numbers

@@ -5,12 +5,11 @@
 
 ghost use Rattle.std.specs.Prelude.{◌≤◌};
 
-use cases::{Cases, noise};
+use cases::{noise, replay};
 use message::ErrorRow;
 use std::io;
 use std::io::Write;
 use syntax::text;
-use trees::Rows;
 
 // The most numbers that a token table, and a tree table or an error table, has in a case.
 const TOKENS: usize = 1520;
@@ -23,19 +22,7 @@ const SEED: usize = 0;
 fn main(rt: HostRuntime) -> io::Result<()> {
     let mut input = [0u8; 262144];
     let n = streams::read_full(&mut rt.stdin(), &mut input)?;
-    replay(&mut rt.stdout(), &input[..n])
-}
-
-// Runs the cases from the first on, and stops at one that is not in the format.
-fn replay<W: Write>(out: &mut W, input: &[u8]) -> io::Result<()> {
-    for (i, case) in Cases::<Case>::new(input).enumerate() {
-        let Some(case) = case else {
-            return writeln!(out, "not a case");
-        };
-        writeln!(out, "case {}", i + 1)?;
-        run_case(out, case)?;
-    }
-    Ok(())
+    replay::<Case, _>(&mut rt.stdout(), &input[..n])
 }
 
 // A rule, and the lengths of the tables that it is read into.
@@ -69,18 +56,20 @@ impl<'a> cases::Case<'a> for Case<'a> {
     }
 }
 
-// Reads the rule into tables of so many numbers.
-fn run_case<W: Write>(out: &mut W, case: Case<'_>) -> io::Result<()> {
-    let mut tokens = noise::table::<TOKENS>(SEED);
-    let mut tree = noise::table::<ROWS>(SEED);
-    let mut errors = noise::table::<ROWS>(SEED);
-    run_in(
-        out,
-        case.rule,
-        &mut tokens[..case.tokens],
-        &mut tree[..case.tree],
-        &mut errors[..case.errors],
-    )
+impl<'a> cases::Replayed<'a> for Case<'a> {
+    // Reads the rule into tables of so many numbers.
+    fn run<W: Write>(self, out: &mut W) -> io::Result<()> {
+        let mut tokens = noise::table::<TOKENS>(SEED);
+        let mut tree = noise::table::<ROWS>(SEED);
+        let mut errors = noise::table::<ROWS>(SEED);
+        run_in(
+            out,
+            self.rule,
+            &mut tokens[..self.tokens],
+            &mut tree[..self.tree],
+            &mut errors[..self.errors],
+        )
+    }
 }
 
 fn run_in<W: Write>(
@@ -91,19 +80,15 @@ fn run_in<W: Write>(
     errors: &mut [u32],
 ) -> io::Result<()> {
     match parser::parse_expr(rule, tokens, tree, errors) {
-        Ok(
-            Rows {
-                tokens: a,
-                tree: b,
-                errors: c,
-            },
-        ) => {
-            print_tokens(out, tokens, a)?;
-            print_tree(out, tree, b)?;
-            print_errors(out, rule, errors, c)?;
+        Ok(rows) => {
+            print_tokens(out, tokens, rows.tokens)?;
+            print_tree(out, tree, rows.tree)?;
+            print_errors(out, rule, errors, rows.errors)?;
             print_kept(
                 out,
-                is_kept::<3>(tokens, a) && is_kept::<4>(tree, b) && is_kept::<4>(errors, c),
+                is_kept::<3>(tokens, rows.tokens)
+                    && is_kept::<4>(tree, rows.tree)
+                    && is_kept::<4>(errors, rows.errors),
             )
         }
         Err(refusal) => {

@@ -15,7 +15,6 @@ use std::rt::Env;
 use std::{fs, io, str};
 use syntax::text;
 use texts::Writer;
-use trees::Rows;
 
 // One byte more than a rule and an image may have: what fills the buffer is too long, whatever follows.
 const RULE: usize = 501;
@@ -152,17 +151,11 @@ fn run_rule<W: Write>(out: &mut W, image: &[u8], rule: &[u8]) -> io::Result<()> 
     print_lines::<LINES, _, _>(out, |lines| answer::write_head(ran.outcome, lines))?;
     match ran.reading {
         Err(_) => Ok(()),
-        Ok(
-            Rows {
-                tokens: _,
-                tree,
-                errors,
-            },
-        ) => {
-            print_errors(out, rule, rows::first::<4>(&tables.errors, errors))?;
+        Ok(rows) => {
+            print_errors(out, rule, rows::first::<4>(&tables.errors, rows.errors))?;
             print_members(out, image, ran.outcome, &tables.collection)?;
             if matches!(ran.verdict, Verdict::Fail) {
-                return print_failing(out, image, rule, rows::first::<4>(&tables.tree, tree));
+                return print_failing(out, image, rule, rows::first::<4>(&tables.tree, rows.tree));
             }
             Ok(())
         }

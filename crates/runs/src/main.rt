@@ -6,11 +6,11 @@
 
 ghost use Rattle.std.specs.Prelude.{◌<◌, ◌≤◌};
 
-use calls::value::{Outcome, Value, Verdict};
+use calls::value::{Outcome, Value};
 use cases::{Cases, noise};
 use std::io;
 use std::io::Write;
-use trees::{Reading, Rows};
+use trees::Reading;
 
 // The most numbers that each table has in a run: tokens, tree and errors, collection.
 const TOKENS: usize = 1520;
@@ -136,7 +136,7 @@ fn print_run<W: Write>(
 ) -> io::Result<()> {
     let answer = eval::run(rule, image, tokens, tree, errors, collection);
     print_outcome(out, answer.outcome)?;
-    write!(out, "{} ", verdict_number(answer.verdict))?;
+    write!(out, "{} ", u32::from(answer.verdict))?;
     print_reading(out, answer.reading)?;
     write!(out, "{} {} ", digest(tokens), digest(tree))?;
     writeln!(out, "{} {}", digest(errors), digest(collection))?;
@@ -159,25 +159,10 @@ fn print_outcome<W: Write>(out: &mut W, outcome: Outcome) -> io::Result<()> {
     }
 }
 
-fn verdict_number(verdict: Verdict) -> u8 {
-    match verdict {
-        Verdict::Pass => 0,
-        Verdict::Fail => 1,
-        Verdict::Refused => 2,
-        Verdict::Open => 3,
-    }
-}
-
 // Whether there are numbers of rows, and those of token, tree and error rows.
 fn print_reading<W: Write>(out: &mut W, reading: Reading) -> io::Result<()> {
     match reading {
-        Ok(
-            Rows {
-                tokens,
-                tree,
-                errors,
-            },
-        ) => writeln!(out, "1 {tokens} {tree} {errors}"),
+        Ok(rows) => writeln!(out, "1 {} {} {}", rows.tokens, rows.tree, rows.errors),
         Err(_) => writeln!(out, "0 0 0 0"),
     }
 }

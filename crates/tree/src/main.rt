@@ -6,7 +6,6 @@ use rows::{ROWS, TOKENS};
 use std::io;
 use std::io::Write;
 use syntax::text;
-use trees::Rows;
 
 // One byte more than a rule may have: a rule that fills the buffer is too long, whatever follows.
 const BUFFER: usize = 501;
@@ -24,16 +23,10 @@ fn print_reading<W: Write>(out: &mut W, rule: &[u8]) -> io::Result<()> {
     let mut tree = [0; ROWS];
     let mut errors = [0; ROWS];
     match parser::parse_expr(rule, &mut tokens, &mut tree, &mut errors) {
-        Ok(
-            Rows {
-                tokens: _,
-                tree: n,
-                errors: found,
-            },
-        ) => {
-            print_tree(out, &tree, n)?;
-            writeln!(out, "errors {found}")?;
-            print_messages(out, rule, &errors, found)
+        Ok(rows) => {
+            print_tree(out, &tree, rows.tree)?;
+            writeln!(out, "errors {}", rows.errors)?;
+            print_messages(out, rule, &errors, rows.errors)
         }
         Err(refusal) => writeln!(out, "refused {}", u32::from(refusal)),
     }

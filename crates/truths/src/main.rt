@@ -8,14 +8,13 @@ ghost use Rattle.std.specs.Prelude.{◌≤◌, length};
 
 use board::image;
 use board::image::Section;
-use cases::Cases;
+use cases::replay;
 use predicate::atom::Member;
 use rows::{ROWS, TOKENS};
 use std::io;
 use std::io::Write;
 use syntax::kind;
 use syntax::refusal::Refusal;
-use trees::Rows;
 
 // The numbers of a collection table that every board has room in.
 const COLLECTION: usize = 65536;
@@ -23,19 +22,7 @@ const COLLECTION: usize = 65536;
 fn main(rt: HostRuntime) -> io::Result<()> {
     let mut input = [0u8; 262144];
     let n = streams::read_full(&mut rt.stdin(), &mut input)?;
-    replay(&mut rt.stdout(), &input[..n])
-}
-
-// Runs the cases from the first on, and stops at one that is not in the format.
-fn replay<W: Write>(out: &mut W, input: &[u8]) -> io::Result<()> {
-    for (i, case) in Cases::<Case>::new(input).enumerate() {
-        let Some(case) = case else {
-            return writeln!(out, "not a case");
-        };
-        writeln!(out, "case {}", i + 1)?;
-        run_case(out, case)?;
-    }
-    Ok(())
+    replay::<Case, _>(&mut rt.stdout(), &input[..n])
 }
 
 // A board image, a rule, and the sort of the members that its predicate is asked of.
@@ -57,28 +44,24 @@ impl<'a> cases::Case<'a> for Case<'a> {
     }
 }
 
-// Reads the rule, checks the image, and prints a line: a digit for each member, or why there are none.
-fn run_case<W: Write>(out: &mut W, case: Case<'_>) -> io::Result<()> {
-    let mut tokens = [0; TOKENS];
-    let mut tree = [0; ROWS];
-    let mut errors = [0; ROWS];
-    match parser::parse_expr(case.rule, &mut tokens, &mut tree, &mut errors) {
-        Err(refusal) => print_refusal(out, refusal),
-        Ok(
-            Rows {
-                tokens: _,
-                tree: n,
-                errors: found,
-            },
-        ) => match board::check_image(case.image, COLLECTION) {
+impl<'a> cases::Replayed<'a> for Case<'a> {
+    // Reads the rule, checks the image, and prints a line: a digit for each member, or why there are none.
+    fn run<W: Write>(self, out: &mut W) -> io::Result<()> {
+        let mut tokens = [0; TOKENS];
+        let mut tree = [0; ROWS];
+        let mut errors = [0; ROWS];
+        match parser::parse_expr(self.rule, &mut tokens, &mut tree, &mut errors) {
             Err(refusal) => print_refusal(out, refusal),
-            Ok(()) => {
-                if found != 0 {
-                    return writeln!(out, "errors {found}");
+            Ok(rows) => match board::check_image(self.image, COLLECTION) {
+                Err(refusal) => print_refusal(out, refusal),
+                Ok(()) => {
+                    if rows.errors != 0 {
+                        return writeln!(out, "errors {}", rows.errors);
+                    }
+                    print_truths(out, self, rows::first::<4>(&tree, rows.tree))
                 }
-                print_truths(out, case, rows::first::<4>(&tree, n))
-            }
-        },
+            },
+        }
     }
 }
 
@@ -171,7 +154,7 @@ fn print_features_of<W: Write>(
     component: u32,
 ) -> io::Result<()> {
     let image = predicate.image;
-    let first = image::field(image, Section::Components, component, image::FIRST_FEATURE);
+    let first = image::first_feature(image, component);
     for feature in first..instance::features_end(image, component) {
         predicate.print_truth(out, Member::Feature(component, feature))?;
     }

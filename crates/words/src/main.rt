@@ -15,7 +15,6 @@ use std::io;
 use std::io::{Read, Write};
 use syntax::refusal::Refusal;
 use texts::Writer;
-use trees::Rows;
 
 // How many bytes the image has, and where its components begin.
 const IMAGE: usize = 575;
@@ -247,17 +246,11 @@ fn print_rule<W: Write>(out: &mut W, rule: &[u8]) -> io::Result<()> {
     let mut tree = [0; ROWS];
     let mut errors = [0; ROWS];
     match parser::parse_expr(rule, &mut tokens, &mut tree, &mut errors) {
-        Ok(
-            Rows {
-                tokens: _,
-                tree: _,
-                errors: found,
-            },
-        ) => {
-            for row in rows::first::<4>(&errors, found) {
+        Ok(rows) => {
+            for row in rows::first::<4>(&errors, rows.errors) {
                 print_error(out, rule, row)?;
             }
-            if found == 0 {
+            if rows.errors == 0 {
                 return print_witness(out, rule, &tree);
             }
             Ok(())
