@@ -125,13 +125,7 @@ fn print_errors<W: Write>(out: &mut W, rule: &[u8], table: &[u32], n: usize) -> 
         let [form, expected, first, end] = *row;
         writeln!(out, "{form} {expected} {first} {end}")?;
         let mut line = [0u8; 4096];
-        let row = ErrorRow {
-            form,
-            expected,
-            first,
-            end,
-        };
-        match message::write_message(rule, row, &mut line) {
+        match message::write_message(rule, ErrorRow::from(*row), &mut line) {
             Some(n) => out.write_all(text::part(&line, 0, n))?,
             None => out.write_all(b"no room")?,
         }

@@ -179,13 +179,7 @@ fn print_lines<const ROOM: usize, W: Write, F: FnOnce(&mut Writer<'_>)>(
 // The parse errors, each with the rule's line and a mark under the place.
 fn print_errors<W: Write>(out: &mut W, rule: &[u8], errors: &[[u32; 4]]) -> io::Result<()> {
     for row in errors {
-        let [form, expected, first, end] = *row;
-        let row = ErrorRow {
-            form,
-            expected,
-            first,
-            end,
-        };
+        let row = ErrorRow::from(*row);
         print_lines::<LINES, _, _>(out, |lines| error::write_error(rule, row, lines))?;
     }
     Ok(())

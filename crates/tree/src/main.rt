@@ -44,15 +44,8 @@ fn print_tree<W: Write>(out: &mut W, table: &[u32], n: usize) -> io::Result<()> 
 // Prints the messages of the first n error rows, or of as many as there are.
 fn print_messages<W: Write>(out: &mut W, rule: &[u8], errors: &[u32], n: usize) -> io::Result<()> {
     for row in rows::first::<4>(errors, n) {
-        let [form, expected, first, end] = *row;
         let mut line = [0u8; 4096];
-        let row = ErrorRow {
-            form,
-            expected,
-            first,
-            end,
-        };
-        match message::write_message(rule, row, &mut line) {
+        match message::write_message(rule, ErrorRow::from(*row), &mut line) {
             Some(n) => out.write_all(text::part(&line, 0, n))?,
             None => out.write_all(b"a message too long to print")?,
         }

@@ -35,7 +35,8 @@ fn main(rt: HostRuntime) -> io::Result<()> {
     print_rules(&mut out, &mut rt.stdin())
 }
 
-// Prints what is written to an empty place.
+// Prints what is written to an empty place. One function for this program and `rule` would be public, and a public function asks nothing of
+// its callers, as this one does of the closure.
 fn print_lines<W: Write, F: FnOnce(&mut Writer<'_>)>(out: &mut W, write: F) -> io::Result<()>
     requires { F.IsAlwaysCallable write }
 {
@@ -266,12 +267,6 @@ fn print_witness<W: Write>(out: &mut W, rule: &[u8], tree: &[u32]) -> io::Result
 }
 
 fn print_error<W: Write>(out: &mut W, rule: &[u8], row: &[u32; 4]) -> io::Result<()> {
-    let [form, expected, first, end] = *row;
-    let row = ErrorRow {
-        form,
-        expected,
-        first,
-        end,
-    };
+    let row = ErrorRow::from(*row);
     print_lines(out, |lines| error::write_error(rule, row, lines))
 }
