@@ -1,17 +1,16 @@
 // The atoms of predicates: `connected`, `has('..')`, `field == '..'` and `message.contains('..')`, of one member of a board.
-ghost use Rattle.std.specs.Prelude.{◌≡◌, ◌+◌, ◌≤◌, length};
+ghost use Rattle.std.specs.Prelude.{◌≡◌};
 ghost use Rattle.syntax.specs.Kind.{BINARY_EXPR, UNARY_EXPR, PAREN_EXPR};
 ghost use Rattle.predicate.specs.Truth.{connected, has_property_of, has, compares, message_contains, literal_of};
-ghost use Rattle.predicate.specs.Rows.{ROW, kind_at, children_at};
-ghost use Rattle.predicate.specs.Eval.{truth_at};
+ghost use Rattle.predicate.specs.Rows.{kind_at, children_at};
+ghost use Rattle.predicate.specs.Eval.{settled_at};
 
-use crate::{Evaluator, node};
+use crate::{Evaluator, node, rows};
 use board::image;
-use board::image::Section;
 use instance;
 use matching;
 use matching::search;
-use syntax::kind;
+use syntax::kind::Kind;
 
 // A member of a collection: a component, a component's feature, or a diagnostic, by their indexes on the board.
 #[derive(Clone, Copy)]
@@ -24,15 +23,14 @@ pub enum Member {
 impl<'a> Evaluator<'a> {
     // Whether the atom whose row is at a place is true of the member.
     pub(crate) fn eval_atom(&self, at: usize) -> bool
-        requires row { at + ROW ≤ length self.now.tree.now }
-        requires atom { (kind_at self.now.tree.now at ≡ BINARY_EXPR → ⊥) × (kind_at self.now.tree.now at ≡ UNARY_EXPR → ⊥) × (kind_at self.now.tree.now at ≡ PAREN_EXPR → ⊥) }
-        ensures { result ≡ truth_at self.now at }
+        requires { (kind_at self.now.tree.now at ≡ BINARY_EXPR → ⊥) × (kind_at self.now.tree.now at ≡ UNARY_EXPR → ⊥) × (kind_at self.now.tree.now at ≡ PAREN_EXPR → ⊥) }
+        ensures { result ≡ settled_at self.now at }
     {
-        match self.tree[at] {
-            kind::IDENT_EXPR => self.member.connected(self.image),
-            kind::CALL_EXPR => self.member.has(self.image, self.value(at)),
-            kind::CONTAINS_EXPR => self.member.message_contains(self.image, self.value(at)),
-            kind::COMPARE_EXPR => {
+        match rows::kind_at(self.tree, at) {
+            Ok(Kind::IdentExpr) => self.member.connected(self.image),
+            Ok(Kind::CallExpr) => self.member.has(self.image, self.value(at)),
+            Ok(Kind::ContainsExpr) => self.member.message_contains(self.image, self.value(at)),
+            Ok(Kind::CompareExpr) => {
                 let field = node::ident(self.rule, self.tree, at);
                 self.member.compares(self.image, field, self.value(at))
             }
@@ -100,8 +98,7 @@ impl Member {
         let Member::Diagnostic(diagnostic) = self else {
             return false;
         };
-        let message = image::field(image, Section::Diagnostics, diagnostic, image::MESSAGE);
-        search::contains(image::string(image, message), value)
+        search::contains(image::string(image, image::message(image, diagnostic)), value)
     }
 }
 
@@ -121,12 +118,10 @@ fn feature_compares(image: &[u8], component: u32, feature: u32, field: &[u8], va
     ensures { result ≡ compares image.now (Member.Feature component feature) field.now value.now }
 {
     if field == b"kind".as_slice() {
-        let kind = image::field(image, Section::Features, feature, image::FEATURE_KIND);
-        return matching::feature_kind_matches(kind, value);
+        return matching::feature_kind_matches(image::feature_kind(image, feature), value);
     }
     if field == b"direction".as_slice() {
-        let direction = image::field(image, Section::Features, feature, image::DIRECTION);
-        return matching::direction_matches(direction, value);
+        return matching::direction_matches(image::direction(image, feature), value);
     }
     category_is(image, component, field, value)
 }
@@ -137,10 +132,7 @@ fn category_is(image: &[u8], component: u32, field: &[u8], value: &[u8]) -> bool
     ensures { result ≡ compares image.now (Member.Component component) field.now value.now }
 {
     field == b"category".as_slice()
-        && matching::category_matches(
-            image::field(image, Section::Components, component, image::CATEGORY),
-            value,
-        )
+        && matching::category_matches(image::category(image, component), value)
 }
 
 // The same of a diagnostic.
@@ -149,8 +141,5 @@ fn severity_is(image: &[u8], diagnostic: u32, field: &[u8], value: &[u8]) -> boo
     ensures { result ≡ compares image.now (Member.Diagnostic diagnostic) field.now value.now }
 {
     field == b"severity".as_slice()
-        && matching::severity_matches(
-            image::field(image, Section::Diagnostics, diagnostic, image::SEVERITY),
-            value,
-        )
+        && matching::severity_matches(image::severity(image, diagnostic), value)
 }
