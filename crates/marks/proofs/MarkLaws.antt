@@ -134,22 +134,6 @@ module _ (image set_name name : List ℕ) (property : ℕ) (marks : List ℕ) {r
     unfolding marked
     owner_outside l = rw (sym e ∙ not-false r h, ← f) (sym (set_out marks owner 1 l))
 
--- ---- a text, parted where `::` was found, whole where it was not
-
-module _ (image value : List ℕ) (n : ℕ) where
-  by_found : {f : Option ℕ} → find (ascii "::") value ≡ f → property_marks image (set_before f value) (name_after f value) 0 n ≡ marks_of image value n
-  unfolding marks_of property_set_of property_name_of
-  by_found e = sym (ap (λ (f : Option ℕ). property_marks image (set_before f value) (name_after f value) 0 n) e)
-
-  pub marks_whole : find (ascii "::") value ≡ None → property_marks image [] value 0 n ≡ marks_of image value n
-  marks_whole e = by_found e
-
-  pub marks_parted : {at : ℕ} → find (ascii "::") value ≡ Some at
-      → property_marks image (take at value) (take (length value - (at + 2)) (drop (at + 2) value)) 0 n ≡ marks_of image value n
-  marks_parted {at} e =
-      ap (λ (name : List ℕ). property_marks image (take at value) name 0 n) (take_all (length value - (at + 2)) (drop (at + 2) value) (omega (arith, length-drop (at + 2) value)))
-      ∙ by_found e
-
 -- ---- components looked at for a feature
 
 module _ (image name : List ℕ) where

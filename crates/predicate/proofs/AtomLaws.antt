@@ -1,4 +1,4 @@
--- A text found in another, and the truth of a node by its kind. Assumes nothing.
+-- The truth of a node by its kind. Assumes nothing.
 use mathlib.Core.Path.{◌≡◌, sym, ap, ◌∙◌}
 use mathlib.Core.Bool.{Bool, false, cond}
 use mathlib.Core.List.{List, []}
@@ -18,20 +18,6 @@ use Rattle.predicate.specs.Truth.{literal_of, field_of, connected, has_property_
 use Rattle.predicate.specs.Rows.{ROW, kind_at, children_at, node_at}
 use Rattle.predicate.specs.Eval.{truth_at, settled_at}
 
--- a component's property by a text: parted where `::` was found, whole where it was not
-module _ (image : List ℕ) (component : ℕ) (value : List ℕ) where
-  by_found : {f : Option ℕ} → find (ascii "::") value ≡ f → has_property_of image component value ≡ has_property image component (set_before f value) (name_after f value)
-  unfolding has_property_of property_set_of property_name_of
-  by_found e = ap (λ (f : Option ℕ). has_property image component (set_before f value) (name_after f value)) e
-
-  pub property_whole : find (ascii "::") value ≡ None → has_property image component [] value ≡ has_property_of image component value
-  property_whole e = sym (by_found e)
-
-  pub property_parted : {at : ℕ} → find (ascii "::") value ≡ Some at → has_property image component (take at value) (take (length value - (at + 2)) (drop (at + 2) value)) ≡ has_property_of image component value
-  property_parted {at} e =
-      ap (has_property image component (take at value)) (take_all (length value - (at + 2)) (drop (at + 2) value) (omega (arith, length-drop (at + 2) value)))
-      ∙ sym (by_found e)
-
 -- a node by the kind of its row and its children
 module _ (ev : Evaluator) (at : ℕ) where
   abbrev of_kind : ℕ → Bool
@@ -48,31 +34,33 @@ module _ (ev : Evaluator) (at : ℕ) where
   pub settled_kind : {kind : ℕ} → kind_at ev.tree.now at ≡ kind → of_kind kind ≡ settled_at ev at
   settled_kind e = sym (ap of_kind e)
 
-  pub settled_ident : kind_at ev.tree.now at ≡ IDENT_EXPR → connected ev.image.now ev.member ≡ settled_at ev at
-  unfolding sort_of settle
-  settled_ident e = settled_kind e
-
-  -- by the texts inside
-  module _ {value : List ℕ} (v : value ≡ literal_of (children_at ev.rule.now ev.tree.now at)) where
-    pub settled_call : kind_at ev.tree.now at ≡ CALL_EXPR → has ev.image.now ev.member value ≡ settled_at ev at
+  module _ {r : Bool} where
+    pub settled_ident : kind_at ev.tree.now at ≡ IDENT_EXPR → r ≡ connected ev.image.now ev.member → r ≡ settled_at ev at
     unfolding sort_of settle
-    settled_call e = ap (has ev.image.now ev.member) v ∙ settled_kind e
+    settled_ident e h = h ∙ settled_kind e
 
-    pub settled_contains : kind_at ev.tree.now at ≡ CONTAINS_EXPR → message_contains ev.image.now ev.member value ≡ settled_at ev at
-    unfolding sort_of settle
-    settled_contains e = ap (message_contains ev.image.now ev.member) v ∙ settled_kind e
+    -- by the texts inside
+    module _ {value : List ℕ} (v : value ≡ literal_of (children_at ev.rule.now ev.tree.now at)) where
+      pub settled_call : kind_at ev.tree.now at ≡ CALL_EXPR → r ≡ has ev.image.now ev.member value → r ≡ settled_at ev at
+      unfolding sort_of settle
+      settled_call e h = h ∙ ap (has ev.image.now ev.member) v ∙ settled_kind e
 
-    pub settled_compare : {field : List ℕ} → field ≡ field_of (children_at ev.rule.now ev.tree.now at) → kind_at ev.tree.now at ≡ COMPARE_EXPR
-        → compares ev.image.now ev.member field value ≡ settled_at ev at
-    unfolding sort_of settle
-    settled_compare {field} f e =
-        ap (compares ev.image.now ev.member field) v
-        ∙ ap (λ (x : List ℕ). compares ev.image.now ev.member x (literal_of (children_at ev.rule.now ev.tree.now at))) f
-        ∙ settled_kind e
+      pub settled_contains : kind_at ev.tree.now at ≡ CONTAINS_EXPR → r ≡ message_contains ev.image.now ev.member value → r ≡ settled_at ev at
+      unfolding sort_of settle
+      settled_contains e h = h ∙ ap (message_contains ev.image.now ev.member) v ∙ settled_kind e
 
-  pub settled_other : (kind_at ev.tree.now at ≡ BINARY_EXPR → ⊥) × (kind_at ev.tree.now at ≡ UNARY_EXPR → ⊥) × (kind_at ev.tree.now at ≡ PAREN_EXPR → ⊥)
+      pub settled_compare : {field : List ℕ} → field ≡ field_of (children_at ev.rule.now ev.tree.now at) → kind_at ev.tree.now at ≡ COMPARE_EXPR
+          → r ≡ compares ev.image.now ev.member field value → r ≡ settled_at ev at
+      unfolding sort_of settle
+      settled_compare {field} f e h =
+          h
+          ∙ ap (compares ev.image.now ev.member field) v
+          ∙ ap (λ (x : List ℕ). compares ev.image.now ev.member x (literal_of (children_at ev.rule.now ev.tree.now at))) f
+          ∙ settled_kind e
+
+  pub settled_other : (kind_at ev.tree.now at ≡ BINARY_EXPR → ⊥) → (kind_at ev.tree.now at ≡ UNARY_EXPR → ⊥) → (kind_at ev.tree.now at ≡ PAREN_EXPR → ⊥)
       → (kind_at ev.tree.now at ≡ IDENT_EXPR → ⊥) → (kind_at ev.tree.now at ≡ CALL_EXPR → ⊥) → (kind_at ev.tree.now at ≡ CONTAINS_EXPR → ⊥) → (kind_at ev.tree.now at ≡ COMPARE_EXPR → ⊥)
       → false ≡ settled_at ev at
   unfolding sort_of settle
-  settled_other a i c n q =
-      sym (rw (ne_eqb _ BINARY_EXPR a.0, ne_eqb _ UNARY_EXPR a.1, ne_eqb _ PAREN_EXPR a.2, ne_eqb _ IDENT_EXPR i, ne_eqb _ CALL_EXPR c, ne_eqb _ CONTAINS_EXPR n, ne_eqb _ COMPARE_EXPR q))
+  settled_other b u p i c n q =
+      sym (rw (ne_eqb _ BINARY_EXPR b, ne_eqb _ UNARY_EXPR u, ne_eqb _ PAREN_EXPR p, ne_eqb _ IDENT_EXPR i, ne_eqb _ CALL_EXPR c, ne_eqb _ CONTAINS_EXPR n, ne_eqb _ COMPARE_EXPR q))

@@ -22,6 +22,7 @@ pub enum Member {
 
 impl<'a> Evaluator<'a> {
     // Whether the atom whose row is at a place is true of the member.
+    #[tactic(auto, using(crate::proofs::AtomLaws::settled_ident, crate::proofs::AtomLaws::settled_call, crate::proofs::AtomLaws::settled_contains, crate::proofs::AtomLaws::settled_compare, crate::proofs::AtomLaws::settled_other))]
     pub(crate) fn eval_atom(&self, at: usize) -> bool
         requires { (kind_at self.now.tree.now at ≡ BINARY_EXPR → ⊥) × (kind_at self.now.tree.now at ≡ UNARY_EXPR → ⊥) × (kind_at self.now.tree.now at ≡ PAREN_EXPR → ⊥) }
         ensures { result ≡ settled_at self.now at }
@@ -102,14 +103,13 @@ impl Member {
     }
 }
 
-// Whether a component has the property that a text names: its set and its name, parted by the first `::`.
+// Whether a component has the property that a text names.
+#[tactic(auto, unfolding(crate::specs::Truth::has_property_of))]
 fn has_property_of(image: &[u8], component: u32, value: &[u8]) -> bool
     ensures { result ≡ has_property_of image.now component value.now }
 {
-    match search::find(value, b"::") {
-        Some(at) => instance::has_property(image, component, &value[..at], &value[at + 2..]),
-        None => instance::has_property(image, component, b"", value),
-    }
+    let (set, name) = search::parted(value);
+    instance::has_property(image, component, set, name)
 }
 
 // `field == '..'` of a feature.

@@ -61,6 +61,7 @@ pub(crate) fn is_node(kind: u32) -> bool
 }
 
 // Whether it is that of one of the six comparison operators.
+#[tactic(auto, unfolding(trees::specs::Look::is_comparison))]
 fn is_comparison(kind: u32) -> bool
     ensures { result ≡ is_comparison kind }
 {
