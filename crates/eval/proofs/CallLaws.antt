@@ -68,7 +68,7 @@ call_row_lem rule tree row = λ i. record { method = method_of (first_text IDENT
 -- ---- what ignores rows that fail a test, by the first row of the tree
 
 module _ {A : Type 0} {test : ℕ → Bool} {of : Forest → A} (i : Ignores test of) (rule tree : List ℕ) (level row : ℕ) (h : row + ROW ≤ length tree) where
-  pub ignored_past : level ≤ level_at tree row → row_passes test tree level row ≡ false → of (forest_from rule tree level row) ≡ of (forest_from rule tree level (row + ROW))
+  ignored_past : level ≤ level_at tree row → row_passes test tree level row ≡ false → of (forest_from rule tree level row) ≡ of (forest_from rule tree level (row + ROW))
   unfolding row_passes
   ignored_past l p = whether (eqb (level_at tree row) level) same deeper
     where
@@ -95,7 +95,7 @@ unfolding calls_of
 calls_ignores = record { tokens = λ t f e. refl; nodes = λ k s f l e. rw (e, calls_of) }
 
 module _ (rule tree : List ℕ) (level row : ℕ) (h : row + ROW ≤ length tree) where
-  pub calls_here : row_passes (of_kind DOT_CALL) tree level row ≡ true
+  calls_here : row_passes (of_kind DOT_CALL) tree level row ≡ true
       → calls_of (forest_from rule tree level row) ≡ call_of (children_at rule tree row) ∷ calls_of (forest_from rule tree level (row + ROW))
   unfolding calls_of row_passes
   calls_here p =
@@ -105,7 +105,7 @@ module _ (rule tree : List ℕ) (level row : ℕ) (h : row + ROW ≤ length tree
       ap calls_of (forest_node rule tree level row h l (omega arith))
       ∙ rw (q.1, calls_of) (ap (λ (n : ℕ). call_of (forest_from rule tree (n + 1) (row + ROW)) ∷ calls_of (forest_from rule tree level (row + ROW))) (sym l))
 
-  pub calls_past : level ≤ level_at tree row → row_passes (of_kind DOT_CALL) tree level row ≡ false
+  calls_past : level ≤ level_at tree row → row_passes (of_kind DOT_CALL) tree level row ≡ false
       → calls_of (forest_from rule tree level row) ≡ calls_of (forest_from rule tree level (row + ROW))
   calls_past l p = ignored_past calls_ignores rule tree level row h l p
 

@@ -54,9 +54,9 @@ pub(crate) fn eval_node(rule: &[u8], image: &[u8], tree: &[u32], collection: &mu
 
 impl Evaluator<'_> {
     // `eval_pipeline`, of the PIPELINE_EXPR whose row is at a place.
-    fn eval_pipeline(self, at: usize, calls: &mut [Call], collection: &mut [u32]) -> Outcome
-        requires { (meant.CALLS ≤ length calls.old) × Lent self.image.now collection.old × FewCalls self.rule.now self.tree.now at }
-        ensures { Evaluates (eval_pipeline self.entry.image.now (children_at self.entry.rule.now self.entry.tree.now at)) collection.old collection.new result }
+    fn eval_pipeline(&self, at: usize, calls: &mut [Call], collection: &mut [u32]) -> Outcome
+        requires { (meant.CALLS ≤ length calls.old) × Lent self.now.image.now collection.old × FewCalls self.now.rule.now self.now.tree.now at }
+        ensures { Evaluates (eval_pipeline self.now.image.now (children_at self.now.rule.now self.now.tree.now at)) collection.old collection.new result }
     {
         let plan = ready::plan_pipeline(self.rule, self.tree, at, calls)?;
         let calls = &calls[..plan.calls];
@@ -74,9 +74,9 @@ impl Evaluator<'_> {
 
     // `eval_count_compare`, of the COUNT_COMPARE_EXPR whose row is at a place: the left side is judged before the integer. Where there is no
     // operator it is as with `!=`.
-    fn eval_count_compare(self, at: usize, calls: &mut [Call], collection: &mut [u32]) -> Outcome
-        requires { (meant.CALLS ≤ length calls.old) × Lent self.image.now collection.old × FewCalls self.rule.now self.tree.now at }
-        ensures { Evaluates (eval_count_compare self.entry.image.now (children_at self.entry.rule.now self.entry.tree.now at)) collection.old collection.new result }
+    fn eval_count_compare(&self, at: usize, calls: &mut [Call], collection: &mut [u32]) -> Outcome
+        requires { (meant.CALLS ≤ length calls.old) × Lent self.now.image.now collection.old × FewCalls self.now.rule.now self.now.tree.now at }
+        ensures { Evaluates (eval_count_compare self.now.image.now (children_at self.now.rule.now self.now.tree.now at)) collection.old collection.new result }
     {
         let Some(pipeline) = node::first_child(self.tree, at) else {
             return Err(Refusal::ParseErrors);
@@ -94,9 +94,9 @@ impl Evaluator<'_> {
     }
 
     // How many members arrive by what is planned: a `count` behind the calls keeps their rows out of the collection table.
-    fn count_members(self, plan: Plan, calls: &mut [Call], collection: &mut [u32]) -> usize
-        requires { (plan.source + ROW ≤ length self.tree.now) × (plan.calls < length calls.old) × Lent self.image.now collection.old }
-        ensures { Counts self.entry.rule.now self.entry.image.now self.entry.tree.now plan calls.old collection.old collection.new result }
+    fn count_members(&self, plan: Plan, calls: &mut [Call], collection: &mut [u32]) -> usize
+        requires { (plan.source + ROW ≤ length self.now.tree.now) × (plan.calls < length calls.old) × Lent self.now.image.now collection.old }
+        ensures { Counts self.now.rule.now self.now.image.now self.now.tree.now plan calls.old collection.old collection.new result }
     {
         calls[plan.calls] = Call {
             method: Method::Count,

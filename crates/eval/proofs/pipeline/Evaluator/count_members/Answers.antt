@@ -6,4 +6,4 @@ pub walk-requires : goal.walk-requires
 walk-requires c = record { whole = c.requires.0; well = c.requires.2.well; room = c.requires.2.room; decides = count_decides _ }
 
 pub returns : goal.returns
-returns c = counts c.args.self.rule.now c.args.self.image.now c.args.self.tree.now c.args.plan c.args.calls.now c.requires.1 c.walk.ensures
+returns c = counts c.args.self.now.rule.now c.args.self.now.image.now c.args.self.now.tree.now c.args.plan c.args.calls.now c.requires.1 c.walk.ensures

@@ -8,7 +8,7 @@ use Rattle.eval.specs.Pipeline.{Evaluates}
 use Rattle.eval.proofs.pipeline.Evaluator.eval_pipeline.Goals as goal
 
 pub plan_pipeline-requires : goal.plan_pipeline-requires
-plan_pipeline-requires c = omega (arith, calls_room c.args.self.rule.now c.args.self.tree.now c.args.calls.now c.args.at c.requires.2 c.requires.0)
+plan_pipeline-requires c = omega (arith, calls_room c.args.self.now.rule.now c.args.self.now.tree.now c.args.calls.now c.args.at c.requires.2 c.requires.0)
 
 pub walk-tally-requires : goal.walk-tally-requires
 walk-tally-requires c =
@@ -26,4 +26,4 @@ returns-in_err-plan c =
     subst (Evaluates _ c.args.collection.now c.args.collection.now) (sym is) (refuses _ (subst (Plans _ _ _ _) r c.plan_pipeline.ensures))
 
 pub returns : goal.returns
-returns c = pipeline_given c.args.self.rule.now c.args.self.image.now c.args.self.tree.now c.args.at (subst (Plans _ _ _ _) (c.in_ok-plan.was {u = tt}) c.plan_pipeline.ensures) c.walk-tally.ensures c.last_method-last.ensures c.value.ensures
+returns c = pipeline_given c.args.self.now.rule.now c.args.self.now.image.now c.args.self.now.tree.now c.args.at (subst (Plans _ _ _ _) (c.in_ok-plan.was {u = tt}) c.plan_pipeline.ensures) c.walk-tally.ensures c.last_method-last.ensures c.value.ensures
