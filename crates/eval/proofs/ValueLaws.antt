@@ -5,7 +5,6 @@ use mathlib.Core.List.{List}
 use Prim.Native.Nat.{ℕ, ◌+◌, ◌≤◌, ◌<◌}
 use native.Mathlib.Omega.{arith}
 use lib.Dec.{leb}
-use lib.ListN.{length}
 use borrow.Author.Tests.{ne_eqb, leb-true, leb-false}
 use Rattle.syntax.specs.Kind.{ROOT, EQ_EQ, NEQ, GE, GT, LE, LT}
 use Rattle.syntax.specs.Kinds.{number, Names}

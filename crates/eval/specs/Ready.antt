@@ -1,6 +1,6 @@
 -- The calls of a pipeline made ready for members: each has its method, and the place of its CALL_ARGS in the tree table. Assumes nothing:
 -- these are definitions.
-use Rattle.std.specs.Prelude.{ℕ, ◌+◌, ◌≤◌, ◌<◌, List, ◌++◌, map, cond, ◌≡◌, eqb, length, take, drop, get_or, Option, Some, None, Result, Ok, Err}
+use Rattle.std.specs.Prelude.{ℕ, ◌+◌, ◌≤◌, ◌<◌, List, map, cond, ◌≡◌, eqb, length, take, drop, get_or, Option, Some, None, Result, Ok, Err}
 use Rattle.syntax.specs.Kind.{IDENT, CALL_ARGS, IDENT_EXPR}
 use Rattle.syntax.specs.declared.refusal.Refusal.{Refusal}
 use Rattle.trees.specs.Green.{Forest}
@@ -8,7 +8,7 @@ use Rattle.board.specs.Image.{component_count, diagnostic_count}
 use Rattle.predicate.specs.declared.atom.Member.{Member}
 use Rattle.predicate.specs.declared.atom.Member.TheVariants.{Component, Diagnostic}
 use Rattle.predicate.specs.Truth.{first_text, literal_of}
-use Rattle.predicate.specs.Rows.{ROW, level_at, forest_from, children_at, first_row, of_kind, of_node}
+use Rattle.predicate.specs.Rows.{ROW, level_at, children_at, first_row, of_kind, of_node}
 use Rattle.predicate.specs.Rows.{kind_at as tree_kind}
 use Rattle.predicate.specs.Eval.{FoundAt}
 use Rattle.meaning.specs.Value.{Sort, components, diagnostics, sort_kind, refused}

@@ -9,13 +9,11 @@ use native.Mathlib.Numerals.{add-one}
 use native.Mathlib.Omega.{arith}
 use borrow.Author.Tests.{eq-eqb, ne_eqb, lt-ltb, le-ltb, eqb-true, eqb-false, ltb-true, ltb-false, not-true, not-false}
 use lib.Dec.{eqb, ltb}
-use lib.ListN.{length, get_or, take, drop, set, replicate, length-set, length-drop, length-replicate, get_or-replicate}
-use lib.Seq.{take_all, set_out, get_or-set_same, get_or-set_other, ext_get_or}
-use Rattle.syntax.specs.Text.{ascii}
+use lib.ListN.{length, get_or, set, replicate, length-set, length-replicate, get_or-replicate}
+use lib.Seq.{set_out, get_or-set_same, get_or-set_other, ext_get_or}
 use Rattle.syntax.proofs.BoolLaws.{whether}
 use Rattle.board.specs.Image.{component_count, property_count, property_component}
-use Rattle.std.specs.Prelude.{Option, Some, None}
-use Rattle.matching.specs.Search.{find, set_before, name_after, property_set_of, property_name_of}
+use Rattle.matching.specs.Search.{property_set_of, property_name_of}
 use Rattle.instance.specs.Instance.{some, is_property, has_property, has_feature}
 use Rattle.marks.specs.Marks.{mark_of, is_named, property_marks, marked, marks_of, feature_mark, feature_marks, featured, mark_by}
 

@@ -1,20 +1,14 @@
 -- The truth of a node by its kind. Assumes nothing.
 use mathlib.Core.Path.{◌≡◌, sym, ap, ◌∙◌}
 use mathlib.Core.Bool.{Bool, false, cond}
-use mathlib.Core.List.{List, []}
-use Prim.Native.Nat.{ℕ, ◌+◌, ◌-◌, ◌≤◌}
-use native.Mathlib.Omega.{arith}
-use lib.ListN.{length, take, drop, length-drop}
-use lib.Seq.{take_all}
+use mathlib.Core.List.{List}
+use Prim.Native.Nat.{ℕ, ◌+◌, ◌≤◌}
+use lib.ListN.{length}
 use borrow.Author.Tests.{le-leb, ne_eqb}
 use Rattle.syntax.specs.Kind.{BINARY_EXPR, UNARY_EXPR, COMPARE_EXPR, CALL_EXPR, PAREN_EXPR, IDENT_EXPR, CONTAINS_EXPR}
-use Rattle.syntax.specs.Text.{ascii}
 use Rattle.trees.specs.Green.{Forest, nil, node}
-use Rattle.std.specs.Prelude.{Option, None, Some}
-use Rattle.matching.specs.Search.{find, set_before, name_after, property_set_of, property_name_of}
-use Rattle.instance.specs.Instance.{has_property}
 use Rattle.predicate.specs.declared.Evaluator.{Evaluator}
-use Rattle.predicate.specs.Truth.{literal_of, field_of, connected, has_property_of, has, compares, message_contains, sort_of, settle, truths, truth}
+use Rattle.predicate.specs.Truth.{literal_of, field_of, connected, has, compares, message_contains, sort_of, settle, truths, truth}
 use Rattle.predicate.specs.Rows.{ROW, kind_at, children_at, node_at}
 use Rattle.predicate.specs.Eval.{truth_at, settled_at}
 

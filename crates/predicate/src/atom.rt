@@ -99,7 +99,10 @@ impl Member {
         let Member::Diagnostic(diagnostic) = self else {
             return false;
         };
-        search::contains(image::string(image, image::message(image, diagnostic)), value)
+        search::contains(
+            image::string(image, image::message(image, diagnostic)),
+            value,
+        )
     }
 }
 

@@ -107,7 +107,9 @@ fn predicate_row(rows: &[[u32; 4]]) -> usize
     ensures { result ≤ length rows.now }
 {
     let from = past_last_arguments(rows);
-    let found = rows[from..].iter().position(|row| u32::from(Kind::Root) <= row[0]);
+    let found = rows[from..]
+        .iter()
+        .position(|row| u32::from(Kind::Root) <= row[0]);
     match found {
         Some(i) => from + i,
         None => rows.len(),
@@ -118,7 +120,10 @@ fn predicate_row(rows: &[[u32; 4]]) -> usize
 fn past_last_arguments(rows: &[[u32; 4]]) -> usize
     ensures { result ≤ length rows.now }
 {
-    match rows.iter().rposition(|row| row[0] == u32::from(Kind::CallArgs)) {
+    match rows
+        .iter()
+        .rposition(|row| row[0] == u32::from(Kind::CallArgs))
+    {
         Some(i) => i + 1,
         None => 0,
     }
