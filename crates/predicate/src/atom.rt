@@ -49,6 +49,7 @@ impl<'a> Evaluator<'a> {
 
 impl Member {
     // `connected`, which is false of a diagnostic.
+    #[inline(always)]
     #[tactic(auto, unfolding(crate::specs::Truth::connected))]
     fn connected(self, image: &[u8]) -> bool
         ensures { result ≡ connected image.now self }
@@ -63,6 +64,7 @@ impl Member {
     }
 
     // `has('..')`: of a component by its properties or its features' names, of a feature by its owner's properties, of no diagnostic.
+    #[inline(always)]
     #[tactic(auto, unfolding(crate::specs::Truth::has))]
     fn has(self, image: &[u8], value: &[u8]) -> bool
         ensures { result ≡ has image.now self value.now }
@@ -78,6 +80,7 @@ impl Member {
     }
 
     // `field == '..'`, which is false of a field that the member does not have.
+    #[inline(always)]
     #[tactic(auto, unfolding(crate::specs::Truth::compares))]
     fn compares(self, image: &[u8], field: &[u8], value: &[u8]) -> bool
         ensures { result ≡ compares image.now self field.now value.now }
@@ -92,6 +95,7 @@ impl Member {
     }
 
     // `message.contains('..')`, which is false of what is no diagnostic.
+    #[inline(always)]
     #[tactic(auto, unfolding(crate::specs::Truth::message_contains))]
     fn message_contains(self, image: &[u8], value: &[u8]) -> bool
         ensures { result ≡ message_contains image.now self value.now }

@@ -111,6 +111,7 @@ impl Evaluator<'_> {
     }
 
     // The first node below a level from a place on: its truth, or false where there is none.
+    #[inline(always)]
     #[cycle(eval_node)]
     fn eval_inner(&self, level: u32, from: usize) -> Truth
         requires { from ≤ length self.now.tree.now }
@@ -133,6 +134,7 @@ impl Evaluator<'_> {
     }
 
     // The operands below a level from a place on, joined from left to right.
+    #[inline(always)]
     #[cycle(eval_node)]
     fn eval_operands(&self, level: u32, from: usize) -> Truth
         requires { from ≤ length self.now.tree.now }

@@ -37,6 +37,7 @@ pub fn comparison_operator(tree: &[u32], at: usize) -> Option<usize>
 }
 
 // The text of the first word inside, a part of the rule.
+#[inline(always)]
 pub fn ident<'a>(rule: &'a [u8], tree: &[u32], at: usize) -> &'a [u8]
     ensures { result.now ≡ first_text IDENT (children_at rule.now tree.now at) }
 {
