@@ -62,6 +62,7 @@ pub fn find_string_literal<'a>(rule: &'a [u8], tree: &[u32], at: usize) -> &'a [
 }
 
 // The text of the first token of a kind inside.
+#[inline(always)]
 fn first_text<'a>(rule: &'a [u8], tree: &[u32], at: usize, kind: Kind) -> &'a [u8]
     requires { number kind < ROOT }
     ensures { result.now ≡ first_text (number kind) (children_at rule.now tree.now at) }
