@@ -21,6 +21,7 @@ pub fn first_child(tree: &[u32], at: usize) -> Option<usize>
 }
 
 // The row of the first child of a kind, a node or a token.
+#[inline(always)]
 pub fn child_of_kind(tree: &[u32], at: usize, kind: u32) -> Option<usize>
     ensures { result ≡ first_row (of_kind kind) tree.now (level_at tree.now at + 1) (at + ROW) }
 {
