@@ -1,16 +1,17 @@
 // The atoms of predicates: `connected`, `has('..')`, `field == '..'` and `message.contains('..')`, of one member of a board.
 ghost use Rattle.std.specs.Prelude.{◌≡◌};
 ghost use Rattle.syntax.specs.Kind.{BINARY_EXPR, UNARY_EXPR, PAREN_EXPR};
+ghost use Rattle.syntax.specs.Kinds.{Names};
 ghost use Rattle.predicate.specs.Truth.{connected, has_property_of, has, compares, message_contains, literal_of};
 ghost use Rattle.predicate.specs.Rows.{kind_at, children_at};
 ghost use Rattle.predicate.specs.Eval.{settled_at};
 
-use crate::{Evaluator, node, rows};
+use crate::{Evaluator, node};
 use board::image;
 use instance;
 use matching;
 use matching::search;
-use syntax::kind::Kind;
+use syntax::kind::{Kind, UnknownKind};
 
 // A member of a collection: a component, a component's feature, or a diagnostic, by their indexes on the board.
 #[derive(Clone, Copy)]
@@ -21,13 +22,14 @@ pub enum Member {
 }
 
 impl<'a> Evaluator<'a> {
-    // Whether the atom whose row is at a place is true of the member.
+    // Whether the atom whose row is at a place, and is of this kind, is true of the member.
     #[tactic(auto, using(crate::proofs::AtomLaws::settled_ident, crate::proofs::AtomLaws::settled_call, crate::proofs::AtomLaws::settled_contains, crate::proofs::AtomLaws::settled_compare, crate::proofs::AtomLaws::settled_other))]
-    pub(crate) fn eval_atom(&self, at: usize) -> bool
-        requires { (kind_at self.now.tree.now at ≡ BINARY_EXPR → ⊥) × (kind_at self.now.tree.now at ≡ UNARY_EXPR → ⊥) × (kind_at self.now.tree.now at ≡ PAREN_EXPR → ⊥) }
+    pub(crate) fn eval_atom(&self, kind: Result<Kind, UnknownKind>, at: usize) -> bool
+        requires kind { Names (kind_at self.now.tree.now at) kind }
+        requires atom { (kind_at self.now.tree.now at ≡ BINARY_EXPR → ⊥) × (kind_at self.now.tree.now at ≡ UNARY_EXPR → ⊥) × (kind_at self.now.tree.now at ≡ PAREN_EXPR → ⊥) }
         ensures { result ≡ settled_at self.now at }
     {
-        match rows::kind_at(self.tree, at) {
+        match kind {
             Ok(Kind::IdentExpr) => self.member.connected(self.image),
             Ok(Kind::CallExpr) => self.member.has(self.image, self.value(at)),
             Ok(Kind::ContainsExpr) => self.member.message_contains(self.image, self.value(at)),
@@ -49,7 +51,6 @@ impl<'a> Evaluator<'a> {
 
 impl Member {
     // `connected`, which is false of a diagnostic.
-    #[inline(always)]
     #[tactic(auto, unfolding(crate::specs::Truth::connected))]
     fn connected(self, image: &[u8]) -> bool
         ensures { result ≡ connected image.now self }
@@ -64,7 +65,6 @@ impl Member {
     }
 
     // `has('..')`: of a component by its properties or its features' names, of a feature by its owner's properties, of no diagnostic.
-    #[inline(always)]
     #[tactic(auto, unfolding(crate::specs::Truth::has))]
     fn has(self, image: &[u8], value: &[u8]) -> bool
         ensures { result ≡ has image.now self value.now }
@@ -80,7 +80,6 @@ impl Member {
     }
 
     // `field == '..'`, which is false of a field that the member does not have.
-    #[inline(always)]
     #[tactic(auto, unfolding(crate::specs::Truth::compares))]
     fn compares(self, image: &[u8], field: &[u8], value: &[u8]) -> bool
         ensures { result ≡ compares image.now self field.now value.now }
@@ -95,7 +94,6 @@ impl Member {
     }
 
     // `message.contains('..')`, which is false of what is no diagnostic.
-    #[inline(always)]
     #[tactic(auto, unfolding(crate::specs::Truth::message_contains))]
     fn message_contains(self, image: &[u8], value: &[u8]) -> bool
         ensures { result ≡ message_contains image.now self value.now }

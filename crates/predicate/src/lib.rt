@@ -77,11 +77,12 @@ impl Evaluator<'_> {
             return false;
         };
         // No row after it is looked at, so that its rows need not be passed over.
-        match rows::kind_at(self.tree, predicate) {
+        let kind = rows::kind_at(self.tree, predicate);
+        match kind {
             Ok(Kind::BinaryExpr) => self.eval_node(predicate).value,
             Ok(Kind::UnaryExpr) => !self.eval_args(predicate),
             Ok(Kind::ParenExpr) => self.eval_args(predicate),
-            _ => self.eval_atom(predicate),
+            _ => self.eval_atom(kind, predicate),
         }
     }
 
@@ -93,7 +94,8 @@ impl Evaluator<'_> {
     {
         let level = self.tree[at + 1];
         let inside = at + rows::ROW;
-        match Kind::try_from(self.tree[at]) {
+        let kind = Kind::try_from(self.tree[at]);
+        match kind {
             Ok(Kind::BinaryExpr) => self.eval_operands(level, inside),
             Ok(Kind::UnaryExpr) => {
                 let inner = self.eval_inner(level, inside);
@@ -104,7 +106,7 @@ impl Evaluator<'_> {
             }
             Ok(Kind::ParenExpr) => self.eval_inner(level, inside),
             _ => Truth {
-                value: self.eval_atom(at),
+                value: self.eval_atom(kind, at),
                 next: rows::skip_below(self.tree, level as usize, inside),
             },
         }

@@ -21,7 +21,6 @@ pub fn first_child(tree: &[u32], at: usize) -> Option<usize>
 }
 
 // The row of the first child of a kind, a node or a token.
-#[inline(always)]
 pub fn child_of_kind(tree: &[u32], at: usize, kind: u32) -> Option<usize>
     ensures { result ≡ first_row (of_kind kind) tree.now (level_at tree.now at + 1) (at + ROW) }
 {
@@ -38,7 +37,6 @@ pub fn comparison_operator(tree: &[u32], at: usize) -> Option<usize>
 }
 
 // The text of the first word inside, a part of the rule.
-#[inline(always)]
 pub fn ident<'a>(rule: &'a [u8], tree: &[u32], at: usize) -> &'a [u8]
     ensures { result.now ≡ first_text IDENT (children_at rule.now tree.now at) }
 {
@@ -63,7 +61,6 @@ pub fn find_string_literal<'a>(rule: &'a [u8], tree: &[u32], at: usize) -> &'a [
 }
 
 // The text of the first token of a kind inside.
-#[inline(always)]
 fn first_text<'a>(rule: &'a [u8], tree: &[u32], at: usize, kind: Kind) -> &'a [u8]
     requires { number kind < ROOT }
     ensures { result.now ≡ first_text (number kind) (children_at rule.now tree.now at) }

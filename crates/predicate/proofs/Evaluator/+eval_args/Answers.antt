@@ -38,7 +38,7 @@ returns-in-Ok-ParenExpr t c =
     let found = row_found (sym c.first_child.ensures ∙ c.in-Some.is) in
     c.eval_args-in-Ok-ParenExpr.ensures ∙ sym (inner_found c.args.self.now _ _ _ found ∙ truth_paren c.args.self.now _ found.whole (search rules))
 
-pub returns-in_default-kind_at : goal.returns-in_default-kind_at
-returns-in_default-kind_at t c =
+pub returns-in_default-kind : goal.returns-in_default-kind
+returns-in_default-kind t c =
     let found = row_found (sym c.first_child.ensures ∙ c.in-Some.is) in
     c.eval_atom.ensures ∙ sym (inner_found c.args.self.now _ _ _ found ∙ node_truth c.args.self.now _ found.whole)
