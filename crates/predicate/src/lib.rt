@@ -77,12 +77,12 @@ impl Evaluator<'_> {
             return false;
         };
         // No row after it is looked at, so that its rows need not be passed over.
-        let kind = rows::kind_at(self.tree, predicate);
-        match kind {
+        match rows::kind_at(self.tree, predicate) {
             Ok(Kind::BinaryExpr) => self.eval_node(predicate).value,
             Ok(Kind::UnaryExpr) => !self.eval_args(predicate),
             Ok(Kind::ParenExpr) => self.eval_args(predicate),
-            _ => self.eval_atom(kind, predicate),
+            Ok(kind) => self.eval_atom(kind, predicate),
+            Err(_) => false,
         }
     }
 
@@ -94,21 +94,22 @@ impl Evaluator<'_> {
     {
         let level = self.tree[at + 1];
         let inside = at + rows::ROW;
-        let kind = Kind::try_from(self.tree[at]);
-        match kind {
-            Ok(Kind::BinaryExpr) => self.eval_operands(level, inside),
+        let value = match Kind::try_from(self.tree[at]) {
+            Ok(Kind::BinaryExpr) => return self.eval_operands(level, inside),
             Ok(Kind::UnaryExpr) => {
                 let inner = self.eval_inner(level, inside);
-                Truth {
+                return Truth {
                     value: !inner.value,
                     next: inner.next,
-                }
+                };
             }
-            Ok(Kind::ParenExpr) => self.eval_inner(level, inside),
-            _ => Truth {
-                value: self.eval_atom(kind, at),
-                next: rows::skip_below(self.tree, level as usize, inside),
-            },
+            Ok(Kind::ParenExpr) => return self.eval_inner(level, inside),
+            Ok(kind) => self.eval_atom(kind, at),
+            Err(_) => false,
+        };
+        Truth {
+            value,
+            next: rows::skip_below(self.tree, level as usize, inside),
         }
     }
 
