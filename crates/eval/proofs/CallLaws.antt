@@ -20,7 +20,7 @@ use Rattle.predicate.proofs.NodeLaws.{row_found, row_absent}
 use Rattle.meaning.specs.Calls.{Call}
 use Rattle.meaning.specs.Pipeline.{method_of, args_of, call_of, calls_of}
 use Rattle.eval.specs.declared.ready.Call.{Call as PlacedCall}
-use Rattle.eval.specs.Ready.{call_in, calls_in, place_or, args_place, call_row, CallsFit, Putting, PutsRow, Holds}
+use Rattle.eval.specs.Ready.{call_in, calls_in, place_or, args_place, call_row, Holds}
 
 -- ---- the call that a row of the tree opens
 
@@ -68,7 +68,7 @@ call_row_lem rule tree row = λ i. record { method = method_of (first_text IDENT
 -- ---- what ignores rows that fail a test, by the first row of the tree
 
 module _ {A : Type 0} {test : ℕ → Bool} {of : Forest → A} (i : Ignores test of) (rule tree : List ℕ) (level row : ℕ) (h : row + ROW ≤ length tree) where
-  pub ignored_past : level ≤ level_at tree row → row_passes test tree level row ≡ false → of (forest_from rule tree level row) ≡ of (forest_from rule tree level (row + ROW))
+  ignored_past : level ≤ level_at tree row → row_passes test tree level row ≡ false → of (forest_from rule tree level row) ≡ of (forest_from rule tree level (row + ROW))
   unfolding row_passes
   ignored_past l p = whether (eqb (level_at tree row) level) same deeper
     where
@@ -95,7 +95,7 @@ unfolding calls_of
 calls_ignores = record { tokens = λ t f e. refl; nodes = λ k s f l e. rw (e, calls_of) }
 
 module _ (rule tree : List ℕ) (level row : ℕ) (h : row + ROW ≤ length tree) where
-  pub calls_here : row_passes (of_kind DOT_CALL) tree level row ≡ true
+  calls_here : row_passes (of_kind DOT_CALL) tree level row ≡ true
       → calls_of (forest_from rule tree level row) ≡ call_of (children_at rule tree row) ∷ calls_of (forest_from rule tree level (row + ROW))
   unfolding calls_of row_passes
   calls_here p =
@@ -105,7 +105,7 @@ module _ (rule tree : List ℕ) (level row : ℕ) (h : row + ROW ≤ length tree
       ap calls_of (forest_node rule tree level row h l (omega arith))
       ∙ rw (q.1, calls_of) (ap (λ (n : ℕ). call_of (forest_from rule tree (n + 1) (row + ROW)) ∷ calls_of (forest_from rule tree level (row + ROW))) (sym l))
 
-  pub calls_past : level ≤ level_at tree row → row_passes (of_kind DOT_CALL) tree level row ≡ false
+  calls_past : level ≤ level_at tree row → row_passes (of_kind DOT_CALL) tree level row ≡ false
       → calls_of (forest_from rule tree level row) ≡ calls_of (forest_from rule tree level (row + ROW))
   calls_past l p = ignored_past calls_ignores rule tree level row h l p
 
@@ -117,79 +117,66 @@ pub calls_set : (rule tree : List ℕ) (count : ℕ) (rows : List PlacedCall) (c
 unfolding calls_in
 calls_set rule tree count rows call h = ap (map (call_in rule tree)) (take_more_set rows count call h) ∙ map-append (call_in rule tree) (take count rows) (call ∷ [])
 
-module _ (rule tree : List ℕ) (level row count : ℕ) {before : List PlacedCall} (h : row + ROW ≤ length tree) (f : CallsFit rule tree level row before count) where
-  -- the row opens no call
-  pub puts_none : level ≤ level_at tree row → row_passes (of_kind DOT_CALL) tree level row ≡ false → PutsRow rule tree level row before count before count
-  puts_none l p =
-      let e = calls_past rule tree level row h l p in
-      record {
-        long = refl;
-        further = λ all q. record {
-          fit = record { room = subst (λ (cs : List Call). count + length cs ≤ length before) e f.room };
-          number = subst (λ (cs : List Call). count + length cs ≡ length all) e q.number;
-          calls = subst (λ (cs : List Call). calls_in rule tree (take count before) ++ cs ≡ all) e q.calls;
-        };
-      }
-
-  -- or it opens one: there is room for it
-  module _ (p : row_passes (of_kind DOT_CALL) tree level row ≡ true) where
-    opens : calls_of (forest_from rule tree level row) ≡ call_of (children_at rule tree row) ∷ calls_of (forest_from rule tree level (row + ROW))
-    opens = calls_here rule tree level row h p
-
-    pub puts_room : count < length before
-    puts_room = omega (arith, subst (λ (cs : List Call). count + length cs ≤ length before) opens f.room)
-
-    pub puts_one : {call : PlacedCall} → call ≡ call_row rule tree row → PutsRow rule tree level row before count (set before count call) (count + 1)
-    puts_one {call} e =
-        record {
-          long = long;
-          further = λ all q. record {
-            fit = record { room = omega (arith, long, subst (λ (cs : List Call). count + length cs ≤ length before) opens f.room) };
-            number = omega (arith, q.number, ap length opens);
-            calls =
-                ap (λ (cs : List Call). cs ++ calls_of (forest_from rule tree level (row + ROW))) rows
-                ∙ append_assoc (calls_in rule tree (take count before)) (call_of (children_at rule tree row) ∷ []) (calls_of (forest_from rule tree level (row + ROW)))
-                ∙ ap (λ (cs : List Call). calls_in rule tree (take count before) ++ cs) (sym opens)
-                ∙ q.calls;
-          };
-        }
-      where
-        long : length (set before count call) ≡ length before
-        long = length-set before count call
-
-        rows : calls_in rule tree (take (count + 1) (set before count call)) ≡ calls_in rule tree (take count before) ++ (call_of (children_at rule tree row) ∷ [])
-        rows =
-            calls_set rule tree count before call puts_room
-            ∙ ap (λ (c : Call). calls_in rule tree (take count before) ++ (c ∷ [])) (ap (call_in rule tree) e ∙ call_row_lem rule tree row)
-
--- ---- all calls of a pipeline
-
-pub record Walking (rule tree : List ℕ) (at level row : ℕ) (before rows : List PlacedCall) (count : ℕ) : Type 0 where
-  pub within : row ≤ length tree
+-- the calls written, and those at a level from a row of the tree on, together are all, for which there is room
+pub record Writing (rule tree : List ℕ) (all : List Call) (level row : ℕ) (before rows : List PlacedCall) (count : ℕ) : Type 0 where
   pub long : length rows ≡ length before
-  pub putting : Putting rule tree (calls_of (children_at rule tree at)) (level + 1) row rows count
+  pub room : length all ≤ length before
+  pub number : count + length (calls_of (forest_from rule tree level row)) ≡ length all
+  pub calls : calls_in rule tree (take count rows) ++ calls_of (forest_from rule tree level row) ≡ all
 
-pub walking_start : (rule tree : List ℕ) (at level : ℕ) (rows : List PlacedCall) → at + ROW ≤ length tree → level ≡ level_at tree at
-    → length (calls_of (children_at rule tree at)) ≤ length rows → Walking rule tree at level (at + ROW) rows rows 0
+pub writing_start : (rule tree : List ℕ) (level row : ℕ) (rows : List PlacedCall) → length (calls_of (forest_from rule tree level row)) ≤ length rows
+    → Writing rule tree (calls_of (forest_from rule tree level row)) level row rows rows 0
 unfolding calls_in
-walking_start rule tree at level rows h e r =
-    subst (λ (l : ℕ). Walking rule tree at l (at + ROW) rows rows 0) (sym e)
-    (record {
-      within = h;
-      long = refl;
-      putting = record { fit = record { room = omega (arith, r) }; number = omega arith; calls = refl };
-    })
+writing_start rule tree level row rows r = record { long = refl; room = r; number = omega arith; calls = refl }
 
-module _ {rule tree : List ℕ} {at level row : ℕ} {before rows : List PlacedCall} {count : ℕ} (w : Walking rule tree at level row before rows count) where
-  pub walking_on : {after : List PlacedCall} {r : ℕ} → row + ROW ≤ length tree → PutsRow rule tree (level + 1) row rows count after r → Walking rule tree at level (row + ROW) before after r
-  walking_on h p = record { within = h; long = p.long ∙ w.long; putting = p.further (calls_of (children_at rule tree at)) w.putting }
+module _ {rule tree : List ℕ} {all : List Call} {level row : ℕ} {before rows : List PlacedCall} {count : ℕ} (w : Writing rule tree all level row before rows count) where
+  module _ (h : row + ROW ≤ length tree) where
+    -- the row opens no call
+    pub writing_past : level ≤ level_at tree row → row_passes (of_kind DOT_CALL) tree level row ≡ false → Writing rule tree all level (row + ROW) before rows count
+    writing_past l p =
+        let e = calls_past rule tree level row h l p in
+        record {
+          long = w.long;
+          room = w.room;
+          number = subst (λ (cs : List Call). count + length cs ≡ length all) e w.number;
+          calls = subst (λ (cs : List Call). calls_in rule tree (take count rows) ++ cs ≡ all) e w.calls;
+        }
 
-  pub walking_end : is_below tree level row ≡ false → Holds rule tree at rows count
-  unfolding calls_of
-  walking_end b =
-      let none : calls_of (forest_from rule tree (level + 1) row) ≡ [] = ap calls_of (forest_ends rule tree level row b) in
-      record {
-        number = omega (arith, subst (λ (cs : List Call). count + length cs ≡ length (calls_of (children_at rule tree at))) none w.putting.number);
-        room = omega (arith, subst (λ (cs : List Call). count + length cs ≤ length rows) none w.putting.fit.room);
-        calls = sym (append-nil _) ∙ subst (λ (cs : List Call). calls_in rule tree (take count rows) ++ cs ≡ calls_of (children_at rule tree at)) none w.putting.calls;
-      }
+    -- or it opens one: there is room for it
+    module _ (p : row_passes (of_kind DOT_CALL) tree level row ≡ true) where
+      opens : calls_of (forest_from rule tree level row) ≡ call_of (children_at rule tree row) ∷ calls_of (forest_from rule tree level (row + ROW))
+      opens = calls_here rule tree level row h p
+
+      pub writing_room : count < length rows
+      writing_room = omega (arith, w.long, w.room, w.number, ap length opens)
+
+      pub writing_call : {call : PlacedCall} → call ≡ call_row rule tree row → Writing rule tree all level (row + ROW) before (set rows count call) (count + 1)
+      writing_call {call} e =
+          record {
+            long = length-set rows count call ∙ w.long;
+            room = w.room;
+            number = omega (arith, w.number, ap length opens);
+            calls =
+                ap (λ (cs : List Call). cs ++ calls_of (forest_from rule tree level (row + ROW))) more
+                ∙ append_assoc (calls_in rule tree (take count rows)) (call_of (children_at rule tree row) ∷ []) (calls_of (forest_from rule tree level (row + ROW)))
+                ∙ ap (λ (cs : List Call). calls_in rule tree (take count rows) ++ cs) (sym opens)
+                ∙ w.calls;
+          }
+        where
+          more : calls_in rule tree (take (count + 1) (set rows count call)) ≡ calls_in rule tree (take count rows) ++ (call_of (children_at rule tree row) ∷ [])
+          more =
+              calls_set rule tree count rows call writing_room
+              ∙ ap (λ (c : Call). calls_in rule tree (take count rows) ++ (c ∷ [])) (ap (call_in rule tree) e ∙ call_row_lem rule tree row)
+
+-- all calls are written where no row is left
+pub writing_end : {rule tree : List ℕ} {all : List Call} (level : ℕ) {row : ℕ} {before rows : List PlacedCall} {count : ℕ} → Writing rule tree all (level + 1) row before rows count
+    → is_below tree level row ≡ false → Holds rule tree all rows count
+unfolding calls_of
+writing_end {rule} {tree} {all} level {row} {before} {rows} {count} w b =
+    let none : calls_of (forest_from rule tree (level + 1) row) ≡ [] = ap calls_of (forest_ends rule tree level row b) in
+    let number : count + 0 ≡ length all = subst (λ (cs : List Call). count + length cs ≡ length all) none w.number in
+    record {
+      number = omega arith;
+      room = omega (arith, w.long, w.room);
+      calls = sym (append-nil _) ∙ subst (λ (cs : List Call). calls_in rule tree (take count rows) ++ cs ≡ all) none w.calls;
+    }

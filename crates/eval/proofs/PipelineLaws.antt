@@ -3,7 +3,7 @@ use mathlib.Core.Path.{◌≡◌, refl, sym, ap, ap₂, ◌∙◌, subst}
 use mathlib.Core.Bool.{Bool, true, false, false≢true}
 use mathlib.Core.List.{List, [], ◌∷◌, ◌++◌}
 use mathlib.Core.Option.{Option, none, some}
-use Rattle.std.specs.Prelude.{Ok, Err}
+use Rattle.std.specs.Prelude.{unwrap_or, Ok, Err}
 use Rattle.std.specs.Prelude as std
 use Prim.Native.Nat.{ℕ, ◌+◌, ◌≤◌, ◌<◌}
 use native.Mathlib.Omega.{arith}
@@ -11,6 +11,9 @@ use lib.Dec.{eqb}
 use lib.ListN.{length, take, set, replicate, length-take, length-replicate, length-set}
 use borrow.Author.Tests.{eq-eqb, ne_eqb, ltb-true}
 use Rattle.syntax.specs.Kind.{INT_LIT, DOT_CALL, COUNT_COMPARE_EXPR}
+use Rattle.syntax.specs.Kinds.{number}
+use Rattle.syntax.specs.declared.kind.Kind.{Kind}
+use Rattle.syntax.specs.declared.kind.Kind.TheVariants.{Neq}
 use Rattle.syntax.specs.declared.refusal.Refusal.{Refusal}
 use Rattle.syntax.specs.declared.refusal.Refusal.TheVariants.{ParseErrors, ComparisonNotCountable, IntegerTooLarge}
 use Rattle.syntax.proofs.BoolLaws.{whether}
@@ -43,6 +46,7 @@ use Rattle.eval.specs.Feed.{State, state_of, listed, decided, Decides, Stands, w
 use Rattle.eval.specs.Pipeline.{CALLS, FewCalls, Evaluates, Counts, OperatorAt, Gives}
 use Rattle.eval.proofs.CallLaws.{calls_set}
 use Rattle.eval.proofs.PlanLaws.{node_first, node_none, source_found}
+use Rattle.eval.proofs.ValueLaws.{operator_or_neq}
 
 -- ---- the calls of a tree are few
 
@@ -349,12 +353,14 @@ module _ (rule image tree : List ℕ) (at : ℕ) where
         pub compare_large : {table : List ℕ} → integer ≡ std.None → Evaluates comparison table table (Err IntegerTooLarge)
         compare_large e = as_refused IntegerTooLarge (against_is ∙ ap (against_for (operator_of (children_at rule tree at)) (length (came rule image tree pipeline p))) e)
 
-        pub compare_given : {right operator left : ℕ} {table after : List ℕ} {b : Bool} → integer ≡ std.Some right → OperatorAt tree at operator
-            → Counts rule image tree plan rows table after left → b ≡ operator_holds operator left right
+        pub compare_given : {right left : ℕ} {operator : std.Option Kind} {table after : List ℕ} {b : Bool} → integer ≡ std.Some right → OperatorAt tree at operator
+            → Counts rule image tree plan rows table after left → b ≡ operator_holds (number (unwrap_or operator Neq)) left right
             → Evaluates comparison table after (Ok (Value.Bool b))
-        compare_given {right} {operator} {left} {table} e o c b =
+        compare_given {right} {left} {operator} {table} e o c b =
             record {
-              outcome = ap (λ (v : Bool). Ok (Value.Bool v)) (b ∙ λ i. operator_holds (o.operator rule i) (c.members i) right) ∙ ap answer_of (sym is);
+              outcome =
+                  ap (λ (v : Bool). Ok (Value.Bool v)) (b ∙ operator_or_neq operator left right ∙ λ i. operator_holds (o.operator rule i) (c.members i) right)
+                  ∙ ap answer_of (sym is);
               table = c.table ∙ ap (λ (o : Outcome). collection_table o table) (sym is);
             }
           where

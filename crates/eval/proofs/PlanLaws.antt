@@ -1,11 +1,10 @@
 -- What a pipeline comes to, by what is known of it before any member is looked at. Assumes nothing.
-use mathlib.Core.Path.{◌≡◌, refl, sym, ap, ◌∙◌}
+use mathlib.Core.Path.{◌≡◌, refl, sym, ap, ◌∙◌, subst}
 use mathlib.Core.Bool.{false≢true}
 use mathlib.Core.List.{List, [], ◌∷◌}
 use Prim.Native.Nat.{ℕ, ◌+◌}
-use native.Mathlib.Omega.{arith}
 use lib.Dec.{eqb}
-use lib.ListN.{length, take, length-take}
+use lib.ListN.{take}
 use Rattle.std.specs.Prelude.{Option, Some, None, Result, Ok, Err}
 use Rattle.meaning.specs.declared.ValueKind.{ValueKind}
 use borrow.Author.Tests.{le-leb, leb-true}
@@ -34,10 +33,13 @@ module _ {A : Type 0} (of : Forest → A) (tokens : (t : Token) (f : Forest) →
   node_ignores : Ignores of_node of
   node_ignores = record { tokens = λ t f e. tokens t f; nodes = λ k s f l e. absurd (false≢true (sym e ∙ le-leb ROOT k l)) }
 
+  pub node_from : {tree : List ℕ} {level from at : ℕ} → FoundAt of_node tree level from at → of (forest_from rule tree level from) ≡ of (forest_from rule tree level at)
+  node_from f = ignored_found node_ignores rule f
+
   pub node_first : {tree : List ℕ} {level from at : ℕ} → FoundAt of_node tree level from at
       → of (forest_from rule tree level from) ≡ of (node (kind_at tree at) (children_at rule tree at) (forest_from rule tree level (at + ROW)))
   node_first {tree} {level} {from} {at} f =
-      ignored_found node_ignores rule f
+      node_from f
       ∙ ap of (forest_node rule tree level at f.whole (found_level f) (leb-true ROOT (kind_at tree at) (found_kind f))
       ∙ ap (λ (l : ℕ). node (kind_at tree at) (forest_from rule tree (l + 1) (at + ROW)) (forest_from rule tree level (at + ROW))) (sym (found_level f)))
 
@@ -86,8 +88,17 @@ module _ (rule tree : List ℕ) (at : ℕ) where
       → FoundAt of_node tree (level_at tree at + 1) (at + ROW) source
   source_at e h = row_found (sym e ∙ h)
 
-  module _ {rows : List PlacedCall} {source count : ℕ} (f : FoundAt of_node tree (level_at tree at + 1) (at + ROW) source) (h : Holds rule tree at rows count)
+  pub pipeline_calls : {source : ℕ} → FoundAt of_node tree (level_at tree at + 1) (at + ROW) source
+      → calls_of (children_at rule tree at) ≡ calls_of (forest_from rule tree (level_at tree at + 1) source)
+  unfolding calls_of
+  pipeline_calls f = node_from calls_of (λ t g. refl) rule f
+
+  module _ {rows : List PlacedCall} {source count : ℕ} (f : FoundAt of_node tree (level_at tree at + 1) (at + ROW) source) (h : Holds rule tree (calls_of (forest_from rule tree (level_at tree at + 1) source)) rows count)
       {number : ValueKind} {given : Result ValueKind Refusal} (n : number ≡ sort_kind (source_sort (kind_at tree source))) (a : KindAfter (take count rows) number given) where
+    -- the calls from the source on are all
+    holds : Holds rule tree (calls_of (children_at rule tree at)) rows count
+    holds = subst (λ (cs : List Call). Holds rule tree cs rows count) (sym (pipeline_calls f)) h
+
     pub planned_refused : {r : Refusal} → given ≡ Err r → Refuses rule tree at r
     unfolding eval_pipeline
     planned_refused {r} e =
@@ -95,17 +106,13 @@ module _ (rule tree : List ℕ) (at : ℕ) where
           refused = λ image.
               ap (calls_give image (calls_of (children_at rule tree at))) (source_found rule image tree at f)
               ∙ calls_refused image (calls_of (children_at rule tree at)) (source_sort (kind_at tree source)) (source_members image (kind_at tree source) (children_at rule tree source)) r
-              (sym (planned rule tree (sort_kind (source_sort (kind_at tree source))) (calls_of (children_at rule tree at)) a n h.calls) ∙ e);
+              (sym (planned rule tree (sort_kind (source_sort (kind_at tree source))) (calls_of (children_at rule tree at)) a n holds.calls) ∙ e);
         }
 
     pub planned_ready : {kind : ValueKind} → given ≡ Ok kind → Ready rule tree at rows (record { source = source; calls = count; kind = kind })
     planned_ready e =
         record {
           found = f;
-          holds = h;
-          comes = sym (planned rule tree (sort_kind (source_sort (kind_at tree source))) (calls_of (children_at rule tree at)) a n h.calls) ∙ e;
+          holds = holds;
+          comes = sym (planned rule tree (sort_kind (source_sort (kind_at tree source))) (calls_of (children_at rule tree at)) a n holds.calls) ∙ e;
         }
-
--- the part of the table that the calls fill
-pub calls_taken : {rule tree : List ℕ} {at : ℕ} {rows : List PlacedCall} {count : ℕ} → Holds rule tree at rows count → count ≡ length (take count rows)
-calls_taken {rows = rows} {count = count} h = sym (length-take count rows ∙ omega (arith, h.room))

@@ -2,9 +2,9 @@
 use mathlib.Core.Path.{◌≡◌, refl, sym, ap, ap₂, ◌∙◌, subst}
 use mathlib.Core.Bool.{true, false}
 use mathlib.Core.List.{List, [], ◌∷◌}
-use Prim.Native.Nat.{ℕ, ◌*◌, ◌≤◌}
+use Prim.Native.Nat.{ℕ, ◌*◌}
 use native.Mathlib.Omega.{arith}
-use lib.ListN.{length, take, drop, length-append, length-take}
+use lib.ListN.{length, take, drop, length-append}
 use lib.Seq.{take_at}
 use borrow.Author.Tests.{ltb-false}
 use Rattle.syntax.specs.Table.{with_rows}
@@ -21,7 +21,6 @@ use Rattle.trees.specs.Read.{Reading, Reads, check_tables, rows_read, tree_table
 use Rattle.trees.specs.declared.Rows.{Rows}
 use Rattle.std.specs.Prelude.{Ok, Err}
 use Rattle.trees.proofs.GreenLaws.{tree_rows_length}
-use Rattle.trees.proofs.BoundLaws.{rows_bound}
 use Rattle.trees.proofs.CallLaws.{calls_bound}
 use Rattle.trees.proofs.ReadLaws.{passed_reads, refused_reads, passed_has_room}
 use Rattle.board.specs.Check.{check_image}
@@ -34,7 +33,7 @@ use Rattle.meaning.specs.Outcome.{first_inner, eval_node, outcome_of, outcome, t
 use Rattle.calls.specs.Answer.{Outcome as Given, answer_of, verdict_for, verdict_of_answer}
 use Rattle.calls.proofs.AnswerLaws.{verdict_is}
 use Rattle.eval.specs.declared.Answer.{Answer}
-use Rattle.eval.specs.Pipeline.{MAX_ROWS, FewCalls, Lent, Evaluates}
+use Rattle.eval.specs.Pipeline.{FewCalls, Lent, Evaluates}
 use Rattle.eval.specs.Run.{lent, Runs, Answers, ReadRule}
 use Rattle.eval.proofs.PipelineLaws.{inner_fewer}
 
@@ -58,14 +57,7 @@ module _ {rule tree : List ℕ} {rows : Rows} (r : ReadRule rule tree rows) (ima
       is : outcome image rule ≡ refused ParseErrors
       is = rw (some (parse_expr rule).errors r.errors_are)
 
-  -- or none
-  pub read_part : TREE_ROW * rows.tree ≡ length (take (TREE_ROW * rows.tree) tree)
-  read_part = sym (length-take (TREE_ROW * rows.tree) tree ∙ omega (arith, r.within))
-
-  pub read_short : length (take (TREE_ROW * rows.tree) tree) ≤ MAX_ROWS
-  read_short = omega (arith, read_part, r.rows_are, rows_bound rule, r.short)
-
-  -- and then its calls are few
+  -- or none, and then its calls are few
   pub read_few : rows.errors ≡ 0 → FewCalls rule (take (TREE_ROW * rows.tree) tree) 0
   read_few e =
       let root : children_at rule (take (TREE_ROW * rows.tree) tree) 0 ≡ first_inner (parse_expr rule).made = ap (λ (t : List ℕ). children_at rule t 0) r.front ∙ root_children rule in

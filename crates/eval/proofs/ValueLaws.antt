@@ -1,26 +1,30 @@
 -- What is settled by the numbers of members, and the operator of a comparison. Assumes nothing.
 use mathlib.Core.Path.{◌≡◌, refl, sym, ap, ◌∙◌, subst}
-use mathlib.Core.Bool.{true, false}
+use mathlib.Core.Bool.{true, false, false≢true}
 use mathlib.Core.List.{List}
-use Prim.Native.Nat.{ℕ, zero, suc, ◌+◌, ◌≤◌, ◌<◌}
+use Prim.Native.Nat.{ℕ, ◌+◌, ◌≤◌, ◌<◌}
 use native.Mathlib.Omega.{arith}
-use lib.Dec.{eqb, leb}
-use lib.ListN.{length}
-use borrow.Author.Tests.{ne_eqb, eqb-true, leb-true, leb-false}
-use Rattle.syntax.specs.Kind.{ROOT, EQ_EQ, NEQ, GE, GT, LE, LT, NONE}
-use Rattle.syntax.proofs.BoolLaws.{whether, both}
+use lib.Dec.{leb}
+use borrow.Author.Tests.{ne_eqb, leb-true, leb-false}
+use Rattle.syntax.specs.Kind.{ROOT, EQ_EQ, NEQ, GE, GT, LE, LT}
+use Rattle.syntax.specs.Kinds.{number, Names}
+use Rattle.syntax.specs.declared.kind.Kind.{Kind}
+use Rattle.syntax.specs.declared.kind.Kind.TheVariants.{Neq}
+use Rattle.syntax.specs.declared.kind.UnknownKind.{UnknownKind}
+use Rattle.syntax.proofs.BoolLaws.{whether}
 use Rattle.trees.specs.Look.{is_comparison}
-use Rattle.predicate.specs.Rows.{ROW, kind_at as tree_kind, level_at, forest_from, children_at, is_below, row_passes}
-use Rattle.predicate.proofs.ForestLaws.{forest_token, forest_ends, Ignores}
+use Rattle.predicate.specs.Rows.{ROW, kind_at as tree_kind, level_at, children_at}
+use Rattle.predicate.specs.Eval.{FoundAt, FoundNowhere}
+use Rattle.predicate.proofs.ForestLaws.{forest_token, found_level, found_kind, Ignores, ignored_none, ignored_found}
 use Rattle.meaning.specs.declared.ValueKind.{ValueKind}
 use Rattle.meaning.specs.declared.Method.{Method}
-use Rattle.meaning.specs.Compare.{operator_of}
+use Rattle.meaning.specs.Compare.{operator_holds, operator_of}
 use Rattle.meaning.specs.Walk.{settled}
-use Rattle.std.specs.Prelude.{Ok}
+use Rattle.std.specs.Prelude.{Option, Some, None, unwrap_or, Result, Ok, Err}
+use Rattle.std.specs.Result.{result_ok}
 use Rattle.calls.specs.declared.value.Value.{Value}
 use Rattle.eval.specs.declared.walk.Tally.{Tally}
-use Rattle.eval.specs.Pipeline.{OperatorAt, Gives, Judges}
-use Rattle.eval.proofs.CallLaws.{ignored_past}
+use Rattle.eval.specs.Pipeline.{number_or_none, OperatorAt, Gives, Judges}
 
 -- ---- a value by its kind
 
@@ -50,70 +54,40 @@ module _ (method : Method) (t : Tally) where
 
 -- ---- the operator
 
--- the six stand one after the other
-pub operator_below : (k : ℕ) → k < EQ_EQ → false ≡ is_comparison k
+-- an operator is a token
+operator_token : (k : ℕ) → is_comparison k ≡ true → k < ROOT
 unfolding is_comparison
-operator_below k h =
-    sym (rw (ne_eqb k GE (λ e. omega arith), ne_eqb k GT (λ e. omega arith), ne_eqb k LE (λ e. omega arith), ne_eqb k LT (λ e. omega arith), ne_eqb k EQ_EQ (λ e. omega arith), ne_eqb k NEQ (λ e. omega arith)))
-
-pub operator_from : (k : ℕ) → EQ_EQ ≤ k → leb k LT ≡ is_comparison k
-unfolding is_comparison
-operator_from k h = whether (leb k LT) (λ e. e ∙ among k h (leb-true k LT e)) (λ e. e ∙ above (leb-false k LT e))
+operator_token k e = whether (leb ROOT k) (λ l. absurd (false≢true (no (leb-true ROOT k l) ∙ e))) (λ l. leb-false ROOT k l)
   where
-    above : LT < k → false ≡ is_comparison k
-    above l =
+    no : ROOT ≤ k → false ≡ is_comparison k
+    no l =
         sym (rw (ne_eqb k GE (λ e. omega arith), ne_eqb k GT (λ e. omega arith), ne_eqb k LE (λ e. omega arith), ne_eqb k LT (λ e. omega arith), ne_eqb k EQ_EQ (λ e. omega arith), ne_eqb k NEQ (λ e. omega arith)))
 
-    among : (k : ℕ) → EQ_EQ ≤ k → k ≤ LT → true ≡ is_comparison k
-    among zero a b = absurd (omega arith)
-    among (suc zero) a b = absurd (omega arith)
-    among (suc (suc zero)) a b = absurd (omega arith)
-    among (suc (suc (suc zero))) a b = absurd (omega arith)
-    among (suc (suc (suc (suc zero)))) a b = absurd (omega arith)
-    among (suc (suc (suc (suc (suc zero))))) a b = absurd (omega arith)
-    among (suc (suc (suc (suc (suc (suc zero)))))) a b = refl
-    among (suc (suc (suc (suc (suc (suc (suc zero))))))) a b = refl
-    among (suc (suc (suc (suc (suc (suc (suc (suc zero)))))))) a b = refl
-    among (suc (suc (suc (suc (suc (suc (suc (suc (suc zero))))))))) a b = refl
-    among (suc (suc (suc (suc (suc (suc (suc (suc (suc (suc zero)))))))))) a b = refl
-    among (suc (suc (suc (suc (suc (suc (suc (suc (suc (suc (suc zero))))))))))) a b = refl
-    among (suc (suc (suc (suc (suc (suc (suc (suc (suc (suc (suc (suc k)))))))))))) a b = absurd (omega arith)
-
--- the operator of a comparison looks at no other row
+-- that of a comparison looks at no other row
 operator_ignores : Ignores is_comparison operator_of
 unfolding operator_of
 operator_ignores = record { tokens = λ t f e. rw (e, operator_of); nodes = λ k s f l e. refl }
 
--- an operator is a token
-operator_token : (k : ℕ) → is_comparison k ≡ true → k < ROOT
-operator_token k e =
-    whether (leb EQ_EQ k) (λ l. omega (arith, leb-true k LT (operator_from k (leb-true EQ_EQ k l) ∙ e))) (λ l. omega (arith, leb-false EQ_EQ k l))
-
-module _ (rule tree : List ℕ) (level row : ℕ) (h : row + ROW ≤ length tree) where
-  operator_here : row_passes is_comparison tree level row ≡ true → tree_kind tree row ≡ operator_of (forest_from rule tree level row)
-  unfolding operator_of row_passes
-  operator_here p =
-      let q = both (eqb (level_at tree row) level) (is_comparison (tree_kind tree row)) p in
-      sym (ap operator_of (forest_token rule tree level row h (eqb-true (level_at tree row) level q.0) (operator_token (tree_kind tree row) q.1))
-      ∙ rw (q.1, operator_of) refl)
-
--- no operator stands before a row
-pub record Seeking (tree : List ℕ) (at level row : ℕ) : Type 0 where
-  pub within : row ≤ length tree
-  pub rest : (rule : List ℕ) → operator_of (forest_from rule tree (level + 1) row) ≡ operator_of (children_at rule tree at)
-
-pub seeking_start : (tree : List ℕ) (at level : ℕ) → at + ROW ≤ length tree → level ≡ level_at tree at → Seeking tree at level (at + ROW)
-seeking_start tree at level h e =
-    record { within = h; rest = λ rule. ap (λ (l : ℕ). operator_of (forest_from rule tree (l + 1) (at + ROW))) e }
-
-module _ {tree : List ℕ} {at level row : ℕ} (s : Seeking tree at level row) where
-  module _ (h : row + ROW ≤ length tree) where
-    pub seeking_found : row_passes is_comparison tree (level + 1) row ≡ true → OperatorAt tree at (tree_kind tree row)
-    seeking_found p = record { operator = λ rule. operator_here rule tree (level + 1) row h p ∙ s.rest rule }
-
-    pub seeking_on : level < level_at tree row → row_passes is_comparison tree (level + 1) row ≡ false → Seeking tree at level (row + ROW)
-    seeking_on l p = record { within = h; rest = λ rule. sym (ignored_past operator_ignores rule tree (level + 1) row h (omega arith) p) ∙ s.rest rule }
-
-  pub seeking_end : is_below tree level row ≡ false → OperatorAt tree at NONE
+module _ (tree : List ℕ) (at : ℕ) where
+  -- none is found, or the first is
+  pub operator_absent : FoundNowhere is_comparison tree (level_at tree at + 1) (at + ROW) → OperatorAt tree at None
   unfolding operator_of
-  seeking_end b = record { operator = λ rule. sym (ap operator_of (forest_ends rule tree level row b)) ∙ s.rest rule }
+  operator_absent n = record { operator = λ rule. sym (ignored_none operator_ignores rule n) }
+
+  module _ {row : ℕ} (f : FoundAt is_comparison tree (level_at tree at + 1) (at + ROW) row) where
+    operator_kind : (rule : List ℕ) → tree_kind tree row ≡ operator_of (children_at rule tree at)
+    unfolding operator_of
+    operator_kind rule =
+        sym (ignored_found operator_ignores rule f
+        ∙ ap operator_of (forest_token rule tree (level_at tree at + 1) row f.whole (found_level f) (operator_token (tree_kind tree row) (found_kind f)))
+        ∙ rw (found_kind f, operator_of))
+
+    pub operator_found : (named : Result Kind UnknownKind) → Names (tree_kind tree row) named → OperatorAt tree at (result_ok named)
+    operator_found (Ok kind) n = record { operator = λ rule. n ∙ operator_kind rule }
+    operator_found (Err e) n = absurd (omega (arith, n.0, operator_token (tree_kind tree row) (found_kind f)))
+
+-- no operator compares as `!=` does
+pub operator_or_neq : (operator : Option Kind) (left right : ℕ) → operator_holds (number (unwrap_or operator Neq)) left right ≡ operator_holds (number_or_none operator) left right
+unfolding operator_holds
+operator_or_neq (Some kind) left right = refl
+operator_or_neq None left right = refl

@@ -1,5 +1,8 @@
 -- What the functions of `pipeline` ask and give; no public contract needs this file. Assumes nothing: these are definitions.
-use Rattle.std.specs.Prelude.{ℕ, ◌+◌, ◌*◌, ◌/◌, ◌≤◌, ◌≡◌, List, [], length, take, Ok}
+use Rattle.std.specs.Prelude.{ℕ, ◌+◌, ◌*◌, ◌/◌, ◌≤◌, ◌≡◌, List, [], length, take, Option, Some, None, Ok}
+use Rattle.syntax.specs.Kind.{NONE}
+use Rattle.syntax.specs.Kinds.{number}
+use Rattle.syntax.specs.declared.kind.Kind.{Kind}
 use Rattle.lexer.specs.Read.{MAX_RULE}
 use Rattle.trees.specs.Green.{dot_calls}
 use Rattle.board.specs.WellFormed.{WellFormed, Room}
@@ -16,10 +19,6 @@ use Rattle.eval.specs.declared.walk.Tally.{Tally}
 use Rattle.eval.specs.declared.ready.Call.{Call as PlacedCall}
 use Rattle.eval.specs.declared.ready.Plan.{Plan}
 use Rattle.eval.specs.Ready.{calls_in, source_members}
-
--- the numbers of the longest tree: 7n + 5 rows of a rule of 500 bytes
-abbrev pub MAX_ROWS : ℕ
-MAX_ROWS = 14020
 
 -- as many calls as the longest rule may have, one for two bytes, and one more
 abbrev pub CALLS : ℕ
@@ -44,9 +43,14 @@ pub record Counts (rule image tree : List ℕ) (plan : Plan) (rows : List Placed
   pub members : r ≡ length (arrivals image (calls_in rule tree (take plan.calls rows)) (source_members image (tree_kind tree plan.source) (children_at rule tree plan.source)))
   pub table : after ≡ with_members [] before
 
+-- the number of an operator's kind; that of no kind where there is none
+abbrev pub number_or_none : Option Kind → ℕ
+number_or_none None = NONE
+number_or_none (Some kind) = number kind
+
 -- the operator of a comparison's own tokens, which its rows say without the rule
-pub record OperatorAt (tree : List ℕ) (at r : ℕ) : Type 0 where
-  pub operator : (rule : List ℕ) → r ≡ operator_of (children_at rule tree at)
+pub record OperatorAt (tree : List ℕ) (at : ℕ) (r : Option Kind) : Type 0 where
+  pub operator : (rule : List ℕ) → number_or_none r ≡ operator_of (children_at rule tree at)
 
 -- what is settled, of as many members as arrived
 pub record Gives (kind : ValueKind) (method : Method) (t : Tally) (r : Value) : Type 0 where

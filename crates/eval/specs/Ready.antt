@@ -1,6 +1,6 @@
 -- The calls of a pipeline made ready for members: each has its method, and the place of its CALL_ARGS in the tree table. Assumes nothing:
 -- these are definitions.
-use Rattle.std.specs.Prelude.{ℕ, ◌+◌, ◌≤◌, ◌<◌, List, ◌++◌, map, cond, ◌≡◌, eqb, length, take, drop, get_or, Option, Some, None, Result, Ok, Err}
+use Rattle.std.specs.Prelude.{ℕ, ◌+◌, ◌≤◌, ◌<◌, List, map, cond, ◌≡◌, eqb, length, take, drop, get_or, Option, Some, None, Result, Ok, Err}
 use Rattle.syntax.specs.Kind.{IDENT, CALL_ARGS, IDENT_EXPR}
 use Rattle.syntax.specs.declared.refusal.Refusal.{Refusal}
 use Rattle.trees.specs.Green.{Forest}
@@ -8,7 +8,7 @@ use Rattle.board.specs.Image.{component_count, diagnostic_count}
 use Rattle.predicate.specs.declared.atom.Member.{Member}
 use Rattle.predicate.specs.declared.atom.Member.TheVariants.{Component, Diagnostic}
 use Rattle.predicate.specs.Truth.{first_text, literal_of}
-use Rattle.predicate.specs.Rows.{ROW, level_at, forest_from, children_at, first_row, of_kind, of_node}
+use Rattle.predicate.specs.Rows.{ROW, level_at, children_at, first_row, of_kind, of_node}
 use Rattle.predicate.specs.Rows.{kind_at as tree_kind}
 use Rattle.predicate.specs.Eval.{FoundAt}
 use Rattle.meaning.specs.Value.{Sort, components, diagnostics, sort_kind, refused}
@@ -63,26 +63,11 @@ args_place tree row = place_or (length tree) (first_row (of_kind CALL_ARGS) tree
 abbrev pub call_row : (rule tree : List ℕ) → ℕ → PlacedCall
 call_row rule tree row = record { method = method_of (first_text IDENT (children_at rule tree row)); args = args_place tree row }
 
--- there is room for the calls at a level from a row of the tree on
-pub record CallsFit (rule tree : List ℕ) (level row : ℕ) (rows : List PlacedCall) (count : ℕ) : Type 0 where
-  pub room : count + length (calls_of (forest_from rule tree level row)) ≤ length rows
-
--- the first calls, and the calls at a level from a row of the tree on, together are all
-pub record Putting (rule tree : List ℕ) (all : List Call) (level row : ℕ) (rows : List PlacedCall) (count : ℕ) : Type 0 where
-  pub fit : CallsFit rule tree level row rows count
-  pub number : count + length (calls_of (forest_from rule tree level row)) ≡ length all
-  pub calls : calls_in rule tree (take count rows) ++ calls_of (forest_from rule tree level row) ≡ all
-
--- one row of the tree further
-pub record PutsRow (rule tree : List ℕ) (level row : ℕ) (before : List PlacedCall) (count : ℕ) (after : List PlacedCall) (r : ℕ) : Type 0 where
-  pub long : length after ≡ length before
-  pub further : (all : List Call) → Putting rule tree all level row before count → Putting rule tree all level (row + ROW) after r
-
--- all calls of the pipeline whose row is at a place
-pub record Holds (rule tree : List ℕ) (at : ℕ) (rows : List PlacedCall) (count : ℕ) : Type 0 where
-  pub number : count ≡ length (calls_of (children_at rule tree at))
+-- the calls at the front of the room are all of these
+pub record Holds (rule tree : List ℕ) (all : List Call) (rows : List PlacedCall) (count : ℕ) : Type 0 where
+  pub number : count ≡ length all
   pub room : count ≤ length rows
-  pub calls : calls_in rule tree (take count rows) ≡ calls_of (children_at rule tree at)
+  pub calls : calls_in rule tree (take count rows) ≡ all
 
 -- the kind after all calls, or the refusal of the leftmost that may not stand where it stands; and the last call. The calls say it without
 -- rule and tree
@@ -105,7 +90,7 @@ source_members image kind f =
 -- what is known of the pipeline whose row is at a place: the row of its source, its calls in order and the kind that they come to
 pub record Ready (rule tree : List ℕ) (at : ℕ) (rows : List PlacedCall) (plan : Plan) : Type 0 where
   pub found : FoundAt of_node tree (level_at tree at + 1) (at + ROW) plan.source
-  pub holds : Holds rule tree at rows plan.calls
+  pub holds : Holds rule tree (calls_of (children_at rule tree at)) rows plan.calls
   pub comes : plan_of (sort_kind (source_sort (tree_kind tree plan.source))) (calls_of (children_at rule tree at)) ≡ Ok plan.kind
 
 -- or that it is refused on every board

@@ -1,20 +1,21 @@
 // The calls of a pipeline made ready for members: the method, and the place of its CALL_ARGS in the tree table. Whether each call may
 // stand where it stands is settled here, from the kinds alone.
-ghost use Rattle.std.specs.Prelude.{◌≡◌, ◌+◌, ◌*◌, ◌≤◌, ◌<◌, ◌^◌, length};
-ghost use Rattle.predicate.specs.Rows.{ROW, level_at, kind_at, children_at, row_passes, of_kind};
+ghost use Rattle.std.specs.Prelude.{◌≡◌, ◌+◌, ◌≤◌, length};
+ghost use Rattle.predicate.specs.Rows.{level_at, kind_at, forest_from, children_at, row_passes, of_kind};
 ghost use Rattle.syntax.specs.Kind.{DOT_CALL};
 ghost use Rattle.meaning.specs.Value.{sort_kind};
 ghost use Rattle.meaning.specs.Pipeline.{calls_of};
 ghost use Rattle.meaning.specs.Walk.{is_last};
-ghost use Rattle.eval.specs.Ready.{CallAt, KindAfter, LastMethod, source_sort, args_place, call_row, CallsFit, PutsRow, Holds, Plans};
+ghost use Rattle.eval.specs.Ready.{CallAt, KindAfter, LastMethod, source_sort, args_place, call_row, Holds, Plans};
 
 use calls::{method, table};
 use meaning::{Method, ValueKind};
 use predicate::{node, rows};
-use syntax::kind;
+use syntax::kind::Kind;
 use syntax::refusal::Refusal;
 
-// A call by its method, and the place of its CALL_ARGS in the tree table.
+// A call by its method, and the place of its CALL_ARGS in the tree table: where there is none, past all rows. An `Option` would make it half
+// as large again.
 #[derive(Clone, Copy)]
 pub(crate) struct Call {
     pub method: Method,
@@ -44,13 +45,13 @@ pub(crate) fn plan_pipeline(
     at: usize,
     calls: &mut [Call],
 ) -> Result<Plan, Refusal>
-    requires { (at + ROW ≤ length tree.now) × (length (calls_of (children_at rule.now tree.now at)) ≤ length calls.old) }
+    requires { length (calls_of (children_at rule.now tree.now at)) ≤ length calls.old }
     ensures { Plans rule.now tree.now at calls.new result }
 {
     let Some(source) = node::first_child(tree, at) else {
         return Err(Refusal::ParseErrors);
     };
-    let count = put_calls(rule, tree, at, calls);
+    let count = put_calls(rule, tree, at, source, calls);
     let kind = kind_after(&calls[..count], source_kind(tree, source))?;
     Ok(Plan {
         source,
@@ -61,56 +62,40 @@ pub(crate) fn plan_pipeline(
 
 // The kind of what a source gives.
 fn source_kind(tree: &[u32], source: usize) -> ValueKind
-    requires { source + ROW ≤ length tree.now }
     ensures { result ≡ sort_kind (source_sort (kind_at tree.now source)) }
 {
-    if tree[source] == kind::IDENT_EXPR {
-        return ValueKind::Components;
+    match rows::kind_at(tree, source) {
+        Ok(Kind::IdentExpr) => ValueKind::Components,
+        _ => ValueKind::Diagnostics,
     }
-    ValueKind::Diagnostics
 }
 
-// Writes each call of the pipeline whose row is at a place, and gives their number.
-fn put_calls(rule: &[u8], tree: &[u32], at: usize, calls: &mut [Call]) -> usize
-    requires { (at + ROW ≤ length tree.now) × (length (calls_of (children_at rule.now tree.now at)) ≤ length calls.old) }
-    ensures { Holds rule.now tree.now at calls.new result }
+// Writes each call of the pipeline whose row is at a place, from its source's row on, and gives their number.
+fn put_calls(rule: &[u8], tree: &[u32], at: usize, source: usize, calls: &mut [Call]) -> usize
+    requires { length (calls_of (forest_from rule.now tree.now (level_at tree.now at + 1) source)) ≤ length calls.old }
+    ensures { Holds rule.now tree.now (calls_of (forest_from rule.now tree.now (level_at tree.now at + 1) source)) calls.new result }
 {
-    let level = tree[at + 1] as usize;
-    let mut row = at + rows::ROW;
+    let level = rows::level_at(tree, at) as usize;
+    let mut row = source;
     let mut count = 0;
     // The rows end at a level, and not at a number, so that a `while` says it.
     while rows::is_below(tree, level, row) {
-        count = put_row(rule, tree, level + 1, row, calls, count);
+        if is_call(tree, level + 1, row) {
+            calls[count] = call_at(rule, tree, row);
+            count += 1;
+        }
         row += rows::ROW;
     }
     count
 }
 
-// Writes a call if a DOT_CALL at a level has its row at a place, and gives the number of calls then.
-fn put_row(
-    rule: &[u8],
-    tree: &[u32],
-    level: usize,
-    row: usize,
-    calls: &mut [Call],
-    count: usize,
-) -> usize
-    requires { (row + ROW ≤ length tree.now) × (level ≤ level_at tree.now row) × CallsFit rule.now tree.now level row calls.old count }
-    ensures { PutsRow rule.now tree.now level row calls.old count calls.new result }
-{
-    if is_call(tree, level, row) {
-        calls[count] = call_at(rule, tree, row);
-        return count + 1;
-    }
-    count
-}
-
 // Whether the row at a place is that of a DOT_CALL at a level.
+#[tactic(auto, unfolding(predicate::specs::Rows::row_passes))]
 fn is_call(tree: &[u32], level: usize, row: usize) -> bool
-    requires { row + ROW ≤ length tree.now }
     ensures { result ≡ row_passes (of_kind DOT_CALL) tree.now level row }
 {
-    tree[row + 1] as usize == level && tree[row] == kind::DOT_CALL
+    matches!(rows::kind_at(tree, row), Ok(Kind::DotCall))
+        && rows::level_at(tree, row) as usize == level
 }
 
 // The call whose DOT_CALL has its row at a place.
@@ -127,7 +112,7 @@ fn call_at(rule: &[u8], tree: &[u32], row: usize) -> Call
 fn args_place(tree: &[u32], row: usize) -> usize
     ensures { result ≡ args_place tree.now row }
 {
-    match node::child_of_kind(tree, row, kind::CALL_ARGS) {
+    match node::child_of_kind(tree, row, Kind::CallArgs.into()) {
         Some(args) => args,
         None => tree.len(),
     }

@@ -9,13 +9,11 @@ use native.Mathlib.Numerals.{add-one}
 use native.Mathlib.Omega.{arith}
 use borrow.Author.Tests.{eq-eqb, ne_eqb, lt-ltb, le-ltb, eqb-true, eqb-false, ltb-true, ltb-false, not-true, not-false}
 use lib.Dec.{eqb, ltb}
-use lib.ListN.{length, get_or, take, drop, set, replicate, length-set, length-drop, length-replicate, get_or-replicate}
-use lib.Seq.{take_all, set_out, get_or-set_same, get_or-set_other, ext_get_or}
-use Rattle.syntax.specs.Text.{ascii}
+use lib.ListN.{length, get_or, set, replicate, length-set, length-replicate, get_or-replicate}
+use lib.Seq.{set_out, get_or-set_same, get_or-set_other, ext_get_or}
 use Rattle.syntax.proofs.BoolLaws.{whether}
 use Rattle.board.specs.Image.{component_count, property_count, property_component}
-use Rattle.std.specs.Prelude.{Option, Some, None}
-use Rattle.matching.specs.Search.{find, set_before, name_after, property_set_of, property_name_of}
+use Rattle.matching.specs.Search.{property_set_of, property_name_of}
 use Rattle.instance.specs.Instance.{some, is_property, has_property, has_feature}
 use Rattle.marks.specs.Marks.{mark_of, is_named, property_marks, marked, marks_of, feature_mark, feature_marks, featured, mark_by}
 
@@ -133,22 +131,6 @@ module _ (image set_name name : List ℕ) (property : ℕ) (marks : List ℕ) {r
     pub owner_outside : length marks ≤ owner → marks ≡ marked image set_name name property marks
     unfolding marked
     owner_outside l = rw (sym e ∙ not-false r h, ← f) (sym (set_out marks owner 1 l))
-
--- ---- a text, parted where `::` was found, whole where it was not
-
-module _ (image value : List ℕ) (n : ℕ) where
-  by_found : {f : Option ℕ} → find (ascii "::") value ≡ f → property_marks image (set_before f value) (name_after f value) 0 n ≡ marks_of image value n
-  unfolding marks_of property_set_of property_name_of
-  by_found e = sym (ap (λ (f : Option ℕ). property_marks image (set_before f value) (name_after f value) 0 n) e)
-
-  pub marks_whole : find (ascii "::") value ≡ None → property_marks image [] value 0 n ≡ marks_of image value n
-  marks_whole e = by_found e
-
-  pub marks_parted : {at : ℕ} → find (ascii "::") value ≡ Some at
-      → property_marks image (take at value) (take (length value - (at + 2)) (drop (at + 2) value)) 0 n ≡ marks_of image value n
-  marks_parted {at} e =
-      ap (λ (name : List ℕ). property_marks image (take at value) name 0 n) (take_all (length value - (at + 2)) (drop (at + 2) value) (omega (arith, length-drop (at + 2) value)))
-      ∙ by_found e
 
 -- ---- components looked at for a feature
 

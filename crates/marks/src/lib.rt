@@ -17,15 +17,13 @@ const OF_PROPERTY: u8 = 1;
 
 const OF_FEATURE: u8 = 2;
 
-// Marks the components that have the property that a text names: its set and its name, parted by the first `::`.
+// Marks the components that have the property that a text names.
+#[tactic(auto, unfolding(crate::specs::Marks::marks_of))]
 pub fn mark_properties(image: &[u8], value: &[u8], marks: &mut [u8])
     ensures { marks.new ≡ marks_of image.now value.now (length marks.old) }
 {
-    let Some(at) = search::find(value, b"::") else {
-        mark_named(image, b"", value, marks);
-        return;
-    };
-    mark_named(image, &value[..at], &value[at + 2..], marks);
+    let (set, name) = search::parted(value);
+    mark_named(image, set, name, marks);
 }
 
 // Marks the components that have no mark yet and have a feature of this name.

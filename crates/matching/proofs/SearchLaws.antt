@@ -3,7 +3,7 @@
 use mathlib.Core.Path.{◌≡◌, refl, sym, ap, ◌∙◌}
 use mathlib.Core.Bool.{Bool, true, false, ◌&&◌, and-false, false≢true}
 use mathlib.Core.List.{List, [], ◌∷◌}
-use Rattle.std.specs.Prelude.{None, Some}
+use Rattle.std.specs.Prelude.{Option, None, Some}
 use Prim.Native.Nat.{ℕ, suc, ◌+◌, ◌-◌, ◌≤◌, ◌<◌}
 use native.Mathlib.Numerals.{add-one}
 use native.Mathlib.Omega.{arith}
@@ -11,10 +11,12 @@ use native.Mathlib.Nat.{le_of_suc-le-suc}
 use borrow.Author.Tests.{ne_eqb}
 use lib.Dec.{eqb}
 use lib.ListN.{length, take, drop, get_or, length-drop}
+use lib.Seq.{take_all}
+use Rattle.syntax.specs.Text.{ascii}
 use Rattle.std.specs.Cmp.Lexicographic.{pointwise}
 use Rattle.syntax.proofs.BoolLaws.{both}
 use Rattle.syntax.proofs.TextLaws.{from}
-use Rattle.matching.specs.Search.{starts_with, find_from, find}
+use Rattle.matching.specs.Search.{starts_with, find_from, find, set_before, name_after, property_set_of, property_name_of}
 
 -- a text begins with a part if it has the part's bytes there, as `==` says it
 starting_same : (part text : List ℕ) → pointwise eqb part (take (length part) text) ≡ starts_with part text
@@ -122,3 +124,23 @@ found_from part n (y ∷ text) at h = go (starts_with part (y ∷ text)) refl (f
 pub found_within : (part text : List ℕ) {at : ℕ} → find part text ≡ Some at → at + length part ≤ length text
 unfolding find
 found_within part text {at} h = omega (arith, found_from part 0 text at h)
+
+-- a property's set and name, by where `::` was found
+module _ (text : List ℕ) where
+  pub set_whole : find (ascii "::") text ≡ None → [] ≡ property_set_of text
+  unfolding property_set_of
+  set_whole e = sym (ap (λ (f : Option ℕ). set_before f text) e)
+
+  pub name_whole : find (ascii "::") text ≡ None → text ≡ property_name_of text
+  unfolding property_name_of
+  name_whole e = sym (ap (λ (f : Option ℕ). name_after f text) e)
+
+  pub set_parted : {at : ℕ} → find (ascii "::") text ≡ Some at → take at text ≡ property_set_of text
+  unfolding property_set_of
+  set_parted e = sym (ap (λ (f : Option ℕ). set_before f text) e)
+
+  pub name_parted : {at : ℕ} → find (ascii "::") text ≡ Some at → take (length text - (at + 2)) (drop (at + 2) text) ≡ property_name_of text
+  unfolding property_name_of
+  name_parted {at} e =
+      take_all (length text - (at + 2)) (drop (at + 2) text) (omega (arith, length-drop (at + 2) text))
+      ∙ sym (ap (λ (f : Option ℕ). name_after f text) e)

@@ -1,6 +1,6 @@
 // A text searched for in another: what eval.rs asks of `str::contains` and `str::split_once`.
 ghost use Rattle.std.specs.Prelude.{◌≡◌, ◌+◌, ◌≤◌, length, drop};
-ghost use Rattle.matching.specs.Search.{starts_with, find, contains};
+ghost use Rattle.matching.specs.Search.{starts_with, find, contains, property_set_of, property_name_of};
 
 // The first place at which a part stands in a text; an empty one stands at 0.
 pub fn find(text: &[u8], part: &[u8]) -> Option<usize>
@@ -28,6 +28,17 @@ pub fn contains(text: &[u8], part: &[u8]) -> bool
     ensures { result ≡ contains part.now text.now }
 {
     find(text, part).is_some()
+}
+
+// The set and the name of the property that a text names, parted by the first `::`; the set is empty where there is none.
+pub fn parted(text: &[u8]) -> (&[u8], &[u8])
+    ensures set { result.0.now ≡ property_set_of text.now }
+    ensures name { result.1.now ≡ property_name_of text.now }
+{
+    match find(text, b"::") {
+        Some(at) => (&text[..at], &text[at + 2..]),
+        None => (b"", text),
+    }
 }
 
 // Whether the text from a place on, which has as many bytes, begins with a part.

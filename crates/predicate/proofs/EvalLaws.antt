@@ -14,9 +14,9 @@ use Rattle.predicate.specs.declared.Truth.{Truth}
 use Rattle.predicate.specs.declared.Operands.{Operands}
 use Rattle.predicate.specs.Truth.{or_after, joined_by, joined, sort_of, settle, truths, truth}
 use Rattle.predicate.specs.Rows.{ROW, kind_at, level_at, forest_from, children_at, node_at, is_below, of_node, past_below}
-use Rattle.predicate.specs.Eval.{FoundAt, FoundNowhere, Skips, Evaluated, Inner, joined_from, Joined, Operand, Joins}
+use Rattle.predicate.specs.Eval.{FoundAt, FoundNowhere, Skips, settled_at, Evaluated, Inner, joined_from, Joined, Operand, Joins}
 use Rattle.predicate.proofs.RowLaws.{row_there, below_row, row_below, passed_row, passed_stop}
-use Rattle.predicate.proofs.AtomLaws.{node_truth, of_kind_lem}
+use Rattle.predicate.proofs.AtomLaws.{node_truth, settled_kind}
 use Rattle.predicate.proofs.ForestLaws.{forest_below, forest_ends, forest_token, forest_node, forest_skip, passed_passed, found_passed, found_level, found_kind, Ignores, ignored_none, ignored_found}
 
 -- no row is at a place
@@ -29,15 +29,15 @@ module _ (ev : Evaluator) where
   module _ (at : ℕ) (h : at + ROW ≤ length ev.tree.now) where
     pub truth_binary : kind_at ev.tree.now at ≡ BINARY_EXPR → truth ev.image.now ev.member (node_at ev.rule.now ev.tree.now at) ≡ joined_from ev (level_at ev.tree.now at) (record { at = at + ROW; or = false; before = true })
     unfolding settle sort_of joined_from
-    truth_binary e = sym (of_kind_lem ev.rule.now ev.image.now ev.tree.now ev.member at h e)
+    truth_binary e = node_truth ev at h ∙ sym (settled_kind ev at e)
 
     pub truth_unary : kind_at ev.tree.now at ≡ UNARY_EXPR → truth ev.image.now ev.member (node_at ev.rule.now ev.tree.now at) ≡ not (truth ev.image.now ev.member (children_at ev.rule.now ev.tree.now at))
     unfolding settle sort_of truth
-    truth_unary e = sym (of_kind_lem ev.rule.now ev.image.now ev.tree.now ev.member at h e)
+    truth_unary e = node_truth ev at h ∙ sym (settled_kind ev at e)
 
     pub truth_paren : kind_at ev.tree.now at ≡ PAREN_EXPR → truth ev.image.now ev.member (node_at ev.rule.now ev.tree.now at) ≡ truth ev.image.now ev.member (children_at ev.rule.now ev.tree.now at)
     unfolding settle sort_of truth
-    truth_paren e = sym (of_kind_lem ev.rule.now ev.image.now ev.tree.now ev.member at h e)
+    truth_paren e = node_truth ev at h ∙ sym (settled_kind ev at e)
 
   -- the truth of a forest is that of its first node
   truth_ignores : Ignores of_node (truth ev.image.now ev.member)
@@ -130,7 +130,7 @@ module _ (ev : Evaluator) {level : ℕ} {s : Operands} (b : Operand ev.tree.now 
     unfolding joined_from joined truths
     operand k {next} n =
         ap (λ (f : Forest). joined s.or (joined_by s.or s.before (truth ev.image.now ev.member (node_at ev.rule.now ev.tree.now s.at))) f (truths ev.image.now ev.member f)) (forest_skip ev.rule.now n)
-        ∙ ap (λ (t : Bool). joined s.or (joined_by s.or s.before t) rest (truths ev.image.now ev.member rest)) (node_truth ev.rule.now ev.image.now ev.tree.now ev.member s.at there)
+        ∙ ap (λ (t : Bool). joined s.or (joined_by s.or s.before t) rest (truths ev.image.now ev.member rest)) (node_truth ev s.at there)
         ∙ ap (λ (n : ℕ). joined s.or (joined_by s.or s.before (settle ev.image.now ev.member (sort_of (kind_at ev.tree.now s.at)) (forest_from ev.rule.now ev.tree.now (n + 1) (s.at + ROW)) (truths ev.image.now ev.member (forest_from ev.rule.now ev.tree.now (n + 1) (s.at + ROW))))) rest (truths ev.image.now ev.member rest)) level_is
         ∙ sym (ap (λ (f : Forest). joined s.or s.before f (truths ev.image.now ev.member f)) (forest_node ev.rule.now ev.tree.now (level + 1) s.at there level_is k))
       where
@@ -182,15 +182,18 @@ module _ {ev : Evaluator} {level from : ℕ} where
 
 -- what the functions of the cycle give, by what those that they call gave
 module _ {ev : Evaluator} where
-  module _ {at : ℕ} {r : Truth} (h : at + ROW ≤ length ev.tree.now) where
-    pub evaluated_binary : kind_at ev.tree.now at ≡ BINARY_EXPR → Joined ev (level_at ev.tree.now at) (at + ROW) r → Evaluated ev at r
+  module _ {at : ℕ} (h : at + ROW ≤ length ev.tree.now) where
+    pub evaluated_binary : {r : Truth} → kind_at ev.tree.now at ≡ BINARY_EXPR → Joined ev (level_at ev.tree.now at) (at + ROW) r → Evaluated ev at r
     evaluated_binary k j = record { value = j.value ∙ sym (truth_binary ev at h k); next = j.next }
 
-    pub evaluated_unary : kind_at ev.tree.now at ≡ UNARY_EXPR → Inner ev (level_at ev.tree.now at) (at + ROW) r → Evaluated ev at (record { value = not r.value; next = r.next })
+    pub evaluated_unary : {r : Truth} → kind_at ev.tree.now at ≡ UNARY_EXPR → Inner ev (level_at ev.tree.now at) (at + ROW) r → Evaluated ev at (record { value = not r.value; next = r.next })
     evaluated_unary k i = record { value = ap not i.value ∙ sym (truth_unary ev at h k); next = i.next }
 
-    pub evaluated_paren : kind_at ev.tree.now at ≡ PAREN_EXPR → Inner ev (level_at ev.tree.now at) (at + ROW) r → Evaluated ev at r
+    pub evaluated_paren : {r : Truth} → kind_at ev.tree.now at ≡ PAREN_EXPR → Inner ev (level_at ev.tree.now at) (at + ROW) r → Evaluated ev at r
     evaluated_paren k i = record { value = i.value ∙ sym (truth_paren ev at h k); next = i.next }
+
+    pub evaluated_atom : {value : Bool} {next : ℕ} → value ≡ settled_at ev at → Skips ev.tree.now (level_at ev.tree.now at) (at + ROW) next → Evaluated ev at (record { value = value; next = next })
+    evaluated_atom v s = record { value = v ∙ sym (node_truth ev at h); next = s }
 
   pub inner_empty : {level from next : ℕ} → FoundNowhere of_node ev.tree.now (level + 1) from → Skips ev.tree.now level from next → Inner ev level from (record { value = false; next = next })
   inner_empty {level} {from} f n = record { value = inner_none ev (level + 1) from f; next = n }

@@ -24,11 +24,11 @@ unfolding is_row
 row_missing tree at h = leb-false (at + ROW) (length tree) h
 
 -- a row passes a test if it is at the level and its kind does
-pub passes_elsewhere : (test : ℕ → Bool) (tree : List ℕ) (level at : ℕ) {m : ℕ} → m ≡ level_at tree at → (m ≡ level → ⊥) → false ≡ row_passes test tree level at
+passes_elsewhere : (test : ℕ → Bool) (tree : List ℕ) (level at : ℕ) {m : ℕ} → m ≡ level_at tree at → (m ≡ level → ⊥) → false ≡ row_passes test tree level at
 unfolding row_passes
 passes_elsewhere test tree level at {m} e h = sym (rw (ne_eqb (level_at tree at) level (λ d. h (e ∙ d))))
 
-pub passes_here : (test : ℕ → Bool) (tree : List ℕ) (level at : ℕ) {m : ℕ} → m ≡ level_at tree at → m ≡ level → test (kind_at tree at) ≡ row_passes test tree level at
+passes_here : (test : ℕ → Bool) (tree : List ℕ) (level at : ℕ) {m : ℕ} → m ≡ level_at tree at → m ≡ level → test (kind_at tree at) ≡ row_passes test tree level at
 unfolding row_passes
 passes_here test tree level at {m} e h = sym (rw (eq-eqb (level_at tree at) level (sym e ∙ h)))
 

@@ -5,8 +5,8 @@ use Rattle.predicate.specs.declared.rows.Row.{Row}
 use Rattle.predicate.specs.declared.Evaluator.{Evaluator}
 use Rattle.predicate.specs.declared.Truth.{Truth}
 use Rattle.predicate.specs.declared.Operands.{Operands}
-use Rattle.predicate.specs.Truth.{truths, truth, joined}
-use Rattle.predicate.specs.Rows.{ROW, kind_at, level_at, forest_from, node_at, is_below, rows_from, past_below}
+use Rattle.predicate.specs.Truth.{sort_of, settle, truths, truth, joined}
+use Rattle.predicate.specs.Rows.{ROW, kind_at, level_at, forest_from, children_at, node_at, is_below, rows_from, past_below}
 
 -- the row at a place, a whole one
 pub record IsRow (tree : List ℕ) (at : ℕ) (row : Row) : Type 0 where
@@ -40,6 +40,12 @@ pub record Skips (tree : List ℕ) (level from next : ℕ) : Type 0 where
 -- the truth of the node whose row is at a place
 abbrev pub truth_at : Evaluator → ℕ → Bool
 truth_at ev at = truth ev.image.now ev.member (node_at ev.rule.now ev.tree.now at)
+
+-- the same by the kind of its row and its children: where the row is a whole one
+abbrev pub settled_at : Evaluator → ℕ → Bool
+settled_at ev at =
+    let f : Forest = children_at ev.rule.now ev.tree.now at in
+    settle ev.image.now ev.member (sort_of (kind_at ev.tree.now at)) f (truths ev.image.now ev.member f)
 
 pub record Evaluated (ev : Evaluator) (at : ℕ) (r : Truth) : Type 0 where
   pub value : r.value ≡ truth_at ev at

@@ -1,17 +1,17 @@
 // The atoms of predicates: `connected`, `has('..')`, `field == '..'` and `message.contains('..')`, of one member of a board.
-ghost use Rattle.std.specs.Prelude.{◌≡◌, ◌+◌, ◌≤◌, length};
+ghost use Rattle.std.specs.Prelude.{◌≡◌};
 ghost use Rattle.syntax.specs.Kind.{BINARY_EXPR, UNARY_EXPR, PAREN_EXPR};
+ghost use Rattle.syntax.specs.Kinds.{number};
 ghost use Rattle.predicate.specs.Truth.{connected, has_property_of, has, compares, message_contains, literal_of};
-ghost use Rattle.predicate.specs.Rows.{ROW, kind_at, children_at};
-ghost use Rattle.predicate.specs.Eval.{truth_at};
+ghost use Rattle.predicate.specs.Rows.{kind_at, children_at};
+ghost use Rattle.predicate.specs.Eval.{settled_at};
 
 use crate::{Evaluator, node};
 use board::image;
-use board::image::Section;
 use instance;
 use matching;
 use matching::search;
-use syntax::kind;
+use syntax::kind::Kind;
 
 // A member of a collection: a component, a component's feature, or a diagnostic, by their indexes on the board.
 #[derive(Clone, Copy)]
@@ -22,17 +22,18 @@ pub enum Member {
 }
 
 impl<'a> Evaluator<'a> {
-    // Whether the atom whose row is at a place is true of the member.
-    pub(crate) fn eval_atom(&self, at: usize) -> bool
-        requires row { at + ROW ≤ length self.now.tree.now }
+    // Whether the atom whose row is at a place, and is of this kind, is true of the member.
+    #[tactic(auto, using(crate::proofs::AtomLaws::settled_ident, crate::proofs::AtomLaws::settled_call, crate::proofs::AtomLaws::settled_contains, crate::proofs::AtomLaws::settled_compare, crate::proofs::AtomLaws::settled_other))]
+    pub(crate) fn eval_atom(&self, kind: Kind, at: usize) -> bool
+        requires kind { number kind ≡ kind_at self.now.tree.now at }
         requires atom { (kind_at self.now.tree.now at ≡ BINARY_EXPR → ⊥) × (kind_at self.now.tree.now at ≡ UNARY_EXPR → ⊥) × (kind_at self.now.tree.now at ≡ PAREN_EXPR → ⊥) }
-        ensures { result ≡ truth_at self.now at }
+        ensures { result ≡ settled_at self.now at }
     {
-        match self.tree[at] {
-            kind::IDENT_EXPR => self.member.connected(self.image),
-            kind::CALL_EXPR => self.member.has(self.image, self.value(at)),
-            kind::CONTAINS_EXPR => self.member.message_contains(self.image, self.value(at)),
-            kind::COMPARE_EXPR => {
+        match kind {
+            Kind::IdentExpr => self.member.connected(self.image),
+            Kind::CallExpr => self.member.has(self.image, self.value(at)),
+            Kind::ContainsExpr => self.member.message_contains(self.image, self.value(at)),
+            Kind::CompareExpr => {
                 let field = node::ident(self.rule, self.tree, at);
                 self.member.compares(self.image, field, self.value(at))
             }
@@ -100,19 +101,20 @@ impl Member {
         let Member::Diagnostic(diagnostic) = self else {
             return false;
         };
-        let message = image::field(image, Section::Diagnostics, diagnostic, image::MESSAGE);
-        search::contains(image::string(image, message), value)
+        search::contains(
+            image::string(image, image::message(image, diagnostic)),
+            value,
+        )
     }
 }
 
-// Whether a component has the property that a text names: its set and its name, parted by the first `::`.
+// Whether a component has the property that a text names.
+#[tactic(auto, unfolding(crate::specs::Truth::has_property_of))]
 fn has_property_of(image: &[u8], component: u32, value: &[u8]) -> bool
     ensures { result ≡ has_property_of image.now component value.now }
 {
-    match search::find(value, b"::") {
-        Some(at) => instance::has_property(image, component, &value[..at], &value[at + 2..]),
-        None => instance::has_property(image, component, b"", value),
-    }
+    let (set, name) = search::parted(value);
+    instance::has_property(image, component, set, name)
 }
 
 // `field == '..'` of a feature.
@@ -121,12 +123,10 @@ fn feature_compares(image: &[u8], component: u32, feature: u32, field: &[u8], va
     ensures { result ≡ compares image.now (Member.Feature component feature) field.now value.now }
 {
     if field == b"kind".as_slice() {
-        let kind = image::field(image, Section::Features, feature, image::FEATURE_KIND);
-        return matching::feature_kind_matches(kind, value);
+        return matching::feature_kind_matches(image::feature_kind(image, feature), value);
     }
     if field == b"direction".as_slice() {
-        let direction = image::field(image, Section::Features, feature, image::DIRECTION);
-        return matching::direction_matches(direction, value);
+        return matching::direction_matches(image::direction(image, feature), value);
     }
     category_is(image, component, field, value)
 }
@@ -137,10 +137,7 @@ fn category_is(image: &[u8], component: u32, field: &[u8], value: &[u8]) -> bool
     ensures { result ≡ compares image.now (Member.Component component) field.now value.now }
 {
     field == b"category".as_slice()
-        && matching::category_matches(
-            image::field(image, Section::Components, component, image::CATEGORY),
-            value,
-        )
+        && matching::category_matches(image::category(image, component), value)
 }
 
 // The same of a diagnostic.
@@ -149,8 +146,5 @@ fn severity_is(image: &[u8], diagnostic: u32, field: &[u8], value: &[u8]) -> boo
     ensures { result ≡ compares image.now (Member.Diagnostic diagnostic) field.now value.now }
 {
     field == b"severity".as_slice()
-        && matching::severity_matches(
-            image::field(image, Section::Diagnostics, diagnostic, image::SEVERITY),
-            value,
-        )
+        && matching::severity_matches(image::severity(image, diagnostic), value)
 }

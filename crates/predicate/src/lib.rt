@@ -13,7 +13,7 @@ ghost use Rattle.predicate.specs.Eval.{truth_at, Evaluated, Inner, Operand, Join
 
 use atom::Member;
 use rows::Row;
-use syntax::kind;
+use syntax::kind::Kind;
 
 // What evaluates the nodes of a rule's tree: the rule, its tree, and the member of a board that they are asked of.
 #[derive(Clone, Copy)]
@@ -70,27 +70,19 @@ pub fn eval_args(rule: &[u8], image: &[u8], tree: &[u32], member: Member, at: us
 
 impl Evaluator<'_> {
     // The truth of the first node inside the one whose row is at a place; false where there is none.
-    #[cycle(eval_args)]
     fn eval_args(&self, at: usize) -> bool
         ensures { result ≡ truth self.now.image.now self.now.member (children_at self.now.rule.now self.now.tree.now at) }
     {
-        match node::first_child(self.tree, at) {
-            Some(predicate) => self.eval_alone(predicate),
-            None => false,
-        }
-    }
-
-    // The truth of a node after which no row is looked at, so that its rows need not be passed over.
-    #[cycle(eval_args)]
-    fn eval_alone(&self, at: usize) -> bool
-        requires { at + ROW ≤ length self.now.tree.now }
-        ensures { result ≡ truth_at self.now at }
-    {
-        match self.tree[at] {
-            kind::BINARY_EXPR => self.eval_node(at).value,
-            kind::UNARY_EXPR => !self.eval_args(at),
-            kind::PAREN_EXPR => self.eval_args(at),
-            _ => self.eval_atom(at),
+        let Some(predicate) = node::first_child(self.tree, at) else {
+            return false;
+        };
+        // No row after it is looked at, so that its rows need not be passed over.
+        match rows::kind_at(self.tree, predicate) {
+            Ok(Kind::BinaryExpr) => self.eval_node(predicate).value,
+            Ok(Kind::UnaryExpr) => !self.eval_args(predicate),
+            Ok(Kind::ParenExpr) => self.eval_args(predicate),
+            Ok(kind) => self.eval_atom(kind, predicate),
+            Err(_) => false,
         }
     }
 
@@ -102,24 +94,27 @@ impl Evaluator<'_> {
     {
         let level = self.tree[at + 1];
         let inside = at + rows::ROW;
-        match self.tree[at] {
-            kind::BINARY_EXPR => self.eval_operands(level, inside),
-            kind::UNARY_EXPR => {
+        let value = match Kind::try_from(self.tree[at]) {
+            Ok(Kind::BinaryExpr) => return self.eval_operands(level, inside),
+            Ok(Kind::UnaryExpr) => {
                 let inner = self.eval_inner(level, inside);
-                Truth {
+                return Truth {
                     value: !inner.value,
                     next: inner.next,
-                }
+                };
             }
-            kind::PAREN_EXPR => self.eval_inner(level, inside),
-            _ => Truth {
-                value: self.eval_atom(at),
-                next: rows::skip_below(self.tree, level as usize, inside),
-            },
+            Ok(Kind::ParenExpr) => return self.eval_inner(level, inside),
+            Ok(kind) => self.eval_atom(kind, at),
+            Err(_) => false,
+        };
+        Truth {
+            value,
+            next: rows::skip_below(self.tree, level as usize, inside),
         }
     }
 
     // The first node below a level from a place on: its truth, or false where there is none.
+    #[inline(always)]
     #[cycle(eval_node)]
     fn eval_inner(&self, level: u32, from: usize) -> Truth
         requires { from ≤ length self.now.tree.now }
@@ -142,6 +137,7 @@ impl Evaluator<'_> {
     }
 
     // The operands below a level from a place on, joined from left to right.
+    #[inline(always)]
     #[cycle(eval_node)]
     fn eval_operands(&self, level: u32, from: usize) -> Truth
         requires { from ≤ length self.now.tree.now }
@@ -178,7 +174,7 @@ impl Evaluator<'_> {
                 before,
             };
         }
-        if kind < kind::ROOT {
+        if !rows::is_node(kind) {
             return Operands {
                 at: after,
                 or: or_after(kind, or),
@@ -205,9 +201,9 @@ impl Evaluator<'_> {
 fn or_after(kind: u32, or: bool) -> bool
     ensures { result ≡ or_after kind or }
 {
-    match kind {
-        kind::OR_KW => true,
-        kind::AND_KW => false,
+    match Kind::try_from(kind) {
+        Ok(Kind::OrKw) => true,
+        Ok(Kind::AndKw) => false,
         _ => or,
     }
 }

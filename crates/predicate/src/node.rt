@@ -2,12 +2,15 @@
 // there are none.
 ghost use Rattle.std.specs.Prelude.{◌≡◌, ◌+◌, ◌<◌};
 ghost use Rattle.syntax.specs.Kind.{IDENT, INT_LIT, ROOT};
+ghost use Rattle.syntax.specs.Kinds.{number};
+ghost use Rattle.trees.specs.Look.{is_comparison};
 ghost use Rattle.predicate.specs.Truth.{content, first_text, literal_of};
 ghost use Rattle.predicate.specs.Rows.{ROW, level_at, children_at, of_kind, of_node, first_row};
 
 use crate::rows;
 use crate::rows::Row;
-use syntax::{kind, text};
+use syntax::kind::Kind;
+use syntax::text;
 
 // The row of the first node inside.
 pub fn first_child(tree: &[u32], at: usize) -> Option<usize>
@@ -25,36 +28,44 @@ pub fn child_of_kind(tree: &[u32], at: usize, kind: u32) -> Option<usize>
     rows::find_row(tree, row.level as usize + 1, kind, at + rows::ROW)
 }
 
+// The row of the first comparison operator inside.
+pub fn comparison_operator(tree: &[u32], at: usize) -> Option<usize>
+    ensures { result ≡ first_row is_comparison tree.now (level_at tree.now at + 1) (at + ROW) }
+{
+    let row = Row::at(tree, at)?;
+    rows::find_operator(tree, row.level as usize + 1, at + rows::ROW)
+}
+
 // The text of the first word inside, a part of the rule.
 pub fn ident<'a>(rule: &'a [u8], tree: &[u32], at: usize) -> &'a [u8]
     ensures { result.now ≡ first_text IDENT (children_at rule.now tree.now at) }
 {
-    first_text(rule, tree, at, kind::IDENT)
+    first_text(rule, tree, at, Kind::Ident)
 }
 
 // The text of the first integer inside, a part of the rule.
 pub fn integer<'a>(rule: &'a [u8], tree: &[u32], at: usize) -> &'a [u8]
     ensures { result.now ≡ first_text INT_LIT (children_at rule.now tree.now at) }
 {
-    first_text(rule, tree, at, kind::INT_LIT)
+    first_text(rule, tree, at, Kind::IntLit)
 }
 
 // The content of the string inside, a part of the rule.
 pub fn find_string_literal<'a>(rule: &'a [u8], tree: &[u32], at: usize) -> &'a [u8]
     ensures { result.now ≡ literal_of (children_at rule.now tree.now at) }
 {
-    match child_of_kind(tree, at, kind::LITERAL) {
-        Some(literal) => content(first_text(rule, tree, literal, kind::STRING_LIT)),
+    match child_of_kind(tree, at, Kind::Literal.into()) {
+        Some(literal) => content(first_text(rule, tree, literal, Kind::StringLit)),
         None => &[],
     }
 }
 
 // The text of the first token of a kind inside.
-fn first_text<'a>(rule: &'a [u8], tree: &[u32], at: usize, kind: u32) -> &'a [u8]
-    requires { kind < ROOT }
-    ensures { result.now ≡ first_text kind (children_at rule.now tree.now at) }
+fn first_text<'a>(rule: &'a [u8], tree: &[u32], at: usize, kind: Kind) -> &'a [u8]
+    requires { number kind < ROOT }
+    ensures { result.now ≡ first_text (number kind) (children_at rule.now tree.now at) }
 {
-    match child_of_kind(tree, at, kind) {
+    match child_of_kind(tree, at, kind.into()) {
         Some(token) => text::part(rule, tree[token + 2] as usize, tree[token + 3] as usize),
         None => &[],
     }

@@ -1,11 +1,13 @@
 // Rows of a tree table: kind, level, first byte, end byte. The children of a node are the rows one level below it that follow its own,
 // as far as the next row that is not below it.
 ghost use Rattle.std.specs.Prelude.{◌≡◌, ℕ, ◌+◌, ◌≤◌, ◌<◌, Bool, length, MatchOption};
-ghost use Rattle.predicate.specs.Rows.{is_below, of_kind, of_node};
+ghost use Rattle.syntax.specs.Kinds.{Names};
+ghost use Rattle.trees.specs.Look.{is_comparison};
+ghost use Rattle.predicate.specs.Rows.{kind_at, level_at, is_below, of_kind, of_node};
 ghost use Rattle.predicate.specs.Rows as meant;
 ghost use Rattle.predicate.specs.Eval.{IsRow, Tells, Finds, Skips};
 
-use syntax::kind;
+use syntax::kind::{Kind, UnknownKind};
 
 // The numbers of a row.
 pub const ROW: usize = 4;
@@ -32,6 +34,43 @@ impl Row {
     }
 }
 
+// The kind of the row at a place, if its number is a kind's; WHITESPACE, whose number is 0, where no row is there.
+#[inline(always)]
+pub fn kind_at(tree: &[u32], at: usize) -> Result<Kind, UnknownKind>
+    ensures { Names (kind_at tree.now at) result }
+{
+    Kind::try_from(tree.get(at).copied().unwrap_or(0))
+}
+
+// Its level; 0 where no row is there.
+#[inline(always)]
+pub fn level_at(tree: &[u32], at: usize) -> u32
+    ensures { result ≡ level_at tree.now at }
+{
+    match tree.get(at..) {
+        Some([_, level, ..]) => *level,
+        _ => 0,
+    }
+}
+
+// Whether a kind, by its number, is that of a node.
+pub(crate) fn is_node(kind: u32) -> bool
+    ensures { result ≡ of_node kind }
+{
+    u32::from(Kind::Root) <= kind
+}
+
+// Whether it is that of one of the six comparison operators.
+#[tactic(auto, unfolding(trees::specs::Look::is_comparison))]
+fn is_comparison(kind: u32) -> bool
+    ensures { result ≡ is_comparison kind }
+{
+    matches!(
+        Kind::try_from(kind),
+        Ok(Kind::Ge | Kind::Gt | Kind::Le | Kind::Lt | Kind::EqEq | Kind::Neq)
+    )
+}
+
 // The first row of a kind at a level, from a place on, before one that is above the level.
 pub(crate) fn find_row(tree: &[u32], level: usize, kind: u32, from: usize) -> Option<usize>
     requires { from ≤ length tree.now }
@@ -45,7 +84,15 @@ pub(crate) fn find_child(tree: &[u32], level: usize, from: usize) -> Option<usiz
     requires { from ≤ length tree.now }
     ensures { Finds of_node tree.now level from result }
 {
-    find(tree, level, from, |k| kind::ROOT <= k)
+    find(tree, level, from, |k| is_node(k))
+}
+
+// The first operator of a comparison at a level, from a place on, before a row that is above the level.
+pub(crate) fn find_operator(tree: &[u32], level: usize, from: usize) -> Option<usize>
+    requires { from ≤ length tree.now }
+    ensures { Finds is_comparison tree.now level from result }
+{
+    find(tree, level, from, |k| is_comparison(k))
 }
 
 // The first row at a level whose kind passes a test, from a place on, before a row that is above the level.

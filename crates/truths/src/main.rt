@@ -13,7 +13,7 @@ use predicate::atom::Member;
 use rows::{ROWS, TOKENS};
 use std::io;
 use std::io::Write;
-use syntax::kind;
+use syntax::kind::Kind;
 use syntax::refusal::Refusal;
 
 // The numbers of a collection table that every board has room in.
@@ -90,7 +90,9 @@ fn predicate_row(rows: &[[u32; 4]]) -> usize
     ensures { result ≤ length rows.now }
 {
     let from = past_last_arguments(rows);
-    let found = rows[from..].iter().position(|row| kind::ROOT <= row[0]);
+    let found = rows[from..]
+        .iter()
+        .position(|row| u32::from(Kind::Root) <= row[0]);
     match found {
         Some(i) => from + i,
         None => rows.len(),
@@ -101,7 +103,10 @@ fn predicate_row(rows: &[[u32; 4]]) -> usize
 fn past_last_arguments(rows: &[[u32; 4]]) -> usize
     ensures { result ≤ length rows.now }
 {
-    match rows.iter().rposition(|row| row[0] == kind::CALL_ARGS) {
+    match rows
+        .iter()
+        .rposition(|row| row[0] == u32::from(Kind::CallArgs))
+    {
         Some(i) => i + 1,
         None => 0,
     }

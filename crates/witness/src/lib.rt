@@ -5,12 +5,10 @@ ghost use Rattle.std.specs.Prelude.{◌≡◌, ◌+◌, get_or};
 ghost use Rattle.texts.specs.Append.{Wrote};
 ghost use Rattle.witness.specs.Witness.{is_call, last_call, args_text, by_word, witness_text};
 
-use predicate::node;
-use syntax::{kind, text};
+use predicate::{node, rows};
+use syntax::kind::Kind;
+use syntax::text;
 use texts::Writer;
-
-// The numbers of a row of the tree table.
-const ROW: usize = 4;
 
 // The level of a pipeline's calls.
 const CALL_LEVEL: u32 = 2;
@@ -47,8 +45,8 @@ fn write_by_word(word: &[u8], before: &[u8], args: &[u8], out: &mut Writer<'_>)
 fn last_call(tree: &[u32]) -> Option<usize>
     ensures { result ≡ last_call tree.now }
 {
-    for i in (0..tree.len() / ROW).rev() {
-        let at = ROW * i;
+    for i in (0..tree.len() / rows::ROW).rev() {
+        let at = rows::ROW * i;
         if is_call(tree, at) {
             return Some(at);
         }
@@ -60,14 +58,14 @@ fn last_call(tree: &[u32]) -> Option<usize>
 fn is_call(tree: &[u32], at: usize) -> bool
     ensures { result ≡ is_call tree.now at }
 {
-    number_at(tree, at, 1) == CALL_LEVEL && number_at(tree, at, 0) == kind::DOT_CALL
+    rows::level_at(tree, at) == CALL_LEVEL && matches!(rows::kind_at(tree, at), Ok(Kind::DotCall))
 }
 
 // What stands behind the method of the call whose row is at a place.
 fn args_text<'a>(rule: &'a [u8], tree: &[u32], call: usize) -> &'a [u8]
     ensures { result.now ≡ args_text rule.now tree.now call }
 {
-    match node::child_of_kind(tree, call, kind::CALL_ARGS) {
+    match node::child_of_kind(tree, call, Kind::CallArgs.into()) {
         Some(at) => text::part(
             rule,
             number_at(tree, at, 2) as usize,

@@ -1,21 +1,33 @@
--- `put_calls` writes a row for each call: those written and those left are all. Assumes nothing.
-use Rattle.eval.proofs.CallLaws.{walking_start, walking_on, walking_end}
-use Rattle.predicate.proofs.RowLaws.{row_there, below_row}
+-- `put_calls` writes each call: those written and those left are all. Assumes nothing.
+use mathlib.Core.Path.{sym, ◌∙◌}
 use native.Mathlib.Omega.{arith}
-use mathlib.Core.Path.{refl, sym, ◌∙◌}
+use Rattle.predicate.proofs.RowLaws.{row_there, below_row}
+use Rattle.eval.proofs.CallLaws.{writing_start, writing_past, writing_room, writing_call, writing_end}
 use Rattle.eval.proofs.ready.put_calls.Goals as goal
+use Rattle.eval.proofs.ready.put_calls.Goals.{then-is_call, else-is_call}
 
 pub loop-calls-init : goal.loop-calls-init
-loop-calls-init c = walking_start c.args.rule.now c.args.tree.now c.args.at _ c.args.calls.now c.requires.0 refl c.requires.1
+loop-calls-init c = rw c.level_at-level.ensures (writing_start _ _ _ _ _ c.requires)
 
-pub put_row-count-requires : goal.put_row-count-requires
-put_row-count-requires c = ((row_there _ _ (below_row _ _ _ (sym c.is_below.ensures ∙ c.loop-calls-test.true)).0), omega (arith, (below_row _ _ _ (sym c.is_below.ensures ∙ c.loop-calls-test.true)).1), c.loop-calls.invariant.putting.fit)
+pub bounds-calls-count : goal.bounds-calls-count
+bounds-calls-count c =
+    writing_room c.loop-calls.invariant (row_there _ _ (below_row _ _ _ (sym c.is_below.ensures ∙ c.loop-calls-test.true)).0)
+    (sym c.is_call.ensures ∙ c.if-is_call.true)
 
-pub loop-calls-preserved : goal.loop-calls-preserved
-loop-calls-preserved c = walking_on c.loop-calls.invariant (row_there _ _ (below_row _ _ _ (sym c.is_below.ensures ∙ c.loop-calls-test.true)).0) c.put_row-count.ensures
-
-pub returns : goal.returns
-returns c = walking_end c.loop-calls.invariant (sym c.is_below.ensures ∙ c.loop-calls-test.false)
+pub overflow_add-row : goal.overflow_add-row
+overflow_add-row c = omega (arith, row_there _ _ (below_row _ _ _ (sym c.is_below.ensures ∙ c.loop-calls-test.true)).0)
 
 pub loop-calls-smaller : goal.loop-calls-smaller
-loop-calls-smaller c = omega (arith, (row_there _ _ (below_row _ _ _ (sym c.is_below.ensures ∙ c.loop-calls-test.true)).0))
+loop-calls-smaller c = omega (arith, row_there _ _ (below_row _ _ _ (sym c.is_below.ensures ∙ c.loop-calls-test.true)).0)
+
+pub loop-calls-preserved : goal.loop-calls-preserved
+loop-calls-preserved c =
+    let below = below_row _ _ _ (sym c.is_below.ensures ∙ c.loop-calls-test.true) in
+    let there = row_there _ _ below.0 in
+    elim c.if-is_call.branch [
+      | then-is_call w ↦ rw (w.calls-is, w.count-is) (writing_call c.loop-calls.invariant there (sym c.is_call.ensures ∙ w.if-is_call.true) w.call_at.ensures)
+      | else-is_call w ↦ rw (w.calls-is, w.count-is) (writing_past c.loop-calls.invariant there (omega (arith, below.1)) (sym c.is_call.ensures ∙ w.if-is_call.false))
+    ]
+
+pub returns : goal.returns
+returns c = writing_end _ c.loop-calls.invariant (sym c.is_below.ensures ∙ c.loop-calls-test.false)

@@ -5,7 +5,7 @@ use Rattle.predicate.proofs.NodeLaws.{row_found, row_absent, literal_none, liter
 use Rattle.predicate.proofs.node.find_string_literal.Goals as goal
 
 pub returns-in-Some : goal.returns-in-Some
-returns-in-Some c = c.content.ensures ∙ ap content c.first_text.ensures ∙ literal_found _ (row_found (sym c.child_of_kind.ensures ∙ c.in-Some.is))
+returns-in-Some c = c.content.ensures ∙ ap content c.first_text.ensures ∙ literal_found _ (row_found (sym (rw c.into.ensures at c.child_of_kind.ensures) ∙ c.in-Some.is))
 
 pub returns-in-None : goal.returns-in-None
-returns-in-None c = literal_none _ (row_absent (sym c.child_of_kind.ensures ∙ c.in-None.is))
+returns-in-None c = literal_none _ (row_absent (sym (rw c.into.ensures at c.child_of_kind.ensures) ∙ c.in-None.is))

@@ -23,7 +23,7 @@ pub bounds-tree-token-in-Some : goal.bounds-tree-token-in-Some
 bounds-tree-token-in-Some c = omega (arith, (row_found (sym c.child_of_kind.ensures ∙ c.in-Some.is)).whole)
 
 pub returns-in-Some : goal.returns-in-Some
-returns-in-Some c = c.part.ensures ∙ text_found _ _ c.requires (row_found (sym c.child_of_kind.ensures ∙ c.in-Some.is))
+returns-in-Some c = c.part.ensures ∙ text_found _ _ c.requires (row_found (sym (rw c.into.ensures at c.child_of_kind.ensures) ∙ c.in-Some.is))
 
 pub returns-in-None : goal.returns-in-None
-returns-in-None c = text_none _ _ (row_absent (sym c.child_of_kind.ensures ∙ c.in-None.is))
+returns-in-None c = text_none _ _ (row_absent (sym (rw c.into.ensures at c.child_of_kind.ensures) ∙ c.in-None.is))

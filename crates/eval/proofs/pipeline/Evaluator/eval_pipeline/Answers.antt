@@ -5,17 +5,17 @@ use native.Mathlib.Omega.{arith}
 use Rattle.std.proofs.Common.{rules, Err}
 use mathlib.Core.Path.{◌≡◌, sym, subst}
 use Rattle.eval.specs.Pipeline.{Evaluates}
-use Rattle.eval.proofs.pipeline.eval_pipeline.Goals as goal
+use Rattle.eval.proofs.pipeline.Evaluator.eval_pipeline.Goals as goal
 
 pub plan_pipeline-requires : goal.plan_pipeline-requires
-plan_pipeline-requires c = (c.requires.0, omega (arith, calls_room c.args.rule.now c.args.tree.now c.args.calls.now c.args.at c.requires.4 c.requires.2))
+plan_pipeline-requires c = omega (arith, calls_room c.args.self.now.rule.now c.args.self.now.tree.now c.args.calls.now c.args.at c.requires.2 c.requires.0)
 
 pub walk-tally-requires : goal.walk-tally-requires
 walk-tally-requires c =
     record {
       whole = (subst (Plans _ _ _ _) (c.in_ok-plan.was {u = tt}) c.plan_pipeline.ensures).found.whole;
-      well = c.requires.3.well;
-      room = c.requires.3.room;
+      well = c.requires.1.well;
+      room = c.requires.1.room;
       decides = last_decides _ _ c.last_method-last.ensures;
     }
 
@@ -26,4 +26,4 @@ returns-in_err-plan c =
     subst (Evaluates _ c.args.collection.now c.args.collection.now) (sym is) (refuses _ (subst (Plans _ _ _ _) r c.plan_pipeline.ensures))
 
 pub returns : goal.returns
-returns c = pipeline_given c.args.rule.now c.args.image.now c.args.tree.now c.args.at (subst (Plans _ _ _ _) (c.in_ok-plan.was {u = tt}) c.plan_pipeline.ensures) c.walk-tally.ensures c.last_method-last.ensures c.value.ensures
+returns c = pipeline_given c.args.self.now.rule.now c.args.self.now.image.now c.args.self.now.tree.now c.args.at (subst (Plans _ _ _ _) (c.in_ok-plan.was {u = tt}) c.plan_pipeline.ensures) c.walk-tally.ensures c.last_method-last.ensures c.value.ensures
