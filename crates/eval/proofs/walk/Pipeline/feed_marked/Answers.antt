@@ -1,8 +1,14 @@
--- `feed_marked` makes marks, and sends every component with the memo's front that holds them. Assumes nothing.
-use Rattle.eval.proofs.MemoLaws.{notes_front}
-use Rattle.eval.proofs.SentLaws.{begun}
+-- `feed_marked` marks rows, and sends every component with notes that say nothing yet. Assumes nothing.
+use native.Mathlib.Omega.{arith}
+use mathlib.Core.List.{List}
+use Prim.Native.Nat.{ℕ}
+use Rattle.eval.proofs.MarkedLaws.{marks_none, made_marks}
+use Rattle.eval.proofs.MemoLaws.{sound_begun}
+use Rattle.eval.proofs.SentLaws.{begun, ended}
+use Rattle.eval.specs.Memo.{NOTES}
 use Rattle.eval.specs.Listed.{every_component}
+use Rattle.eval.specs.Walk.{every_of_analysis}
 use Rattle.eval.proofs.walk.Pipeline.feed_marked.Goals as goal
 
 pub feed_each_component-requires : goal.feed_each_component-requires
-feed_each_component-requires c = begun c.new-walk.ensures every_component c.requires (notes_front c.make_marks-rows.ensures _ _ c.held.ensures)
+feed_each_component-requires c = begun c.new-walk.ensures every_component c.requires (sound_begun _ _ NOTES (made_marks c.mark_rows-rows.ensures (omega arith)) c.held.ensures)
