@@ -5,9 +5,9 @@ use mathlib.Core.Bool.{Bool, true, false, not, ◌&&◌, ◌||◌, cond, true≢
 use mathlib.Core.List.{List, [], ◌∷◌}
 use Prim.Native.Nat.{ℕ, zero, suc, ◌+◌, ◌*◌, ◌≤◌, ◌<◌}
 use native.Mathlib.Omega.{arith}
-use Rattle.std.specs.Prelude.{Option, Some, None}
-use lib.Dec.{eqb, ltb, leb}
-use lib.ListN.{length, get_or, take, drop, set, length-set}
+use Rattle.std.specs.Prelude.{Some, None}
+use lib.Dec.{ltb}
+use lib.ListN.{length, get_or, take, drop, set}
 use lib.Seq.{length-take-le, get_or-take, get_or-set_same, get_or-set_other}
 use borrow.Author.Tests.{lt-ltb, le-ltb, ltb-true, ltb-false, not-true, not-false}
 use Rattle.syntax.specs.Kind.{COMPARE_EXPR, CALL_EXPR, ROOT}

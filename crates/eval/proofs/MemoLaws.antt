@@ -1,5 +1,5 @@
 -- Notes made and read, and notes that say nothing. Assumes nothing.
-use mathlib.Core.Path.{◌≡◌, refl, sym, ap, ◌∙◌, subst}
+use mathlib.Core.Path.{◌≡◌, refl, sym, ap, ◌∙◌}
 use mathlib.Core.Bool.{Bool, true, false, cond}
 use mathlib.Core.List.{List, [], ◌∷◌}
 use Prim.Native.Nat.{ℕ, zero, suc, ◌+◌, ◌*◌, ◌≤◌, ◌<◌}
@@ -15,15 +15,14 @@ use Rattle.instance.specs.Instance.{owners_wired}
 use Rattle.predicate.specs.declared.atom.Member.{Member}
 use Rattle.predicate.specs.Truth.{truth}
 use Rattle.predicate.specs.Rows.{children_at}
-use Rattle.profile.specs.declared.Held.{Held}
 use Rattle.profile.specs.Profile.{PROFILES, profile_of}
 use Rattle.profile.proofs.ProfileLaws.{profile_small}
 use Rattle.eval.specs.declared.marked.Marked.{Marked}
 use Rattle.eval.specs.declared.marked.Sorts.{Sorts}
 use Rattle.eval.specs.declared.memo.Note.{Note}
-use Rattle.eval.specs.declared.memo.Note.TheVariants.{NotKnown, False, True, NotToKnow}
+use Rattle.eval.specs.declared.memo.Note.TheVariants.{NotKnown, NotToKnow}
 use Rattle.eval.specs.declared.ready.Call.{Call as PlacedCall}
-use Rattle.eval.specs.Marked.{WAYS, bits_by, bits_of, Marks, TellsBelow}
+use Rattle.eval.specs.Marked.{bits_by, bits_of, Marks, TellsBelow}
 use Rattle.eval.specs.Memo.{NOTED_CALLS, WAY_NOTES, NOTES, told, note_for, args_of, place_by, place_of, note_in, told_in, Sound}
 use Rattle.eval.proofs.MarkedLaws.{alike_has, told_rows, bits_small, bits_there}
 

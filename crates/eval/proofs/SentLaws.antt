@@ -1,10 +1,10 @@
 -- Walks on which members are sent, one after the other. Assumes nothing.
 use mathlib.Core.Path.{◌≡◌, refl, sym, ap, ◌∙◌, subst}
 use mathlib.Core.Bool.{Bool, true, false, ◌&&◌, cond}
-use lib.ListN.{length, set}
+use lib.ListN.{length}
 use Rattle.std.specs.Prelude.{Option, Some, None}
 use mathlib.Core.List.{List, [], ◌∷◌}
-use Prim.Native.Nat.{ℕ, ◌+◌, ◌*◌, ◌≤◌, ◌<◌}
+use Prim.Native.Nat.{ℕ, ◌+◌, ◌≤◌, ◌<◌}
 use Rattle.predicate.specs.declared.atom.Member.{Member}
 use Rattle.predicate.specs.Truth.{truth}
 use Rattle.predicate.specs.Rows.{children_at}
@@ -13,7 +13,7 @@ use Rattle.meaning.specs.declared.Method.{Method}
 use Rattle.meaning.specs.declared.Method.TheVariants.{Where, Count, Features, Diagnostics}
 use Rattle.meaning.specs.Calls.{features_of}
 use Rattle.meaning.specs.Walk.{is_last, is_quantifier}
-use Rattle.profile.specs.Profile.{PROFILES, profile_of}
+use Rattle.profile.specs.Profile.{profile_of}
 use Rattle.eval.specs.declared.marked.Sorts.{Sorts}
 use Rattle.eval.specs.declared.memo.Note.{Note}
 use Rattle.eval.specs.declared.ready.Call.{Call as PlacedCall}
@@ -25,9 +25,9 @@ use Rattle.eval.specs.declared.walk.Walk.{Walk}
 use Rattle.eval.specs.Ready.{nth, CallAt, IsCall}
 use Rattle.eval.specs.declared.memo.Note.TheVariants.{NotKnown}
 use Rattle.eval.specs.Marked.{TellsBelow}
-use Rattle.eval.specs.Memo.{note_for, args_of, place_of, note_in, told_in, Sound}
+use Rattle.eval.specs.Memo.{args_of, place_of, note_in, told_in}
 use Rattle.eval.specs.Feed.{State, state_of, fed, counted, decided_in, Fits, Stands}
-use Rattle.eval.specs.Walk.{calls_at, last_of, SoundOf, state_in, SendsAll, SentAll, Begins, SameWalk, Sending, Sent, Arriving, Takes, Moved, Stays, Asking, AskedOf, NotesIt}
+use Rattle.eval.specs.Walk.{calls_at, last_of, SoundOf, state_in, SendsAll, Begins, SameWalk, Sending, Sent, Arriving, Takes, Moved, Stays, Asking, AskedOf, NotesIt}
 use Rattle.eval.specs.Step.{after, StepIs, Steps}
 use Rattle.eval.proofs.StepLaws.{step_room}
 use Rattle.eval.proofs.ReadyLaws.{quantifier_of}

@@ -1,6 +1,6 @@
 -- `marked::bits_at` gives `bits_at`, by the four bits. Assumes nothing.
 use native.Mathlib.Omega.{arith}
-use Rattle.eval.proofs.MarkedLaws.{bit_small, bits_past, bits_outside, bits_inside}
+use Rattle.eval.proofs.MarkedLaws.{bits_past, bits_outside, bits_inside}
 use Rattle.eval.proofs.marked.bits_at.Goals as goal
 
 pub returns-then-record_count-component : goal.returns-then-record_count-component

@@ -1,5 +1,5 @@
 -- `marked_place` gives the place of a member, by its profile and its bits. Assumes nothing.
-use mathlib.Core.Path.{sym, ap, ◌∙◌}
+use mathlib.Core.Path.{sym, ◌∙◌}
 use native.Mathlib.Omega.{arith}
 use Rattle.eval.specs.Memo.{place_by, place_of}
 use Rattle.eval.specs.Marked.{bits_of}

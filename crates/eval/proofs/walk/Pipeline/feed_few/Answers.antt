@@ -1,13 +1,10 @@
 -- `feed_few` sends every component, with no room for notes. Assumes nothing.
 use mathlib.Core.Bool.{false≢true}
 use mathlib.Core.Path.{sym, ◌∙◌}
-use mathlib.Core.List.{List}
-use Prim.Native.Nat.{ℕ}
-use Rattle.eval.proofs.MarkedLaws.{marks_none, made_marks}
+use Rattle.eval.proofs.MarkedLaws.{marks_none}
 use Rattle.eval.proofs.MemoLaws.{sound_begun}
-use Rattle.eval.proofs.SentLaws.{begun, ended}
+use Rattle.eval.proofs.SentLaws.{begun}
 use Rattle.eval.specs.Listed.{every_component}
-use Rattle.eval.specs.Walk.{every_of_analysis}
 use Rattle.eval.proofs.walk.Pipeline.feed_few.Goals as goal
 
 pub feed_each_component-requires : goal.feed_each_component-requires

@@ -1,13 +1,9 @@
 -- `feed_noted` sends every component with notes that say nothing yet. Assumes nothing.
-use native.Mathlib.Omega.{arith}
-use mathlib.Core.List.{List}
-use Prim.Native.Nat.{ℕ}
-use Rattle.eval.proofs.MarkedLaws.{marks_none, made_marks}
+use Rattle.eval.proofs.MarkedLaws.{marks_none}
 use Rattle.eval.proofs.MemoLaws.{sound_begun}
-use Rattle.eval.proofs.SentLaws.{begun, ended}
+use Rattle.eval.proofs.SentLaws.{begun}
 use Rattle.eval.specs.Memo.{WAY_NOTES}
 use Rattle.eval.specs.Listed.{every_component}
-use Rattle.eval.specs.Walk.{every_of_analysis}
 use Rattle.eval.proofs.walk.Pipeline.feed_noted.Goals as goal
 
 pub feed_each_component-requires : goal.feed_each_component-requires

@@ -1,10 +1,9 @@
 -- `ask` gives the truth of the predicate, and what is noted stays true. Assumes nothing.
 use Rattle.std.proofs.Common.{rules}
-use mathlib.Core.Path.{◌≡◌, sym, ap, ◌∙◌}
-use Rattle.eval.specs.Memo.{told}
+use mathlib.Core.Path.{◌≡◌, sym, ◌∙◌}
 use Rattle.eval.specs.declared.memo.Note.TheVariants.{NotKnown}
 use Rattle.eval.proofs.MemoLaws.{room}
-use Rattle.eval.proofs.SentLaws.{asked_alone, asked_here, asked_there}
+use Rattle.eval.proofs.SentLaws.{asked_alone, asked_there}
 use Rattle.eval.proofs.walk.Walk.ask.Goals as goal
 
 pub returns-then-not-has_room : goal.returns-then-not-has_room
