@@ -44,6 +44,17 @@ impl Marked {
         row: 0,
         marks: [0; BLOCK],
     };
+
+    // Marks the components that have the property that the `has` whose row is at a place names, and the others that have a feature of this
+    // name.
+    fn mark(&mut self, rule: &[u8], image: &[u8], tree: &[u32], row: usize)
+        ensures { MarksOf rule.now image.now tree.now self.new }
+    {
+        self.row = row;
+        let value = node::find_string_literal(rule, tree, row);
+        marks::mark_properties(image, value, &mut self.marks);
+        marks::mark_features(image, value, &mut self.marks);
+    }
 }
 
 // What members are told apart by: what their profiles hold, and the marked rows.
@@ -167,19 +178,6 @@ pub(crate) fn mark_rows(
         from = row + 1;
     }
     HASES
-}
-
-impl Marked {
-    // Marks the components that have the property that the `has` whose row is at a place names, and the others that have a feature of this
-    // name.
-    fn mark(&mut self, rule: &[u8], image: &[u8], tree: &[u32], row: usize)
-        ensures { MarksOf rule.now image.now tree.now self.new }
-    {
-        self.row = row;
-        let value = node::find_string_literal(rule, tree, row);
-        marks::mark_properties(image, value, &mut self.marks);
-        marks::mark_features(image, value, &mut self.marks);
-    }
 }
 
 // The number of the first row of a kind from a row on, among those that are looked at.
