@@ -161,7 +161,7 @@ fn has_row(marked: &[Marked], row: usize) -> bool
 }
 
 // Marks the first CALL_EXPR rows of a tree, and gives the number of these rows.
-pub(crate) fn mark_rows(
+pub(crate) fn make_marks(
     rule: &[u8],
     image: &[u8],
     tree: &[u32],

@@ -125,7 +125,7 @@ impl<'a> Pipeline<'a> {
     {
         let mut notes = [Note::NotKnown; memo::NOTES];
         let mut marked = [Marked::NONE; marked::HASES];
-        let rows = marked::mark_rows(self.rule, self.image, self.tree, &mut marked);
+        let rows = marked::make_marks(self.rule, self.image, self.tree, &mut marked);
         let sorts = Sorts {
             held: held::held(self.rule, self.image, self.tree, self.calls),
             marked: &marked[..rows],

@@ -8,4 +8,4 @@ use Rattle.eval.specs.Listed.{every_component}
 use Rattle.eval.proofs.walk.Pipeline.feed_marked.Goals as goal
 
 pub feed_each_component-requires : goal.feed_each_component-requires
-feed_each_component-requires c = begun c.new-walk.ensures every_component c.requires (sound_begun _ _ NOTES (made_marks c.mark_rows-rows.ensures (omega arith)) c.held.ensures)
+feed_each_component-requires c = begun c.new-walk.ensures every_component c.requires (sound_begun _ _ NOTES (made_marks c.make_marks-rows.ensures (omega arith)) c.held.ensures)

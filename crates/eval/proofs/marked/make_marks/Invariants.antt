@@ -1,8 +1,8 @@
--- `mark_rows` marks one row after the other. Assumes nothing.
+-- `make_marks` marks one row after the other. Assumes nothing.
 use mathlib.Core.Path.{◌≡◌}
 use lib.ListN.{length}
 use Rattle.eval.specs.Marked.{HASES, Made}
-use Rattle.eval.proofs.marked.mark_rows.Given as goal
+use Rattle.eval.proofs.marked.make_marks.Given as goal
 
 abbrev pub invariant-loop-n : goal.invariant-loop-n
 invariant-loop-n l = (length l.marked ≡ HASES) × Made l.rule l.image l.tree l.marked l.n

@@ -1,9 +1,9 @@
--- `mark_rows` marks one row after the other. Assumes nothing.
+-- `make_marks` marks one row after the other. Assumes nothing.
 use native.Mathlib.Omega.{arith}
 use lib.ListN.{length-set}
 use mathlib.Core.Path.{◌∙◌}
 use Rattle.eval.proofs.MarkedLaws.{making_start, making_on}
-use Rattle.eval.proofs.marked.mark_rows.Goals as goal
+use Rattle.eval.proofs.marked.make_marks.Goals as goal
 
 pub loop-n-init : goal.loop-n-init
 loop-n-init c = (c.told-marked, making_start _ _ _ _)
