@@ -25,7 +25,7 @@ use Rattle.eval.specs.declared.walk.Walk.{Walk}
 use Rattle.eval.specs.Ready.{nth, CallAt, IsCall}
 use Rattle.eval.specs.declared.memo.Note.TheVariants.{NotKnown}
 use Rattle.eval.specs.Marked.{TellsBelow}
-use Rattle.eval.specs.Memo.{args_of, place_of, note_in, told_in}
+use Rattle.eval.specs.Memo.{args_of, place_of, note_in}
 use Rattle.eval.specs.Feed.{State, state_of, fed, counted, decided_in, Fits, Stands}
 use Rattle.eval.specs.Walk.{calls_at, last_of, SoundOf, state_in, SendsAll, Begins, SameWalk, Sending, Sent, Arriving, Takes, Moved, Stays, Asking, AskedOf, NotesIt}
 use Rattle.eval.specs.Step.{after, StepIs, Steps}
@@ -90,12 +90,7 @@ module _ {w : Walk} {i args : ℕ} (p : Asking w i args) where
       }
 
   module _ {m : Member} {place : ℕ} (at : place_of w.pipeline.image.now w.sorts m ≡ Some place) where
-    -- it was noted before
-    pub asked_here : {r : Bool} → told_in w.notes.now i place ≡ Some r → AskedOf w i m w r
-    asked_here {r} e =
-        record { stays = record { same = same_walk w; state = refl }; value = sym (p.sound.noted i place m r at e); sound = p.sound }
-
-    -- or is now
+    -- it is noted now
     pub asked_there : {v : Walk} {r : Bool} → NotKnown ≡ note_in w.notes.now i place → r ≡ truth w.pipeline.image.now m (children_at w.pipeline.rule.now w.pipeline.tree.now args)
         → Stays w v → NotesIt w args m i place r v → AskedOf w i m v r
     asked_there {v} {r} e value s n =

@@ -14,16 +14,16 @@ use Rattle.meaning.specs.Calls.{Call}
 use Rattle.meaning.specs.Walk.{is_quantifier, is_last}
 use Rattle.eval.specs.declared.step.Step.{Step}
 use Rattle.eval.specs.declared.step.Step.TheVariants.{Dropped, Listed, Counted}
-use Rattle.std.specs.Prelude.{Some, None}
+use Rattle.std.specs.Prelude.{Some}
 use Rattle.eval.specs.declared.ready.Call.{Call as PlacedCall}
 use Rattle.eval.specs.Ready.{nth, calls_from}
 use Rattle.eval.specs.declared.marked.Sorts.{Sorts}
 use Rattle.eval.specs.declared.memo.Note.{Note}
 use Rattle.eval.specs.Memo.{args_of, place_of, told_in, Sound}
-use Rattle.eval.specs.Feed.{State, fed, Fits, Stands}
-use Rattle.eval.specs.Step.{arrives, after, StepIs, Steps}
+use Rattle.eval.specs.Feed.{State, Fits}
+use Rattle.eval.specs.Step.{arrives, StepIs, Steps}
 use Rattle.eval.proofs.ReadyLaws.{quantifier_last}
-use Rattle.eval.proofs.FeedLaws.{state, Alike, fed_alike, fed_lost, fits_one, stands_fed, here_kept, here_dropped, here_passed, here_arrives, here_one, end_one, end_put}
+use Rattle.eval.proofs.FeedLaws.{state, Alike, fed_alike, fed_lost, fits_one, here_kept, here_dropped, here_passed, here_arrives, here_one, end_one, end_put}
 
 -- a step at later calls, of a member that passes those before
 step_alike : {image : List ℕ} {calls later : List Call} {m : Member} {r : Step} → Alike image calls (m ∷ []) later (m ∷ []) → StepIs image later m r → StepIs image calls m r
@@ -34,14 +34,7 @@ pub record Passing (rows : List PlacedCall) (from place : ℕ) (notes : List Not
   pub so : (rule image tree : List ℕ) (sorts : Sorts) (m : Member) → Sound rule image tree rows sorts notes → place_of image sorts m ≡ Some place
       → Alike image (calls_from rule tree rows from) (m ∷ []) (calls_from rule tree rows i) (m ∷ [])
 
-pub passing_start : (rows : List PlacedCall) (from place : ℕ) (notes : List Note) → Passing rows from place notes from
-passing_start rows from place notes = record { so = λ rule image tree sorts m n q. record { arrivals = refl; last = refl } }
-
--- the notes do not tell
-pub step_none : (rows : List PlacedCall) (from place : ℕ) (notes : List Note) → Steps rows from place notes None
-step_none rows from place notes = record { so = λ rule image tree sorts m n q step e. cc }
-
--- or they tell this step
+-- the notes tell this step
 step_some : {rows : List PlacedCall} {from place : ℕ} {notes : List Note} {r : Step}
     → ((rule image tree : List ℕ) (sorts : Sorts) (m : Member) → Sound rule image tree rows sorts notes → place_of image sorts m ≡ Some place → StepIs image (calls_from rule tree rows from) m r)
     → Steps rows from place notes (Some r)
@@ -129,6 +122,3 @@ module _ {last : Method} {image : List ℕ} {calls : List Call} {m : Member} {r 
   -- there is room for a member that arrives
   pub step_room : arrives r ≡ true → COLLECTION_ROW * (s.arrived + 1) ≤ length s.table
   step_room h = fits_one (t.one h) f
-
-  pub step_taken : {u : State} → u ≡ after r m s → Stands last u (fed image calls (m ∷ []) s)
-  step_taken e = stands_fed f (e ∙ t.same s)
