@@ -75,9 +75,7 @@ bits_are image marked most c {bits} e = go (has_marks image c) refl e
   where
     go : (b : Bool) → has_marks image c ≡ b → numbered b (four marked most c) ≡ Some bits → BitsAre image marked most c bits
     go true h e = record { in_block = h; are = cc }
-    go false h e =
-        let z : ◌≡◌ {A = ℕ} 0 1 = cc in
-        absurd (omega arith)
+    go false h e = absurd cc
 
 -- they are few
 four_small : (marked : List Marked) (most c : ℕ) → four marked most c < WAYS

@@ -62,12 +62,8 @@ record PlaceIs (p bits : Option ℕ) (place : ℕ) : Type 0 where
 
 place_is : (p bits : Option ℕ) {place : ℕ} → place_by p bits ≡ Some place → PlaceIs p bits place
 place_is (Some k) (Some b) e = record { number = k; way = b; profile_is = refl; bits_are = refl; is = cc }
-place_is (Some k) None e =
-    let z : ◌≡◌ {A = ℕ} 0 1 = cc in
-    absurd (omega arith)
-place_is None b e =
-    let z : ◌≡◌ {A = ℕ} 0 1 = cc in
-    absurd (omega arith)
+place_is (Some k) None e = absurd cc
+place_is None b e = absurd cc
 
 -- two calls with the same note are one
 same_call : (a b k l i j : ℕ) → k < PROFILES → l < PROFILES → i < NOTED_CALLS → j < NOTED_CALLS
@@ -140,9 +136,7 @@ note_kept notes at v i place h = rw (get_or-set_other notes at (place + PROFILES
 
 -- a note that makes a truth known says that the predicate asks for no more, and the truth
 note_says : (more r value : Bool) → told (note_for more r) ≡ Some value → (more ≡ false) × (r ≡ value)
-note_says true r value e =
-    let z : ◌≡◌ {A = ℕ} 0 1 = cc in
-    absurd (omega arith)
+note_says true r value e = absurd cc
 note_says false true value e = (refl, cc)
 note_says false false value e = (refl, cc)
 
