@@ -152,12 +152,7 @@ impl<'a> Sorts<'a> {
 fn has_row(marked: &[Marked], row: usize) -> bool
     ensures { HasRow marked.now row result }
 {
-    for has in marked {
-        if has.row == row {
-            return true;
-        }
-    }
-    false
+    marked.iter().any(|has| has.row == row)
 }
 
 // Marks the first CALL_EXPR rows of a tree, and gives the number of these rows.
