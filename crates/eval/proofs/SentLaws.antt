@@ -14,6 +14,8 @@ use Rattle.meaning.specs.declared.Method.TheVariants.{Where, Count, Features, Di
 use Rattle.meaning.specs.Calls.{features_of}
 use Rattle.meaning.specs.Walk.{is_last, is_quantifier}
 use Rattle.profile.specs.Profile.{profile_of}
+use Rattle.eval.specs.declared.marked.Sorts.{Sorts}
+use Rattle.eval.specs.declared.memo.Note.{Note}
 use Rattle.eval.specs.declared.ready.Call.{Call as PlacedCall}
 use Rattle.eval.specs.declared.step.Step.{Step}
 use Rattle.eval.specs.declared.step.Step.TheVariants.{Listed}
@@ -21,62 +23,89 @@ use Rattle.eval.specs.declared.walk.Tally.{Tally}
 use Rattle.eval.specs.declared.walk.Pipeline.{Pipeline}
 use Rattle.eval.specs.declared.walk.Walk.{Walk}
 use Rattle.eval.specs.Ready.{nth, CallAt, IsCall}
-use Rattle.eval.specs.Marked.{held_in}
-use Rattle.eval.specs.Memo.{args_of, Placed, Asked, Noted}
+use Rattle.eval.specs.declared.memo.Note.TheVariants.{NotKnown}
+use Rattle.eval.specs.Marked.{TellsBelow}
+use Rattle.eval.specs.Memo.{args_of, place_of, note_in}
 use Rattle.eval.specs.Feed.{State, state_of, fed, counted, decided_in, Fits, Stands}
-use Rattle.eval.specs.Walk.{calls_at, last_of, NotesOf, state_in, SendsAll, SentAll, Begins, SameWalk, Sending, Sent, Arriving, Takes, Moved, Stays, Asking, AskedOf}
+use Rattle.eval.specs.Walk.{calls_at, last_of, SoundOf, state_in, SendsAll, Begins, SameWalk, Sending, Sent, Arriving, Takes, Moved, Stays, Asking, AskedOf, NotesIt}
 use Rattle.eval.specs.Step.{after, StepIs, Steps}
 use Rattle.eval.proofs.StepLaws.{step_room}
 use Rattle.eval.proofs.ReadyLaws.{quantifier_of}
-use Rattle.eval.proofs.MemoLaws.{asked_noted}
+use Rattle.eval.proofs.MemoLaws.{room, sound_noted}
 use Rattle.eval.proofs.FeedLaws.{state, Alike, Parts, Lost, fed_lost, fits_first, fits_alike, stands_fed, stands_alike, here_kept, here_dropped, here_passed, here_features, here_feature, here_diagnostic, here_arrives, end_room, end_put, Feeding, feeding_start, feeding_on, feeding_stop, feeding_skip, feeding_end}
 
 same_walk : (w : Walk) → SameWalk w w
-same_walk w = record { pipeline = refl; collection_name = refl; notes_name = refl }
+same_walk w = record { pipeline = refl; collection_name = refl; sorts = refl; notes_name = refl }
 
 same_then : {a b c : Walk} → SameWalk a b → SameWalk b c → SameWalk a c
-same_then s t = record { pipeline = t.pipeline ∙ s.pipeline; collection_name = t.collection_name ∙ s.collection_name; notes_name = t.notes_name ∙ s.notes_name }
+same_then s t =
+    record {
+      pipeline = t.pipeline ∙ s.pipeline;
+      collection_name = t.collection_name ∙ s.collection_name;
+      sorts = t.sorts ∙ s.sorts;
+      notes_name = t.notes_name ∙ s.notes_name;
+    }
 
 pub same_calls : {w v : Walk} → SameWalk w v → length v.pipeline.calls.now ≡ length w.pipeline.calls.now
 same_calls s = ap (λ (p : Pipeline). length p.calls.now) s.pipeline
 
+-- what notes say is so by the same
+sound_same : {w v : Walk} {notes : List Note} → SameWalk w v → SoundOf w.pipeline w.sorts notes → SoundOf v.pipeline v.sorts notes
+sound_same {w} {v} {notes} s n =
+    subst (λ (p : Pipeline). SoundOf p v.sorts notes) (sym s.pipeline) (subst (λ (x : Sorts). SoundOf w.pipeline x notes) (sym s.sorts) n)
+
+sound_before : {w v : Walk} {notes : List Note} → SameWalk w v → SoundOf v.pipeline v.sorts notes → SoundOf w.pipeline w.sorts notes
+sound_before {w} {v} {notes} s n =
+    subst (λ (p : Pipeline). SoundOf p w.sorts notes) s.pipeline (subst (λ (x : Sorts). SoundOf v.pipeline x notes) s.sorts n)
+
 -- members who may be sent by what is looked at may be sent on a walk that has the same before it
 sending_on : {w v : Walk} {i : ℕ} {members : List Member} → SameWalk w v
-    → Fits (last_of w.pipeline) w.pipeline.image.now (calls_at w.pipeline i) members (state_in v) → NotesOf w.pipeline v.notes.now → Sending v i members
+    → Fits (last_of w.pipeline) w.pipeline.image.now (calls_at w.pipeline i) members (state_in v) → SoundOf w.pipeline w.sorts v.notes.now → Sending v i members
 sending_on {v = v} {i = i} {members = members} s f n =
     record {
       fits = subst (λ (p : Pipeline). Fits (last_of p) p.image.now (calls_at p i) members (state_in v)) (sym s.pipeline) f;
-      notes = subst (λ (p : Pipeline). NotesOf p v.notes.now) (sym s.pipeline) n;
+      sound = sound_same s n;
     }
 
 -- nobody arrives of those who are sent
 pub sent_lost : {w : Walk} {i : ℕ} {members : List Member} → Sending w i members → Lost w.pipeline.image.now (calls_at w.pipeline i) members → Sent w i members w
-sent_lost {w} p l = record { same = same_walk w; stands = stands_fed p.fits (fed_lost (state_in w) l); notes = p.notes; held = refl }
+sent_lost {w} p l = record { same = same_walk w; stands = stands_fed p.fits (fed_lost (state_in w) l); sound = p.sound }
 
 -- a step was taken with those who are sent
 pub sent_moved : {w v : Walk} {i : ℕ} {members : List Member} {s : State} → Sending w i members → Moved w s v
     → s ≡ fed w.pipeline.image.now (calls_at w.pipeline i) members (state_in w) → Sent w i members v
 sent_moved {w} p m e =
-    record { same = m.same; stands = stands_fed p.fits (m.state ∙ e); notes = subst (NotesOf w.pipeline) (sym m.notes) p.notes; held = ap held_in m.notes }
+    record { same = m.same; stands = stands_fed p.fits (m.state ∙ e); sound = subst (SoundOf w.pipeline w.sorts) (sym m.notes) p.sound }
 
 -- ---- a predicate is asked
 
--- it was noted before
-pub asked_here : {w : Walk} {i : ℕ} {m : Member} {r : Bool}
-    → Asked w.pipeline.rule.now w.pipeline.image.now w.pipeline.tree.now w.pipeline.calls.now i m w.notes.now w.notes.now r → AskedOf w i m w r
-asked_here {w} a = record { stays = record { same = same_walk w; state = refl }; asked = a }
+module _ {w : Walk} {i args : ℕ} (p : Asking w i args) where
+  -- nothing is noted of it
+  pub asked_alone : {m : Member} {r : Bool} → r ≡ truth w.pipeline.image.now m (children_at w.pipeline.rule.now w.pipeline.tree.now args) → AskedOf w i m w r
+  asked_alone {m} e =
+      record {
+        stays = record { same = same_walk w; state = refl };
+        value = e ∙ ap (λ (x : ℕ). truth w.pipeline.image.now m (children_at w.pipeline.rule.now w.pipeline.tree.now x)) p.args_is;
+        sound = p.sound;
+      }
 
--- or is now
-pub asked_there : {w v : Walk} {i args place : ℕ} {m : Member} {r : Bool} → args ≡ args_of w.pipeline.calls.now i → NotesOf w.pipeline w.notes.now → Stays w v
-    → Placed w.pipeline.image.now w.notes.now m place → r ≡ truth w.pipeline.image.now m (children_at w.pipeline.rule.now w.pipeline.tree.now args)
-    → Noted w.pipeline.rule.now w.pipeline.tree.now args m i place r w.notes.now v.notes.now → AskedOf w i m v r
-asked_there {w} {v} {i} {place = place} {m = m} {r = r} e n s p value noted =
-    record {
-      stays = s;
-      asked =
-          asked_noted n p (subst (λ (x : ℕ). r ≡ truth w.pipeline.image.now m (children_at w.pipeline.rule.now w.pipeline.tree.now x)) e value)
-          (subst (λ (x : ℕ). Noted w.pipeline.rule.now w.pipeline.tree.now x m i place r w.notes.now v.notes.now) e noted);
-    }
+  module _ {m : Member} {place : ℕ} (at : place_of w.pipeline.image.now w.sorts m ≡ Some place) where
+    -- it is noted now
+    pub asked_there : {v : Walk} {r : Bool} → NotKnown ≡ note_in w.notes.now i place → r ≡ truth w.pipeline.image.now m (children_at w.pipeline.rule.now w.pipeline.tree.now args)
+        → Stays w v → NotesIt w args m i place r v → AskedOf w i m v r
+    asked_there {v} {r} e value s n =
+        let here = room w.notes.now i place e in
+        record {
+          stays = s;
+          value = told;
+          sound = subst (SoundOf w.pipeline w.sorts) (sym n.is) (sound_noted p.sound i place m r n.more at here.0 here.1 told below);
+        }
+      where
+        below : TellsBelow w.pipeline.rule.now w.pipeline.tree.now (args_of w.pipeline.calls.now i) m w.sorts n.more
+        below = subst (λ (x : ℕ). TellsBelow w.pipeline.rule.now w.pipeline.tree.now x m w.sorts n.more) p.args_is n.below
+
+        told : r ≡ truth w.pipeline.image.now m (children_at w.pipeline.rule.now w.pipeline.tree.now (args_of w.pipeline.calls.now i))
+        told = value ∙ ap (λ (x : ℕ). truth w.pipeline.image.now m (children_at w.pipeline.rule.now w.pipeline.tree.now x)) p.args_is
 
 -- ---- a member arrives at the last call
 
@@ -102,81 +131,83 @@ module _ {w : Walk} {i : ℕ} {m : Member} {call : PlacedCall} (p : Arriving w i
 
   -- it counts, and asks nothing
   pub arrive_counted : {t : Tally} → call.method ≡ Count → t ≡ counted w.tally false
-      → Sent w i (m ∷ []) (record { pipeline = w.pipeline; collection = w.collection; notes = w.notes; tally = t })
+      → Sent w i (m ∷ []) (record { pipeline = w.pipeline; collection = w.collection; sorts = w.sorts; notes = w.notes; tally = t })
   arrive_counted e t =
       let count : method ≡ Count = ap (λ (c : PlacedCall). c.method) (sym p.is) ∙ e in
       record {
-        same = record { pipeline = refl; collection_name = refl; notes_name = refl };
+        same = record { pipeline = refl; collection_name = refl; sorts = refl; notes_name = refl };
         stands = stands_fed p.sending.fits (ap (λ (t : Tally). state_of t w.collection.now) t ∙ arrived {b = false} (sym (rw count refl)));
-        notes = p.sending.notes;
-        held = refl;
+        sound = p.sending.sound;
       }
 
   -- or it is a quantifier, whose predicate was asked
   pub arrive_asked : {v : Walk} {r : Bool} {t : Tally} → (call.method ≡ Count → ⊥) → AskedOf w i m v r → t ≡ counted v.tally r
-      → Sent w i (m ∷ []) (record { pipeline = v.pipeline; collection = v.collection; notes = v.notes; tally = t })
+      → Sent w i (m ∷ []) (record { pipeline = v.pipeline; collection = v.collection; sorts = v.sorts; notes = v.notes; tally = t })
   arrive_asked {v} {r} h a t =
       let other : method ≡ Count → ⊥ = λ e. h (ap (λ (c : PlacedCall). c.method) p.is ∙ e) in
       record {
-        same = record { pipeline = a.stays.same.pipeline; collection_name = a.stays.same.collection_name; notes_name = a.stays.same.notes_name };
+        same =
+            record {
+              pipeline = a.stays.same.pipeline;
+              collection_name = a.stays.same.collection_name;
+              sorts = a.stays.same.sorts;
+              notes_name = a.stays.same.notes_name;
+            };
         stands =
             stands_fed p.sending.fits
             (ap (λ (t : Tally). state_of t v.collection.now) t
             ∙ ap (λ (s : State). more s r) a.stays.state
-            ∙ arrived {b = r} (a.asked.value ∙ sym (rw (quantifier_of method last other))));
-        notes = a.asked.notes;
-        held = a.asked.held;
+            ∙ arrived {b = r} (a.value ∙ sym (rw (quantifier_of method last other))));
+        sound = a.sound;
       }
 
 -- ---- others in place of those who are sent, of whom the same arrive
 
 pub alike_sending : {w : Walk} {i j : ℕ} {members others : List Member} → Alike w.pipeline.image.now (calls_at w.pipeline i) members (calls_at w.pipeline j) others
     → Sending w i members → Sending w j others
-alike_sending a p = record { fits = fits_alike a p.fits; notes = p.notes }
+alike_sending a p = record { fits = fits_alike a p.fits; sound = p.sound }
 
 pub alike_sent : {w v : Walk} {i j : ℕ} {members others : List Member} → Alike w.pipeline.image.now (calls_at w.pipeline i) members (calls_at w.pipeline j) others
     → Sent w j others v → Sent w i members v
-alike_sent {w} a t = record { same = t.same; stands = stands_alike (state_in w) a t.stands; notes = t.notes; held = t.held }
+alike_sent {w} a t = record { same = t.same; stands = stands_alike (state_in w) a t.stands; sound = t.sound }
 
 -- after a predicate was asked
 module _ {w v : Walk} {i : ℕ} {members : List Member} (s : Stays w v) where
-  pub stays_sending : NotesOf w.pipeline v.notes.now → Sending w i members → Sending v i members
+  pub stays_sending : SoundOf w.pipeline w.sorts v.notes.now → Sending w i members → Sending v i members
   stays_sending n p =
       sending_on s.same
       (subst (λ (t : State). Fits (last_of w.pipeline) w.pipeline.image.now (calls_at w.pipeline i) members t) (sym s.state) p.fits) n
 
-  pub stays_sent : {u : Walk} → held_in v.notes.now ≡ held_in w.notes.now → Sent v i members u → Sent w i members u
-  stays_sent {u} h t =
+  pub stays_sent : {u : Walk} → Sent v i members u → Sent w i members u
+  stays_sent {u} t =
       record {
         same = same_then s.same t.same;
         stands =
             subst (λ (x : State). Stands (last_of w.pipeline) (state_in u) (fed w.pipeline.image.now (calls_at w.pipeline i) members x)) s.state
             (subst (λ (p : Pipeline). Stands (last_of p) (state_in u) (fed p.image.now (calls_at p i) members (state_in v))) s.same.pipeline t.stands);
-        notes = subst (λ (p : Pipeline). NotesOf p u.notes.now) s.same.pipeline t.notes;
-        held = t.held ∙ h;
+        sound = sound_before s.same t.sound;
       }
 
-  pub stays_lost : NotesOf w.pipeline v.notes.now → held_in v.notes.now ≡ held_in w.notes.now → Sending w i members
+  pub stays_lost : SoundOf w.pipeline w.sorts v.notes.now → Sending w i members
       → Lost w.pipeline.image.now (calls_at w.pipeline i) members → Sent w i members v
-  stays_lost n h p l = record { same = s.same; stands = stands_fed p.fits (s.state ∙ fed_lost (state_in w) l); notes = n; held = h }
+  stays_lost n p l = record { same = s.same; stands = stands_fed p.fits (s.state ∙ fed_lost (state_in w) l); sound = n }
 
 -- ---- a loop over members: those left come to what all come to from the start
 
 pub record Going (start : Walk) (i : ℕ) (all rest : List Member) (w : Walk) : Type 0 where
   pub same : SameWalk start w
   pub feeding : Feeding (last_of start.pipeline) start.pipeline.image.now (calls_at start.pipeline i) all (state_in start) rest (state_in w)
-  pub notes : NotesOf start.pipeline w.notes.now
-  pub held : held_in w.notes.now ≡ held_in start.notes.now
+  pub sound : SoundOf start.pipeline start.sorts w.notes.now
 
 pub going_start : {w : Walk} {i : ℕ} {all rest : List Member} → Sending w i all → all ≡ rest → Going w i all rest w
 going_start {w} {i} {all} p e =
-    subst (λ (rest : List Member). Going w i all rest w) e (record { same = same_walk w; feeding = feeding_start p.fits; notes = p.notes; held = refl })
+    subst (λ (rest : List Member). Going w i all rest w) e (record { same = same_walk w; feeding = feeding_start p.fits; sound = p.sound })
 
 module _ {start w : Walk} {i : ℕ} {all rest : List Member} (g : Going start i all rest w) where
   module _ {first others : List Member} (q : Parts start.pipeline.image.now (calls_at start.pipeline i) rest first others) where
     -- some may be sent, and are
     pub going_first : Sending w i first
-    going_first = sending_on g.same (fits_first q g.feeding.fits) g.notes
+    going_first = sending_on g.same (fits_first q g.feeding.fits) g.sound
 
     module _ {v : Walk} (t : Sent w i first v) where
       went : Stands (last_of start.pipeline) (state_in v) (fed start.pipeline.image.now (calls_at start.pipeline i) first (state_in w))
@@ -185,50 +216,46 @@ module _ {start w : Walk} {i : ℕ} {all rest : List Member} (g : Going start i 
       same : SameWalk start v
       same = same_then g.same t.same
 
-      notes : NotesOf start.pipeline v.notes.now
-      notes = subst (λ (p : Pipeline). NotesOf p v.notes.now) g.same.pipeline t.notes
+      sound : SoundOf start.pipeline start.sorts v.notes.now
+      sound = sound_before g.same t.sound
 
       decided_is : {b : Bool} → b ≡ decided_in (last_of v.pipeline) v.tally → {c : Bool} → b ≡ c → decided_in (last_of start.pipeline) v.tally ≡ c
       decided_is e h = ap (λ (p : Pipeline). decided_in (last_of p) v.tally) (sym same.pipeline) ∙ sym e ∙ h
 
       -- the quantifier is not decided by them
       pub going_on : {b : Bool} → b ≡ decided_in (last_of v.pipeline) v.tally → b ≡ false → Going start i all others v
-      going_on e h = record { same = same; feeding = feeding_on g.feeding q went (decided_is e h); notes = notes; held = t.held ∙ g.held }
+      going_on e h = record { same = same; feeding = feeding_on g.feeding q went (decided_is e h); sound = sound }
 
       -- or it is
       pub going_stop : {b : Bool} → b ≡ decided_in (last_of v.pipeline) v.tally → b ≡ true → Sent start i all v
-      going_stop e h = record { same = same; stands = feeding_stop g.feeding q went (decided_is e h); notes = notes; held = t.held ∙ g.held }
+      going_stop e h = record { same = same; stands = feeding_stop g.feeding q went (decided_is e h); sound = sound }
 
   -- profiles are what they were
-  pub going_profile : (m : Member) {p : Option ℕ} → p ≡ profile_of start.pipeline.image.now (held_in start.notes.now) m → p ≡ profile_of w.pipeline.image.now (held_in w.notes.now) m
-  going_profile m e = e ∙ λ j. profile_of (sym g.same.pipeline j).image.now (sym g.held j) m
+  pub going_profile : (m : Member) {p : Option ℕ} → p ≡ profile_of start.pipeline.image.now start.sorts.held m → p ≡ profile_of w.pipeline.image.now w.sorts.held m
+  going_profile m e = e ∙ λ j. profile_of (sym g.same.pipeline j).image.now (sym g.same.sorts j).held m
 
   -- some are passed over
   pub going_skip : {others : List Member} → Alike start.pipeline.image.now (calls_at start.pipeline i) rest (calls_at start.pipeline i) others → Going start i all others w
-  going_skip a = record { same = g.same; feeding = feeding_skip g.feeding a; notes = g.notes; held = g.held }
+  going_skip a = record { same = g.same; feeding = feeding_skip g.feeding a; sound = g.sound }
 
   -- none is left
   pub going_end : Lost start.pipeline.image.now (calls_at start.pipeline i) rest → Sent start i all w
-  going_end l = record { same = g.same; stands = feeding_end g.feeding l; notes = g.notes; held = g.held }
+  going_end l = record { same = g.same; stands = feeding_end g.feeding l; sound = g.sound }
 
 -- ---- a walk from its beginning
 
-module _ {p : Pipeline} {collection notes : ℕ} {table memo : List ℕ} {w : Walk} (b : Begins p collection table notes memo w) (of : List ℕ → List Member) where
-  pub begun : SendsAll p (of p.image.now) table → NotesOf p memo → Sending w 0 (of w.pipeline.image.now)
+module _ {p : Pipeline} {collection : ℕ} {table : List ℕ} {sorts : Sorts} {name : ℕ} {notes : List Note} {w : Walk} (b : Begins p collection table sorts name notes w) (of : List ℕ → List Member) where
+  pub begun : SendsAll p (of p.image.now) table → SoundOf p sorts notes → Sending w 0 (of w.pipeline.image.now)
   begun f n =
       record {
         fits =
             subst (λ (q : Pipeline). Fits (last_of q) q.image.now (calls_at q 0) (of q.image.now) (state_in w)) (sym b.pipeline)
             (subst (λ (s : State). Fits (last_of p) p.image.now (calls_at p 0) (of p.image.now) s) (sym b.state) f);
-        notes =
-            subst (λ (q : Pipeline). NotesOf q w.notes.now) (sym b.pipeline)
-            (subst (NotesOf p) (sym b.memo_is) n);
+        sound =
+            subst (λ (q : Pipeline). SoundOf q w.sorts w.notes.now) (sym b.pipeline)
+            (subst (λ (x : Sorts). SoundOf p x w.notes.now) (sym b.sorts_are)
+            (subst (SoundOf p sorts) (sym b.notes_are) n));
       }
-
-  pub ended : {v : Walk} → Sent w 0 (of w.pipeline.image.now) v → SentAll p (of p.image.now) table v.collection.now v.tally
-  ended {v} t =
-      subst (λ (s : State). Stands (last_of p) (state_in v) (fed p.image.now (calls_at p 0) (of p.image.now) s)) b.state
-      (subst (λ (q : Pipeline). Stands (last_of q) (state_in v) (fed q.image.now (calls_at q 0) (of q.image.now) (state_in w))) b.pipeline t.stands)
 
 -- ---- one member at the i-th call
 
@@ -256,23 +283,23 @@ module _ {w : Walk} {i : ℕ} {m : Member} {found : Option PlacedCall} (at : Cal
     method_is h = ap (λ (c : PlacedCall). c.method) (sym here.1) ∙ h
 
     pub asking : Asking w i call.args
-    asking = record { args_is = ap (λ (c : PlacedCall). c.args) here.1; notes = p.notes }
+    asking = record { args_is = ap (λ (c : PlacedCall). c.args) here.1; sound = p.sound }
 
     -- a `where`, by what its predicate says
     module _ {v : Walk} {r : Bool} (h : call.method ≡ Where) (a : AskedOf w i m v r) where
       kept : r ≡ true → Alike w.pipeline.image.now (calls_at w.pipeline i) (m ∷ []) (calls_at w.pipeline (i + 1)) (m ∷ [])
-      kept t = here_kept w.pipeline.rule.now w.pipeline.image.now w.pipeline.tree.now w.pipeline.calls.now i here.0 m (method_is h) (sym a.asked.value ∙ t)
+      kept t = here_kept w.pipeline.rule.now w.pipeline.image.now w.pipeline.tree.now w.pipeline.calls.now i here.0 m (method_is h) (sym a.value ∙ t)
 
       pub kept_sending : r ≡ true → Sending v (i + 1) (m ∷ [])
-      kept_sending t = stays_sending a.stays a.asked.notes (alike_sending (kept t) p)
+      kept_sending t = stays_sending a.stays a.sound (alike_sending (kept t) p)
 
       pub kept_sent : r ≡ true → {u : Walk} → Sent v (i + 1) (m ∷ []) u → Sent w i (m ∷ []) u
-      kept_sent t s = alike_sent (kept t) (stays_sent a.stays a.asked.held s)
+      kept_sent t s = alike_sent (kept t) (stays_sent a.stays s)
 
       pub dropped_sent : r ≡ false → Sent w i (m ∷ []) v
       dropped_sent t =
-          stays_lost a.stays a.asked.notes a.asked.held p
-          (here_dropped w.pipeline.rule.now w.pipeline.image.now w.pipeline.tree.now w.pipeline.calls.now i here.0 m (method_is h) (sym a.asked.value ∙ t))
+          stays_lost a.stays a.sound p
+          (here_dropped w.pipeline.rule.now w.pipeline.image.now w.pipeline.tree.now w.pipeline.calls.now i here.0 m (method_is h) (sym a.value ∙ t))
 
     -- `features`
     module _ (h : call.method ≡ Features) where
@@ -322,10 +349,10 @@ pub first_sent : {w v : Walk} {c : ℕ} → IsCall w.pipeline.calls.now 0 Featur
 first_sent {w} {c = c} first s = alike_sent (features_first w c first) s
 
 -- a step that the notes tell is taken
-module _ {w : Walk} {i place : ℕ} {m : Member} {found : Option Step} (p : Sending w i (m ∷ [])) (at : Placed w.pipeline.image.now w.notes.now m place)
+module _ {w : Walk} {i place : ℕ} {m : Member} {found : Option Step} (p : Sending w i (m ∷ [])) (at : place_of w.pipeline.image.now w.sorts m ≡ Some place)
     (s : Steps w.pipeline.calls.now i place w.notes.now found) {step : Step} (e : found ≡ Some step) where
   told : StepIs w.pipeline.image.now (calls_at w.pipeline i) m step
-  told = s.so w.pipeline.rule.now w.pipeline.image.now w.pipeline.tree.now m p.notes at step e
+  told = s.so w.pipeline.rule.now w.pipeline.image.now w.pipeline.tree.now w.sorts m p.sound at step e
 
   pub step_takes : Takes w step
   step_takes = record { room = step_room told p.fits; fewer = p.fits.fewer }

@@ -6,11 +6,13 @@ use Rattle.predicate.specs.declared.atom.Member.{Member}
 use Rattle.meaning.specs.Value.{row_of}
 use Rattle.meaning.specs.Calls.{Call}
 use Rattle.meaning.specs.Walk.{arrivals}
+use Rattle.eval.specs.declared.marked.Sorts.{Sorts}
+use Rattle.eval.specs.declared.memo.Note.{Note}
 use Rattle.eval.specs.declared.step.Step.{Step}
 use Rattle.eval.specs.declared.step.Step.TheVariants.{Dropped, Listed, Counted}
 use Rattle.eval.specs.declared.ready.Call.{Call as PlacedCall}
 use Rattle.eval.specs.Ready.{calls_from}
-use Rattle.eval.specs.Memo.{Notes, Placed}
+use Rattle.eval.specs.Memo.{place_of, Sound}
 use Rattle.eval.specs.Feed.{State, fed}
 
 -- whether the member arrives where the result is settled
@@ -31,6 +33,6 @@ pub record StepIs (image : List ℕ) (calls : List Call) (m : Member) (r : Step)
   pub one : arrives r ≡ true → arrivals image calls (m ∷ []) ≡ m ∷ []
 
 -- where the notes tell one, it is that of every member whose notes begin at a place
-pub record Steps (calls : List PlacedCall) (from place : ℕ) (memo : List ℕ) (r : Option Step) : Type 0 where
-  pub so : (rule image tree : List ℕ) (m : Member) → Notes rule image tree calls memo → Placed image memo m place
-      → (step : Step) → r ≡ Some step → StepIs image (calls_from rule tree calls from) m step
+pub record Steps (calls : List PlacedCall) (from place : ℕ) (notes : List Note) (r : Option Step) : Type 0 where
+  pub so : (rule image tree : List ℕ) (sorts : Sorts) (m : Member) → Sound rule image tree calls sorts notes
+      → place_of image sorts m ≡ Some place → (step : Step) → r ≡ Some step → StepIs image (calls_from rule tree calls from) m step

@@ -1,11 +1,13 @@
 -- A walk through the calls of a pipeline: who may be sent on it, and how it is left. Assumes nothing: these are definitions.
-use Rattle.std.specs.Prelude.{ℕ, ◌+◌, ◌*◌, ◌≤◌, ◌<◌, Bool, true, List, map, ◌≡◌, length}
+use Rattle.std.specs.Prelude.{ℕ, ◌+◌, ◌*◌, ◌≤◌, ◌<◌, Bool, true, List, map, ◌≡◌, length, set}
 use Rattle.board.specs.Check.{COLLECTION_ROW}
 use Rattle.board.specs.Image.{diagnostic_count}
 use Rattle.board.specs.WellFormed.{WellFormed, Room}
 use Rattle.predicate.specs.declared.atom.Member.{Member}
 use Rattle.predicate.specs.declared.atom.Member.TheVariants.{Diagnostic}
+use Rattle.predicate.specs.Truth.{truth}
 use Rattle.predicate.specs.Rows.{ROW, kind_at, children_at}
+use Rattle.profile.specs.Profile.{PROFILES}
 use Rattle.meaning.specs.declared.Method.{Method}
 use Rattle.meaning.specs.Calls.{Call, kept, up_from}
 use Rattle.meaning.specs.Pipeline.{is_of_analysis}
@@ -15,21 +17,23 @@ use Rattle.eval.specs.declared.step.Step.{Step}
 use Rattle.eval.specs.declared.walk.Tally.{Tally}
 use Rattle.eval.specs.declared.walk.Pipeline.{Pipeline}
 use Rattle.eval.specs.declared.walk.Walk.{Walk}
+use Rattle.eval.specs.declared.marked.Sorts.{Sorts}
+use Rattle.eval.specs.declared.memo.Note.{Note}
 use Rattle.eval.specs.Ready.{nth, calls_in, calls_from, source_members}
-use Rattle.eval.specs.Marked.{held_in}
-use Rattle.eval.specs.Memo.{args_of, Notes, Asked}
+use Rattle.eval.specs.Marked.{TellsBelow}
+use Rattle.eval.specs.Memo.{note_for, args_of, Sound}
 use Rattle.eval.specs.Feed.{State, state_of, begin, fed, walked, Decides, Fits, Stands}
 use Rattle.eval.specs.Step.{arrives}
 
--- the calls of a pipeline from the i-th on, its last call, and what a memo says of it
+-- the calls of a pipeline from the i-th on, its last call, and that what notes say of it is so
 abbrev pub calls_at : Pipeline → ℕ → List Call
 calls_at p i = calls_from p.rule.now p.tree.now p.calls.now i
 
 abbrev pub last_of : Pipeline → Method
 last_of p = p.last
 
-abbrev pub NotesOf : Pipeline → List ℕ → Type 0
-NotesOf p memo = Notes p.rule.now p.image.now p.tree.now p.calls.now memo
+abbrev pub SoundOf : Pipeline → Sorts → List Note → Type 0
+SoundOf p sorts notes = Sound p.rule.now p.image.now p.tree.now p.calls.now sorts notes
 
 -- how far a walk is
 abbrev pub state_in : Walk → State
@@ -58,31 +62,32 @@ Walked p source before after t =
     Stands (last_of p) (state_of t after)
     (walked p.image.now (calls_in p.rule.now p.tree.now p.calls.now) (source_members p.image.now (kind_at p.tree.now source) (children_at p.rule.now p.tree.now source)) before)
 
--- a walk that nobody was sent on, with a collection table and a memo by their names and as they are
-pub record Begins (p : Pipeline) (collection : ℕ) (table : List ℕ) (notes : ℕ) (memo : List ℕ) (w : Walk) : Type 0 where
+-- a walk that nobody was sent on, with a collection table and notes by their names and as they are
+pub record Begins (p : Pipeline) (collection : ℕ) (table : List ℕ) (sorts : Sorts) (name : ℕ) (notes : List Note) (w : Walk) : Type 0 where
   pub pipeline : w.pipeline ≡ p
   pub collection_name : w.collection.ghost_name ≡ collection
-  pub notes_name : w.notes.ghost_name ≡ notes
+  pub sorts_are : w.sorts ≡ sorts
+  pub notes_name : w.notes.ghost_name ≡ name
+  pub notes_are : w.notes.now ≡ notes
   pub state : state_in w ≡ begin table
-  pub memo_is : w.notes.now ≡ memo
 
--- what is looked at stays, and the table and the memo are the same ones
+-- what is looked at stays, and what members are told apart by, and the table and the notes are the same ones
 pub record SameWalk (old new : Walk) : Type 0 where
   pub pipeline : new.pipeline ≡ old.pipeline
   pub collection_name : new.collection.ghost_name ≡ old.collection.ghost_name
+  pub sorts : new.sorts ≡ old.sorts
   pub notes_name : new.notes.ghost_name ≡ old.notes.ghost_name
 
 -- members may be sent through the calls from the i-th on
 pub record Sending (w : Walk) (i : ℕ) (members : List Member) : Type 0 where
   pub fits : Fits (last_of w.pipeline) w.pipeline.image.now (calls_at w.pipeline i) members (state_in w)
-  pub notes : NotesOf w.pipeline w.notes.now
+  pub sound : SoundOf w.pipeline w.sorts w.notes.now
 
--- they were: what the memo says is still so, and profiles hold what they held
+-- they were: what the notes say is still so
 pub record Sent (old : Walk) (i : ℕ) (members : List Member) (new : Walk) : Type 0 where
   pub same : SameWalk old new
   pub stands : Stands (last_of old.pipeline) (state_in new) (fed old.pipeline.image.now (calls_at old.pipeline i) members (state_in old))
-  pub notes : NotesOf old.pipeline new.notes.now
-  pub held : held_in new.notes.now ≡ held_in old.notes.now
+  pub sound : SoundOf old.pipeline old.sorts new.notes.now
 
 -- members may be sent to the i-th call, which gives no collection
 pub record Arriving (w : Walk) (i : ℕ) (members : List Member) (call : PlacedCall) : Type 0 where
@@ -110,8 +115,15 @@ pub record Stays (old new : Walk) : Type 0 where
 -- the predicate of call i may be asked of a member, and was
 pub record Asking (w : Walk) (i args : ℕ) : Type 0 where
   pub args_is : args ≡ args_of w.pipeline.calls.now i
-  pub notes : NotesOf w.pipeline w.notes.now
+  pub sound : SoundOf w.pipeline w.sorts w.notes.now
 
 pub record AskedOf (old : Walk) (i : ℕ) (m : Member) (new : Walk) (r : Bool) : Type 0 where
   pub stays : Stays old new
-  pub asked : Asked old.pipeline.rule.now old.pipeline.image.now old.pipeline.tree.now old.pipeline.calls.now i m old.notes.now new.notes.now r
+  pub value : r ≡ truth old.pipeline.image.now m (children_at old.pipeline.rule.now old.pipeline.tree.now (args_of old.pipeline.calls.now i))
+  pub sound : SoundOf old.pipeline old.sorts new.notes.now
+
+-- an answer was noted, as that of a predicate that was found to ask for more or not
+pub record NotesIt (old : Walk) (args : ℕ) (m : Member) (i place : ℕ) (value : Bool) (new : Walk) : Type 0 where
+  pub more : Bool
+  pub below : TellsBelow old.pipeline.rule.now old.pipeline.tree.now args m old.sorts more
+  pub is : new.notes.now ≡ set old.notes.now (place + PROFILES * i) (note_for more value)

@@ -41,7 +41,7 @@ fn list_features(image: &[u8], component: u32, first: usize, collection: &mut [u
     ensures { Lists (features_of image.now component) first collection.old collection.new result }
 {
     let end = instance::features_end(image, component);
-    let start = image::field(image, Section::Components, component, image::FIRST_FEATURE);
+    let start = image::first_feature(image, component);
     let mut row = first;
     for feature in start..end {
         walk::put_member(collection, row, Member::Feature(component, feature));
@@ -67,6 +67,6 @@ fn count_features(image: &[u8], component: u32) -> u32
     ensures { result ≡ length (features_of image.now component) }
 {
     let end = instance::features_end(image, component);
-    let first = image::field(image, Section::Components, component, image::FIRST_FEATURE);
+    let first = image::first_feature(image, component);
     end.saturating_sub(first)
 }

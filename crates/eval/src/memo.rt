@@ -1,92 +1,136 @@
 // What is known of the calls' predicates. A predicate that asks for no more than a member's profile and its bits is asked of the first
-// member of each profile and bits, and its answer noted: a byte for each call, profile and bits. Where nothing is marked the bits are 0.
-ghost use Rattle.std.specs.Prelude.{◌≡◌, ◌≤◌, ◌<◌, length, IfSome};
+// member of each profile and bits, and its answer noted: a note for each call, profile and bits. Where nothing is marked the bits are 0.
+ghost use Rattle.std.specs.Prelude.{◌≡◌, ◌+◌, ◌*◌, ◌<◌, length, set, IfSome};
 ghost use Rattle.predicate.specs.Truth.{truth};
 ghost use Rattle.predicate.specs.Rows.{children_at};
 ghost use Rattle.profile.specs.Profile.{PROFILES, profile_of};
-ghost use Rattle.eval.specs.Marked.{held_in, TellsBelow};
-ghost use Rattle.eval.specs.Memo.{plain_place, place_in, byte_of, note_in, Placed, Noted};
-ghost use Rattle.eval.specs.Memo as meant;
-ghost use Rattle.eval.specs.Walk.{Asking, AskedOf, Stays};
+ghost use Rattle.eval.specs.Memo.{NOTED_CALLS, NOTES, told, note_for, place_of, note_in};
+ghost use Rattle.eval.specs.Walk.{Asking, AskedOf, Stays, NotesIt};
 
 use crate::marked;
+use crate::marked::Sorts;
 use crate::walk::{Pipeline, Walk};
 use predicate;
 use predicate::atom::Member;
 use profile;
 
 // The calls whose predicates are noted. That of a later call is asked of each member.
-pub(crate) const NOTED_CALLS: usize = 4;
+const NOTED_CALLS: usize = 4;
 
-// The bytes of the notes for each of the bits.
+// The notes for each of the bits, and for all.
 pub(crate) const WAY_NOTES: usize = profile::PROFILES * NOTED_CALLS;
 
-// Those of a memo without marks, whose first byte says what profiles hold.
-pub(crate) const PLAIN: usize = 1 + WAY_NOTES;
+pub(crate) const NOTES: usize = WAY_NOTES * marked::WAYS;
 
-// What a note says: nothing is known yet, the predicate is false, it is true, or its answer is not to be noted.
-pub(crate) const NOT_KNOWN: u8 = 0;
+// What is noted of a predicate: nothing yet, that it is false, that it is true, or that its answer is not to be noted.
+#[derive(Clone, Copy, PartialEq, Eq)]
+pub(crate) enum Note {
+    NotKnown,
+    False,
+    True,
+    NotToKnow,
+}
 
-pub(crate) const KNOWN_FALSE: u8 = 1;
-
-pub(crate) const KNOWN_TRUE: u8 = 2;
-
-const NOT_TO_KNOW: u8 = 3;
-
-impl<'a> Walk<'a> {
-    // Where the notes of a member with this profile begin, if it has any. The way of most members goes by a memo without marks, which hands nothing over.
-    #[inline(always)]
-    pub(crate) fn place_of(&self, member: Member, profile: Option<usize>) -> Option<usize>
-        requires { profile ≡ profile_of self.now.pipeline.image.now (held_in self.now.notes.now) member }
-        ensures { Placed self.now.pipeline.image.now self.now.notes.now member (place_in result) }
+impl Note {
+    // The note for an answer, of a predicate that may ask for more.
+    fn of(more: bool, value: bool) -> Note
+        ensures { result ≡ note_for more value }
     {
-        if marked::PLACES < self.notes.len() {
-            return marked_place(self.pipeline.image, member, profile, self.notes);
+        if more {
+            return Note::NotToKnow;
         }
-        plain_place(profile)
+        if value { Note::True } else { Note::False }
     }
 
-    // Whether the predicate of call i, whose CALL_ARGS are at a place of the tree, is true of a member: as noted, or by asking it. Nothing is
-    // noted in a memo that has no room.
+    // Whether the predicate is true, if that is noted.
+    #[inline(always)]
+    pub(crate) fn told(self) -> Option<bool>
+        ensures { result ≡ told self }
+    {
+        match self {
+            Note::True => Some(true),
+            Note::False => Some(false),
+            Note::NotKnown | Note::NotToKnow => None,
+        }
+    }
+}
+
+impl<'a> Sorts<'a> {
+    // Where the notes of a member with this profile begin, if it has any. The way of most members goes where nothing is marked: there it is
+    // the profile.
+    #[inline(always)]
+    pub(crate) fn place_of(
+        self,
+        image: &[u8],
+        member: Member,
+        profile: Option<usize>,
+    ) -> Option<usize>
+        requires { profile ≡ profile_of image.now self.held member }
+        ensures is { result ≡ place_of image.now self.entry member }
+        ensures small { IfSome result (λ place. place < NOTES) }
+    {
+        if self.marked.is_empty() {
+            return profile;
+        }
+        self.marked_place(image, member, profile)
+    }
+
+    // The same by the marks too.
+    fn marked_place(self, image: &[u8], member: Member, profile: Option<usize>) -> Option<usize>
+        requires { (profile ≡ profile_of image.now self.held member) × (0 < length self.marked.now) }
+        ensures is { result ≡ place_of image.now self.entry member }
+        ensures small { IfSome result (λ place. place < NOTES) }
+    {
+        let k = profile?;
+        let bits = marked::bits(image, self.marked, member)?;
+        Some(WAY_NOTES * bits + k)
+    }
+}
+
+impl<'a> Walk<'a> {
+    // Whether there is room for notes.
+    pub(crate) fn has_room(&self) -> bool {
+        !self.notes.is_empty()
+    }
+
+    // Whether the predicate of call i, whose CALL_ARGS are at a place of the tree, is true of a member: as noted, or by asking it.
     pub(crate) fn ask(&mut self, i: usize, args: usize, member: Member) -> bool
         requires { Asking self.old i args }
         ensures { AskedOf self.old i member self.new result }
     {
-        if self.notes.len() < PLAIN {
+        if !self.has_room() {
             return self.eval(args, member);
         }
-        let profile = profile::profile_of(self.pipeline.image, self.notes[0], member);
-        let Some(place) = self.place_of(member, profile) else {
+        let image = self.pipeline.image;
+        let profile = profile::profile_of(image, self.sorts.held, member);
+        let Some(place) = self.sorts.place_of(image, member, profile) else {
             return self.eval(args, member);
         };
         let known = self.noted(i, place);
-        if known == KNOWN_TRUE {
-            return true;
-        }
-        if known == KNOWN_FALSE {
-            return false;
+        if let Some(value) = known.told() {
+            return value;
         }
         let value = self.eval(args, member);
-        if known == NOT_KNOWN {
+        if known == Note::NotKnown {
             self.note(args, member, i, place, value);
         }
         value
     }
 
-    // What is noted of the predicate of call i at a place.
+    // What is noted of the predicate of call i at a place; where there is no room for a note, that none is to be made.
+    #[tactic(auto, unfolding(crate::specs::Memo::note_in))]
     #[inline(always)]
-    pub(crate) fn noted(&self, i: usize, place: usize) -> u8
-        requires { place ≤ meant.NO_PLACE }
+    pub(crate) fn noted(&self, i: usize, place: usize) -> Note
+        requires { place < NOTES }
         ensures { result ≡ note_in self.now.notes.now i place }
     {
         if NOTED_CALLS <= i {
-            return NOT_KNOWN;
+            return Note::NotToKnow;
         }
-        let at = place + profile::PROFILES * i;
-        if self.notes.len() <= at {
-            return NOT_KNOWN;
+        match self.notes.get(place + profile::PROFILES * i) {
+            Some(note) => *note,
+            None => Note::NotToKnow,
         }
-        self.notes[at]
     }
 
     // The predicate whose CALL_ARGS are at a place of the tree, asked of a member.
@@ -102,65 +146,16 @@ impl<'a> Walk<'a> {
         predicate::eval_args(rule, image, tree, member, args)
     }
 
-    // Notes the answer of the predicate of call i, if it is that of every member with the same profile and bits.
+    // Notes the answer of the predicate of call i at a place of which nothing is known, if it is that of every member with the same profile
+    // and bits.
     fn note(&mut self, args: usize, member: Member, i: usize, place: usize, value: bool)
-        requires { place ≤ meant.NO_PLACE }
+        requires { (i < NOTED_CALLS) × (place + PROFILES * i < length self.old.notes.now) }
         ensures same { Stays self.old self.new }
-        ensures noted { Noted self.old.pipeline.rule.now self.old.pipeline.tree.now args member i place value self.old.notes.now self.new.notes.now }
+        ensures noted { NotesIt self.old args member i place value self.new }
     {
-        if NOTED_CALLS <= i {
-            return;
-        }
-        let at = place + profile::PROFILES * i;
-        if self.notes.len() <= at {
-            return;
-        }
-        let more = self.asks_more(args, member);
-        self.notes[at] = byte_of(more, value);
+        let more = self
+            .sorts
+            .asks_below(self.pipeline.rule, self.pipeline.tree, args, member);
+        self.notes[place + profile::PROFILES * i] = Note::of(more, value);
     }
-
-    // Whether the predicate whose CALL_ARGS are at a place of the tree asks for more of a member than its profile and its bits.
-    fn asks_more(&self, args: usize, member: Member) -> bool
-        requires { 0 < length self.now.notes.now }
-        ensures { TellsBelow self.now.pipeline.rule.now self.now.pipeline.tree.now args member self.now.notes.now result }
-    {
-        marked::asks_below(
-            self.pipeline.rule,
-            self.pipeline.tree,
-            args,
-            member,
-            self.notes,
-        )
-    }
-}
-
-// Where the notes of a member with this profile begin, in a memo without marks.
-fn plain_place(profile: Option<usize>) -> Option<usize>
-    requires { IfSome profile (λ k. k < PROFILES) }
-    ensures { place_in result ≡ plain_place profile }
-{
-    Some(1 + profile?)
-}
-
-// The same in any memo, by the marks too.
-fn marked_place(image: &[u8], member: Member, profile: Option<usize>, memo: &[u8]) -> Option<usize>
-    requires { profile ≡ profile_of image.now (held_in memo.now) member }
-    ensures { Placed image.now memo.now member (place_in result) }
-{
-    let k = profile?;
-    let bits = marked::bits(image, memo, member)?;
-    Some(1 + WAY_NOTES * bits + k)
-}
-
-// The byte for an answer, of a predicate that may ask for more.
-fn byte_of(more: bool, value: bool) -> u8
-    ensures { result ≡ byte_of more value }
-{
-    if more {
-        return NOT_TO_KNOW;
-    }
-    if value {
-        return KNOWN_TRUE;
-    }
-    KNOWN_FALSE
 }

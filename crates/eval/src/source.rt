@@ -8,6 +8,8 @@ ghost use Rattle.eval.specs.Listed.{every_component};
 ghost use Rattle.eval.specs.Analysis.{Known};
 ghost use Rattle.eval.specs.Walk.{every_of_analysis, SendsAll, SentAll, Sending, Sent};
 
+use crate::marked::{Marked, Sorts};
+use crate::memo::Note;
 use crate::ready::Call;
 use crate::walk::{Pipeline, Tally, Walk};
 use crate::{held, listed, marked, memo, ready};
@@ -16,7 +18,9 @@ use board::image::Section;
 use meaning::Method;
 use predicate::atom::Member;
 use profile;
-use syntax::{kind, text};
+use profile::Held;
+use syntax::kind::Kind;
+use syntax::text;
 
 // How many analyses are known: that of a string is at its number's rest by this.
 const KNOWN: usize = 8;
@@ -72,16 +76,19 @@ impl<'a> Pipeline<'a> {
         requires { SendsAll self (every_component self.image.now) collection.old }
         ensures { SentAll self.entry (every_component self.entry.image.now) collection.old collection.new result }
     {
-        let asks_has = marked::next_row(self.tree, kind::CALL_EXPR, 0).is_some();
+        let asks_has = marked::next_row(self.tree, Kind::CallExpr, 0).is_some();
         if self.has_few(asks_has) {
             return self.feed_few(collection);
         }
         if asks_has {
             return self.feed_marked(collection);
         }
-        let mut notes = [0u8; memo::PLAIN];
-        notes[0] = held::held(self.rule, self.image, self.tree, self.calls);
-        let mut walk = Walk::new(self, collection, &mut notes);
+        let mut notes = [Note::NotKnown; memo::WAY_NOTES];
+        let sorts = Sorts {
+            held: held::held(self.rule, self.image, self.tree, self.calls),
+            marked: &[],
+        };
+        let mut walk = Walk::new(self, collection, sorts, &mut notes);
         walk.feed_each_component();
         walk.tally
     }
@@ -94,7 +101,7 @@ impl<'a> Pipeline<'a> {
         }
         components < NOTED_BOARD
             && !held::asks_features(self.calls)
-            && marked::next_row(self.tree, kind::COMPARE_EXPR, 0).is_some()
+            && marked::next_row(self.tree, Kind::CompareExpr, 0).is_some()
     }
 
     // Sends every component through the calls, and notes nothing of them: each is asked.
@@ -102,8 +109,11 @@ impl<'a> Pipeline<'a> {
         requires { SendsAll self (every_component self.image.now) collection.old }
         ensures { SentAll self.entry (every_component self.entry.image.now) collection.old collection.new result }
     {
-        let mut none = [0u8; 1];
-        let mut walk = Walk::new(self, collection, &mut none);
+        let sorts = Sorts {
+            held: Held::default(),
+            marked: &[],
+        };
+        let mut walk = Walk::new(self, collection, sorts, &mut []);
         walk.feed_each_component();
         walk.tally
     }
@@ -113,11 +123,14 @@ impl<'a> Pipeline<'a> {
         requires { SendsAll self (every_component self.image.now) collection.old }
         ensures { SentAll self.entry (every_component self.entry.image.now) collection.old collection.new result }
     {
-        let mut notes = [0u8; marked::MEMO];
-        let rows = marked::make_marks(self.rule, self.image, self.tree, &mut notes);
-        notes[0] = held::held(self.rule, self.image, self.tree, self.calls);
-        let end = marked::PLACES + rows;
-        let mut walk = Walk::new(self, collection, &mut notes[..end]);
+        let mut notes = [Note::NotKnown; memo::NOTES];
+        let mut marked = [Marked::NONE; marked::HASES];
+        let rows = marked::make_marks(self.rule, self.image, self.tree, &mut marked);
+        let sorts = Sorts {
+            held: held::held(self.rule, self.image, self.tree, self.calls),
+            marked: &marked[..rows],
+        };
+        let mut walk = Walk::new(self, collection, sorts, &mut notes);
         walk.feed_each_component();
         walk.tally
     }
@@ -127,8 +140,12 @@ impl<'a> Pipeline<'a> {
         requires { SendsAll self (every_of_analysis self.image.now name.now) collection.old }
         ensures { SentAll self.entry (every_of_analysis self.entry.image.now name.now) collection.old collection.new result }
     {
-        let mut notes = [0u8; memo::PLAIN];
-        let mut walk = Walk::new(self, collection, &mut notes);
+        let mut notes = [Note::NotKnown; memo::WAY_NOTES];
+        let sorts = Sorts {
+            held: Held::default(),
+            marked: &[],
+        };
+        let mut walk = Walk::new(self, collection, sorts, &mut notes);
         walk.feed_each_diagnostic(name);
         walk.tally
     }
@@ -172,13 +189,13 @@ impl<'a> Walk<'a> {
         ensures { Sent self.old 0 (Member.Component component ∷ []) self.new }
     {
         let member = Member::Component(component);
-        if self.notes.len() < memo::PLAIN {
+        if !self.has_room() {
             return self.feed(0, member);
         }
         if begins_with_features(self.pipeline.calls) {
             return self.feed_features(1, component);
         }
-        let profile = profile::component_profile(self.pipeline.image, self.notes[0], component);
+        let profile = profile::component_profile(self.pipeline.image, self.sorts.held, component);
         self.send(0, member, profile);
     }
 
@@ -213,7 +230,7 @@ fn is_of_analysis(
     requires { Known image.now name.now known.old }
     ensures { (result ≡ is_of_analysis image.now name.now (Member.Diagnostic diagnostic)) × Known image.now name.now known.new }
 {
-    let string = image::field(image, Section::Diagnostics, diagnostic, image::ANALYSIS);
+    let string = image::analysis(image, diagnostic);
     let at = string as usize % KNOWN;
     if let Some(analysis) = known[at] {
         if analysis.string == string {

@@ -1,9 +1,8 @@
 // What becomes of a member on its way through the calls, as far as the notes tell: nothing is asked.
-ghost use Rattle.std.specs.Prelude.{◌≤◌};
-ghost use Rattle.eval.specs.Memo.{NO_PLACE, Tells};
+ghost use Rattle.std.specs.Prelude.{◌≡◌, ◌<◌};
+ghost use Rattle.eval.specs.Memo.{NOTES, told_in};
 ghost use Rattle.eval.specs.Step.{Steps};
 
-use crate::memo;
 use crate::walk::Walk;
 use meaning::Method;
 
@@ -19,7 +18,7 @@ impl<'a> Walk<'a> {
     // What becomes of a member whose notes begin at a place, by the calls from one on; nothing where the notes do not tell.
     #[inline(always)]
     pub(crate) fn step_of(&self, from: usize, place: usize) -> Option<Step>
-        requires { place ≤ NO_PLACE }
+        requires { place < NOTES }
         ensures { Steps self.now.pipeline.calls.now from place self.now.notes.now result }
     {
         let calls = self.pipeline.calls;
@@ -44,13 +43,9 @@ impl<'a> Walk<'a> {
     // Whether the predicate of call i is true of the members whose notes begin at a place, if that is noted.
     #[inline(always)]
     fn told(&self, i: usize, place: usize) -> Option<bool>
-        requires { place ≤ NO_PLACE }
-        ensures { Tells self.now.notes.now i place result }
+        requires { place < NOTES }
+        ensures { result ≡ told_in self.now.notes.now i place }
     {
-        match self.noted(i, place) {
-            memo::KNOWN_TRUE => Some(true),
-            memo::KNOWN_FALSE => Some(false),
-            _ => None,
-        }
+        self.noted(i, place).told()
     }
 }

@@ -7,22 +7,22 @@ ghost use Rattle.predicate.specs.Rows.{ROW};
 ghost use Rattle.profile.specs.Profile.{profile_of};
 ghost use Rattle.meaning.specs.Value.{row_of, whole_rows};
 ghost use Rattle.meaning.specs.Calls.{features_of};
-ghost use Rattle.eval.specs.Marked.{held_in};
 ghost use Rattle.eval.specs.Feed.{counted, decided_in};
 ghost use Rattle.eval.specs.Step.{after};
 ghost use Rattle.eval.specs.Walk.{state_in, Begins, Walks, Walked, Sending, Sent, Arriving, Takes, Moved};
 
+use crate::marked::Sorts;
+use crate::memo::Note;
 use crate::ready;
 use crate::ready::Call;
 use crate::step::Step;
 use board::image;
-use board::image::Section;
 use instance;
 use meaning::Method;
 use predicate::atom::Member;
 use predicate::node;
 use profile;
-use syntax::kind;
+use syntax::kind::Kind;
 
 // The numbers of a row of the collection table.
 const COLLECTION_ROW: usize = 2;
@@ -72,7 +72,7 @@ impl<'a> Pipeline<'a> {
         ensures { Walked self.entry source collection.old collection.new result }
     {
         clear(collection);
-        if self.tree[source] == kind::IDENT_EXPR {
+        if self.tree[source] == u32::from(Kind::IdentExpr) {
             return self.feed_components(collection);
         }
         let name = node::find_string_literal(self.rule, self.tree, source);
@@ -80,12 +80,14 @@ impl<'a> Pipeline<'a> {
     }
 }
 
-// A walk through the calls: what is looked at, the collection table, what is known of the calls' predicates (`memo`), and who arrived.
+// A walk through the calls: what is looked at, the collection table, what members are told apart by, what is noted of the calls' predicates, and
+// who arrived. Notes are none where nothing is to be noted; those of one way where nothing is marked, and else those of all.
 #[derive(Drop)]
 pub(crate) struct Walk<'a> {
     pub pipeline: Pipeline<'a>,
     pub collection: &'a mut [u32],
-    pub notes: &'a mut [u8],
+    pub sorts: Sorts<'a>,
+    pub notes: &'a mut [Note],
     pub tally: Tally,
 }
 
@@ -94,19 +96,22 @@ impl<'a> Walk<'a> {
     pub(crate) fn new(
         pipeline: Pipeline<'a>,
         collection: &'a mut [u32],
-        notes: &'a mut [u8],
+        sorts: Sorts<'a>,
+        notes: &'a mut [Note],
     ) -> Walk<'a>
-        ensures { Begins pipeline.entry collection.entry.ghost_name collection.old notes.entry.ghost_name notes.old result }
+        ensures { Begins pipeline.entry collection.entry.ghost_name collection.old sorts.entry notes.entry.ghost_name notes.old result }
     {
         Walk {
             pipeline,
             collection,
+            sorts,
             notes,
             tally: Tally::NONE,
         }
     }
 
-    // Whether the quantifier that is the last call is decided, whoever else arrives.
+    // Whether the quantifier that is the last call is decided, whoever else arrives. It is asked after each member, so it is a match on the
+    // method and not a closure that is called.
     pub(crate) fn is_decided(&self) -> bool
         ensures { result ≡ decided_in self.now.pipeline.last self.now.tally }
     {
@@ -152,9 +157,9 @@ impl<'a> Walk<'a> {
         ensures { Sent self.old i (features_of self.old.pipeline.image.now component) self.new }
     {
         let image = self.pipeline.image;
-        let first = image::field(image, Section::Components, component, image::FIRST_FEATURE);
+        let first = image::first_feature(image, component);
         let end = instance::features_end(image, component);
-        let owner = profile::component_profile(image, self.notes[0], component);
+        let owner = profile::component_profile(image, self.sorts.held, component);
         for feature in first..end {
             self.feed_feature(i, component, feature, owner);
             if self.is_decided() {
@@ -167,11 +172,11 @@ impl<'a> Walk<'a> {
     #[inline(always)]
     #[cycle(feed)]
     fn feed_feature(&mut self, i: usize, component: u32, feature: u32, owner: Option<usize>)
-        requires { Sending self.old i (Member.Feature component feature ∷ []) × (owner ≡ profile_of self.old.pipeline.image.now (held_in self.old.notes.now) (Member.Component component)) }
+        requires { Sending self.old i (Member.Feature component feature ∷ []) × (owner ≡ profile_of self.old.pipeline.image.now self.old.sorts.held (Member.Component component)) }
         ensures { Sent self.old i (Member.Feature component feature ∷ []) self.new }
     {
         let image = self.pipeline.image;
-        let profile = profile::owned_profile(image, self.notes[0], owner, feature);
+        let profile = profile::owned_profile(image, self.sorts.held, owner, feature);
         self.send(i, Member::Feature(component, feature), profile);
     }
 
@@ -179,10 +184,10 @@ impl<'a> Walk<'a> {
     #[inline(always)]
     #[cycle(feed)]
     pub(crate) fn send(&mut self, i: usize, member: Member, profile: Option<usize>)
-        requires { Sending self.old i (member ∷ []) × (profile ≡ profile_of self.old.pipeline.image.now (held_in self.old.notes.now) member) }
+        requires { Sending self.old i (member ∷ []) × (profile ≡ profile_of self.old.pipeline.image.now self.old.sorts.held member) }
         ensures { Sent self.old i (member ∷ []) self.new }
     {
-        let Some(place) = self.place_of(member, profile) else {
+        let Some(place) = self.sorts.place_of(self.pipeline.image, member, profile) else {
             return self.feed(i, member);
         };
         match self.step_of(i, place) {

@@ -18,15 +18,16 @@ use Rattle.predicate.specs.declared.atom.Member.{Member}
 use Rattle.predicate.specs.declared.atom.Member.TheVariants.{Component, Feature, Diagnostic}
 use Rattle.predicate.specs.Truth.{field_of, connected, has, compares, message_contains, Sort, binary, unary, paren, ident, call, containing, compare, other, sort_of, settle}
 use Rattle.std.specs.Prelude.{Option, None, Some}
-use Rattle.profile.specs.Profile.{CATEGORIES, FEATURE_KINDS, DIRECTIONS, SEVERITIES, FIRST_OF_FEATURES, FIRST_OF_DIAGNOSTICS, PROFILES, WIRING, WIRING_OF_FEATURES, CATEGORY, KIND, DIRECTION, holds, held_part, numbered, of_component, of_feature, of_diagnostic, wired_in, component_profile, owned_profile, profile_of, wiring_held, asks_wiring, asks_more, asks_part, asks_of_feature, asks_field}
+use Rattle.profile.specs.declared.Held.{Held}
+use Rattle.profile.specs.Profile.{CATEGORIES, FEATURE_KINDS, DIRECTIONS, SEVERITIES, FIRST_OF_FEATURES, FIRST_OF_DIAGNOSTICS, PROFILES, held_part, numbered, of_component, of_feature, of_diagnostic, wired_in, component_profile, owned_profile, profile_of, wiring_held, asks_wiring, asks_more, asks_part, asks_of_feature, asks_field}
 
 -- the profile of a diagnostic always holds its severity
-pub diagnostic_profile : (image : List ℕ) (held d : ℕ) {r : Option ℕ} → r ≡ of_diagnostic (severity image d) → r ≡ profile_of image held (Diagnostic d)
+pub diagnostic_profile : (image : List ℕ) (held : Held) (d : ℕ) {r : Option ℕ} → r ≡ of_diagnostic (severity image d) → r ≡ profile_of image held (Diagnostic d)
 unfolding profile_of
 diagnostic_profile image held d h = h
 
 -- that of a feature by its owner's
-pub feature_owned : (image : List ℕ) (held c f : ℕ) {owner r : Option ℕ} → owner ≡ profile_of image held (Component c) → r ≡ owned_profile image held owner f
+pub feature_owned : (image : List ℕ) (held : Held) (c f : ℕ) {owner r : Option ℕ} → owner ≡ profile_of image held (Component c) → r ≡ owned_profile image held owner f
     → r ≡ profile_of image held (Feature c f)
 unfolding profile_of
 feature_owned image held c f e h = h ∙ ap (λ (o : Option ℕ). owned_profile image held o f) e
@@ -93,16 +94,16 @@ InRange (Feature c f) k = (FIRST_OF_FEATURES ≤ k) × (k < FIRST_OF_DIAGNOSTICS
 InRange (Diagnostic d) k = (FIRST_OF_DIAGNOSTICS ≤ k) × (k < PROFILES)
 
 -- what is held of a component's category, a feature's kind and its direction
-abbrev category_held : List ℕ → ℕ → ℕ → ℕ
-category_held image held c = held_part held CATEGORY (category image c)
+abbrev category_held : List ℕ → Held → ℕ → ℕ
+category_held image held c = held_part held.category (category image c)
 
-abbrev kind_held : List ℕ → ℕ → ℕ → ℕ
-kind_held image held f = held_part held KIND (feature_kind image f)
+abbrev kind_held : List ℕ → Held → ℕ → ℕ
+kind_held image held f = held_part held.kind (feature_kind image f)
 
-abbrev direction_held : List ℕ → ℕ → ℕ → ℕ
-direction_held image held f = held_part held DIRECTION (direction image f)
+abbrev direction_held : List ℕ → Held → ℕ → ℕ
+direction_held image held f = held_part held.direction (direction image f)
 
-in_range : (image : List ℕ) (held : ℕ) (m : Member) (k : ℕ) → profile_of image held m ≡ Some k → InRange m k
+in_range : (image : List ℕ) (held : Held) (m : Member) (k : ℕ) → profile_of image held m ≡ Some k → InRange m k
 unfolding profile_of component_profile owned_profile
 in_range image held (Component c) k h =
     let i = component_is (category_held image held c) (wired_in image held c) k h in
@@ -115,25 +116,25 @@ in_range image held (Diagnostic d) k h =
     (omega (arith, i.is), omega (arith, i.small, i.is))
 
 -- all are below how many there are
-pub profile_small : (image : List ℕ) (held : ℕ) (m : Member) (k : ℕ) → profile_of image held m ≡ Some k → k < PROFILES
+pub profile_small : (image : List ℕ) (held : Held) (m : Member) (k : ℕ) → profile_of image held m ≡ Some k → k < PROFILES
 profile_small image held (Component c) k h = omega (arith, in_range image held (Component c) k h)
 profile_small image held (Feature c f) k h = omega (arith, (in_range image held (Feature c f) k h).1)
 profile_small image held (Diagnostic d) k h = (in_range image held (Diagnostic d) k h).1
 
 -- ---- members with the same number: of the same sort, with the same of what is held
 
-pub data Alike (image : List ℕ) (held : ℕ) : Member → Member → Type 0 where
+pub data Alike (image : List ℕ) (held : Held) : Member → Member → Type 0 where
   components : {c d : ℕ} → category_held image held c ≡ category_held image held d → wired_in image held c ≡ wired_in image held d → Alike image held (Component c) (Component d)
   features : {c f d g : ℕ} → category_held image held c ≡ category_held image held d → wired_in image held c ≡ wired_in image held d → kind_held image held f ≡ kind_held image held g → direction_held image held f ≡ direction_held image held g
       → Alike image held (Feature c f) (Feature d g)
   diagnostics : {c d : ℕ} → severity image c ≡ severity image d → Alike image held (Diagnostic c) (Diagnostic d)
 
 -- the same owner's number says the same of the owners
-record SameOwner (image : List ℕ) (held c d : ℕ) : Type 0 where
+record SameOwner (image : List ℕ) (held : Held) (c d : ℕ) : Type 0 where
   sort : category_held image held c ≡ category_held image held d
   wired : wired_in image held c ≡ wired_in image held d
 
-same_owner : (image : List ℕ) (held c d k : ℕ) → component_profile image held c ≡ Some k → component_profile image held d ≡ Some k → SameOwner image held c d
+same_owner : (image : List ℕ) (held : Held) (c d k : ℕ) → component_profile image held c ≡ Some k → component_profile image held d ≡ Some k → SameOwner image held c d
 unfolding component_profile
 same_owner image held c d k h g =
     let i = component_is (category_held image held c) (wired_in image held c) k h in
@@ -145,7 +146,7 @@ same_owner image held c d k h g =
       wired = one_same (wired_in image held c) (wired_in image held d) (omega (arith, i.is, j.is));
     }
 
-module _ (image : List ℕ) (held : ℕ) where
+module _ (image : List ℕ) (held : Held) where
   pub same_profile : (m n : Member) (k : ℕ) → profile_of image held m ≡ Some k → profile_of image held n ≡ Some k → Alike image held m n
   unfolding profile_of owned_profile
   same_profile (Component c) (Component d) k h g =
@@ -169,31 +170,31 @@ module _ (image : List ℕ) (held : ℕ) where
 -- ---- their atoms, each by its kind
 
 -- a COMPARE_EXPR asks for no more than its field
-pub compare_asks : (m : Member) (held : ℕ) → asks_more m held COMPARE_EXPR ≡ false
+pub compare_asks : (m : Member) (held : Held) → asks_more m held COMPARE_EXPR ≡ false
 unfolding asks_more asks_wiring
 compare_asks (Component c) held = refl
 compare_asks (Feature c f) held = refl
 compare_asks (Diagnostic d) held = refl
 
 -- a CALL_EXPR always asks for more; an IDENT_EXPR that asks for no more says that enough is held
-has_asks : (held : ℕ) (f : Bool) → asks_wiring held f CALL_EXPR ≡ false → ⊥
+has_asks : (held : Held) (f : Bool) → asks_wiring held f CALL_EXPR ≡ false → ⊥
 unfolding asks_wiring
 has_asks held f h = true≢false h
 
-enough_held : (held : ℕ) (f : Bool) → asks_wiring held f IDENT_EXPR ≡ false → (holds held WIRING ≡ true) × (cond f (holds held WIRING_OF_FEATURES) true ≡ true)
+enough_held : (held : Held) (f : Bool) → asks_wiring held f IDENT_EXPR ≡ false → (held.wiring ≡ true) × (cond f held.wiring_of_features true ≡ true)
 unfolding asks_wiring wiring_held
-enough_held held f h = both (holds held WIRING) (cond f (holds held WIRING_OF_FEATURES) true) (not-false (wiring_held held f) h)
+enough_held held f h = both held.wiring (cond f held.wiring_of_features true) (not-false (wiring_held held f) h)
 
 -- whether a component is connected, where that is held
-wired_is : (image : List ℕ) (held c : ℕ) → holds held WIRING ≡ true → wired_in image held c ≡ component_connected image c
+wired_is : (image : List ℕ) (held : Held) (c : ℕ) → held.wiring ≡ true → wired_in image held c ≡ component_connected image c
 unfolding wired_in
 wired_is image held c h = rw h
 
 -- a field that is the same where it is held, compared with a value
-field_alike : (held part x y : ℕ) (field name : List ℕ) (matches : ℕ → Bool) → held_part held part x ≡ held_part held part y → asks_part held part field name ≡ false
+field_alike : (held : Bool) (x y : ℕ) (field name : List ℕ) (matches : ℕ → Bool) → held_part held x ≡ held_part held y → asks_part held field name ≡ false
     → (same field name && matches x) ≡ (same field name && matches y)
 unfolding held_part asks_part
-field_alike held part x y field name matches e h = go (holds held part) (same field name) e h
+field_alike held x y field name matches e h = go held (same field name) e h
   where
     go : (b s : Bool) → cond b x 0 ≡ cond b y 0 → not b && s ≡ false → (s && matches x) ≡ (s && matches y)
     go true s e h = ap (λ (z : ℕ). s && matches z) e
@@ -205,8 +206,8 @@ else_alike : (s p q r t : Bool) → (s && p) ≡ (s && q) → r ≡ t → cond s
 else_alike true p q r t e f = e
 else_alike false p q r t e f = f
 
-module _ {image : List ℕ} {held : ℕ} where
-  connected_alike : {m n : Member} → (holds held WIRING_OF_FEATURES ≡ true → owners_wired image ≡ true) → Alike image held m n → asks_more m held IDENT_EXPR ≡ false
+module _ {image : List ℕ} {held : Held} where
+  connected_alike : {m n : Member} → (held.wiring_of_features ≡ true → owners_wired image ≡ true) → Alike image held m n → asks_more m held IDENT_EXPR ≡ false
       → connected image m ≡ connected image n
   unfolding connected asks_more
   connected_alike w (components {c} {d} e o) h =
@@ -233,15 +234,15 @@ module _ {image : List ℕ} {held : ℕ} where
   compares_alike : {m n : Member} (field value : List ℕ) → Alike image held m n → asks_field m held field ≡ false → compares image m field value ≡ compares image n field value
   unfolding compares asks_field asks_of_feature
   compares_alike field value (components {c} {d} e o) h =
-      field_alike held CATEGORY (category image c) (category image d) field (ascii "category") (λ (x : ℕ). category_matches x value) e h
+      field_alike held.category (category image c) (category image d) field (ascii "category") (λ (x : ℕ). category_matches x value) e h
   compares_alike field value (features {c} {f} {d} {g} e o k l) h =
-      let a = neither (asks_part held KIND field (ascii "kind")) (asks_part held DIRECTION field (ascii "direction") || asks_part held CATEGORY field (ascii "category")) h in
-      let b = neither (asks_part held DIRECTION field (ascii "direction")) (asks_part held CATEGORY field (ascii "category")) a.1 in
+      let a = neither (asks_part held.kind field (ascii "kind")) (asks_part held.direction field (ascii "direction") || asks_part held.category field (ascii "category")) h in
+      let b = neither (asks_part held.direction field (ascii "direction")) (asks_part held.category field (ascii "category")) a.1 in
       else_alike (same field (ascii "kind")) _ _ _ _
-      (field_alike held KIND (feature_kind image f) (feature_kind image g) field (ascii "kind") (λ (x : ℕ). feature_kind_matches x value) k a.0)
+      (field_alike held.kind (feature_kind image f) (feature_kind image g) field (ascii "kind") (λ (x : ℕ). feature_kind_matches x value) k a.0)
       (else_alike (same field (ascii "direction")) _ _ _ _
-      (field_alike held DIRECTION (direction image f) (direction image g) field (ascii "direction") (λ (x : ℕ). direction_matches x value) l b.0)
-      (field_alike held CATEGORY (category image c) (category image d) field (ascii "category") (λ (x : ℕ). category_matches x value) e b.1))
+      (field_alike held.direction (direction image f) (direction image g) field (ascii "direction") (λ (x : ℕ). direction_matches x value) l b.0)
+      (field_alike held.category (category image c) (category image d) field (ascii "category") (λ (x : ℕ). category_matches x value) e b.1))
   compares_alike field value (diagnostics e) h = ap (λ (x : ℕ). same field (ascii "severity") && severity_matches x value) e
 
 -- the kind of an atom that may ask for more, by its sort
@@ -273,7 +274,7 @@ of_sort k =
     go false false false false false false false x y z v = tt
 
 -- members that are alike have the same truth of a node that asks for no more
-pub settle_alike : {image : List ℕ} {held : ℕ} {m n : Member} → (holds held WIRING_OF_FEATURES ≡ true → owners_wired image ≡ true) → Alike image held m n
+pub settle_alike : {image : List ℕ} {held : Held} {m n : Member} → (held.wiring_of_features ≡ true → owners_wired image ≡ true) → Alike image held m n
     → (k : ℕ) (f : Forest) (truths : List Bool) → (k ≡ COMPARE_EXPR → asks_field m held (field_of f) ≡ false) → asks_more m held k ≡ false
     → settle image m (sort_of k) f truths ≡ settle image n (sort_of k) f truths
 unfolding settle

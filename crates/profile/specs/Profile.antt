@@ -8,6 +8,7 @@ pub use Rattle.board.specs.Check.{CATEGORIES, FEATURE_KINDS, DIRECTIONS, SEVERIT
 use Rattle.instance.specs.Instance.{component_connected}
 use Rattle.predicate.specs.declared.atom.Member.{Member}
 use Rattle.predicate.specs.declared.atom.Member.TheVariants.{Component, Feature, Diagnostic}
+use Rattle.profile.specs.declared.Held.{Held}
 
 -- the first profile of a feature, after two for each category; the first of a diagnostic, after one for each of a component, each kind and
 -- each direction; how many there are in all
@@ -40,77 +41,69 @@ of_feature None kind direction = None
 unfoldable pub of_diagnostic : ℕ → Option ℕ
 of_diagnostic severity = numbered (ltb severity SEVERITIES) (FIRST_OF_DIAGNOSTICS + severity)
 
--- what profiles hold of components and features, as a sum of these: whether a component is connected; by that, whether its features are; a
--- component's category; a feature's kind and direction
-abbrev pub WIRING : ℕ
-WIRING = 1
+-- what profiles hold by a sum of parts, one for each field: whether a part is in it, and all
+unfoldable pub has_part : (sum part : ℕ) → Bool
+has_part sum part = eqb (sum / part % 2) 1
 
-abbrev pub WIRING_OF_FEATURES : ℕ
-WIRING_OF_FEATURES = 2
+abbrev pub held_of : ℕ → Held
+held_of sum =
+    record {
+      wiring = has_part sum 1;
+      wiring_of_features = has_part sum 2;
+      category = has_part sum 4;
+      kind = has_part sum 8;
+      direction = has_part sum 16;
+    }
 
-abbrev pub CATEGORY : ℕ
-CATEGORY = 4
-
-abbrev pub KIND : ℕ
-KIND = 8
-
-abbrev pub DIRECTION : ℕ
-DIRECTION = 16
-
--- whether a part is in the sum
-unfoldable pub holds : (held part : ℕ) → Bool
-holds held part = eqb (held / part % 2) 1
-
--- a field where its part is held, else 0
-unfoldable pub held_part : (held part field : ℕ) → ℕ
-held_part held part field = cond (holds held part) field 0
+-- a field where it is held, else 0
+unfoldable pub held_part : Bool → ℕ → ℕ
+held_part held field = cond held field 0
 
 -- of a component of a board, of a feature by its owner's, and of any member, with what is held
-unfoldable pub wired_in : List ℕ → ℕ → ℕ → Bool
-wired_in image held c = holds held WIRING && component_connected image c
+unfoldable pub wired_in : List ℕ → Held → ℕ → Bool
+wired_in image held c = held.wiring && component_connected image c
 
-unfoldable pub component_profile : List ℕ → ℕ → ℕ → Option ℕ
+unfoldable pub component_profile : List ℕ → Held → ℕ → Option ℕ
 unfolding of_component wired_in held_part
-component_profile image held c = of_component (held_part held CATEGORY (category image c)) (wired_in image held c)
+component_profile image held c = of_component (held_part held.category (category image c)) (wired_in image held c)
 
-unfoldable pub owned_profile : List ℕ → ℕ → Option ℕ → ℕ → Option ℕ
+unfoldable pub owned_profile : List ℕ → Held → Option ℕ → ℕ → Option ℕ
 unfolding of_feature held_part
-owned_profile image held owner f = of_feature owner (held_part held KIND (feature_kind image f)) (held_part held DIRECTION (direction image f))
+owned_profile image held owner f = of_feature owner (held_part held.kind (feature_kind image f)) (held_part held.direction (direction image f))
 
-unfoldable pub profile_of : List ℕ → ℕ → Member → Option ℕ
+unfoldable pub profile_of : List ℕ → Held → Member → Option ℕ
 unfolding component_profile owned_profile of_diagnostic
 profile_of image held (Component c) = component_profile image held c
 profile_of image held (Feature c f) = owned_profile image held (component_profile image held c) f
 profile_of image held (Diagnostic d) = of_diagnostic (severity image d)
 
 -- whether `connected` is held of components, or of features
-unfoldable pub wiring_held : ℕ → Bool → Bool
-unfolding holds
-wiring_held held features = holds held WIRING && cond features (holds held WIRING_OF_FEATURES) true
+unfoldable pub wiring_held : Held → Bool → Bool
+wiring_held held features = held.wiring && cond features held.wiring_of_features true
 
 -- whether a node of a kind that compares no field asks for more than the profile of a member: a CALL_EXPR is `has`, an IDENT_EXPR
 -- `connected`, which the profile tells where that is held, and a CONTAINS_EXPR looks at a diagnostic's message
-unfoldable pub asks_wiring : ℕ → Bool → ℕ → Bool
+unfoldable pub asks_wiring : Held → Bool → ℕ → Bool
 unfolding wiring_held
 asks_wiring held features kind = eqb kind CALL_EXPR || (eqb kind IDENT_EXPR && not (wiring_held held features))
 
-unfoldable pub asks_more : Member → ℕ → ℕ → Bool
+unfoldable pub asks_more : Member → Held → ℕ → Bool
 unfolding asks_wiring
 asks_more (Component c) held kind = asks_wiring held false kind
 asks_more (Feature c f) held kind = asks_wiring held true kind
 asks_more (Diagnostic d) held kind = eqb kind CONTAINS_EXPR
 
 -- whether a node that compares a field asks for more: for one that the member has and that is not held
-unfoldable pub asks_part : (held part : ℕ) → (field name : List ℕ) → Bool
-asks_part held part field name = not (holds held part) && same field name
+unfoldable pub asks_part : Bool → (field name : List ℕ) → Bool
+asks_part held field name = not held && same field name
 
-unfoldable pub asks_of_feature : ℕ → List ℕ → Bool
+unfoldable pub asks_of_feature : Held → List ℕ → Bool
 unfolding asks_part
 asks_of_feature held field =
-    asks_part held KIND field (ascii "kind") || (asks_part held DIRECTION field (ascii "direction") || asks_part held CATEGORY field (ascii "category"))
+    asks_part held.kind field (ascii "kind") || (asks_part held.direction field (ascii "direction") || asks_part held.category field (ascii "category"))
 
-unfoldable pub asks_field : Member → ℕ → List ℕ → Bool
+unfoldable pub asks_field : Member → Held → List ℕ → Bool
 unfolding asks_part asks_of_feature
-asks_field (Component c) held field = asks_part held CATEGORY field (ascii "category")
+asks_field (Component c) held field = asks_part held.category field (ascii "category")
 asks_field (Feature c f) held field = asks_of_feature held field
 asks_field (Diagnostic d) held field = false

@@ -3,14 +3,13 @@
 #![tactic(auto)]
 
 ghost use Rattle.std.specs.Prelude.{◌≡◌, ◌<◌};
-ghost use Rattle.board.specs.Image.{field, severity};
-ghost use Rattle.profile.specs.Profile.{holds, held_part, of_component, of_feature, of_diagnostic, wired_in, owned_profile, profile_of, wiring_held, asks_wiring, asks_more, asks_part, asks_of_feature, asks_field};
+ghost use Rattle.board.specs.Image.{severity};
+ghost use Rattle.profile.specs.Profile.{has_part, held_of, of_component, of_feature, of_diagnostic, wired_in, owned_profile, profile_of, wiring_held, asks_wiring, asks_more, asks_part, asks_of_feature, asks_field};
 
 use board::image;
-use board::image::Section;
 use instance;
 use predicate::atom::Member;
-use syntax::kind;
+use syntax::kind::Kind;
 
 // The first profiles of features and of diagnostics, after those of components, and how many there are in all.
 pub const FIRST_OF_FEATURES: usize = 28;
@@ -19,31 +18,44 @@ pub const FIRST_OF_DIAGNOSTICS: usize = 1148;
 
 pub const PROFILES: usize = 1151;
 
-// What profiles hold of components and features, as a sum of these: whether a component is connected; by that, whether its features are;
-// a component's category; a feature's kind and direction. They are a sum since who evaluates keeps them in one byte of a lent table: a struct
-// would be made anew from that byte for each member.
-pub const WIRING: u8 = 1;
+// What profiles hold of components and features: whether a component is connected; by that, whether its features are; a component's
+// category; a feature's kind and direction.
+#[derive(Clone, Copy, PartialEq, Eq, Debug, Default)]
+pub struct Held {
+    pub wiring: bool,
+    pub wiring_of_features: bool,
+    pub category: bool,
+    pub kind: bool,
+    pub direction: bool,
+}
 
-pub const WIRING_OF_FEATURES: u8 = 2;
+// The same as a sum of 1, 2, 4, 8 and 16, in the order of the fields.
+impl From<u8> for Held {
+    ghost from_gives = { λ sum held. held ≡ held_of sum };
 
-pub const CATEGORY: u8 = 4;
+    fn from(sum: u8) -> Held {
+        Held {
+            wiring: has_part(sum, 1),
+            wiring_of_features: has_part(sum, 2),
+            category: has_part(sum, 4),
+            kind: has_part(sum, 8),
+            direction: has_part(sum, 16),
+        }
+    }
+}
 
-pub const KIND: u8 = 8;
-
-pub const DIRECTION: u8 = 16;
-
-// Whether a part is in the sum.
-#[tactic(auto, unfolding(crate::specs::Profile::holds))]
-fn holds(held: u8, part: u8) -> bool
+// Whether a part is in a sum.
+#[tactic(auto, unfolding(crate::specs::Profile::has_part))]
+fn has_part(sum: u8, part: u8) -> bool
     requires { 0 < part }
-    ensures { result ≡ holds held part }
+    ensures { result ≡ has_part sum part }
 {
-    held / part % 2 == 1
+    sum / part % 2 == 1
 }
 
 // The profile of a member of a board, with what is held; none where one of its fields has no such value.
 #[tactic(auto, unfolding(crate::specs::Profile::profile_of))]
-pub fn profile_of(image: &[u8], held: u8, member: Member) -> Option<usize>
+pub fn profile_of(image: &[u8], held: Held, member: Member) -> Option<usize>
     ensures { result ≡ profile_of image.now held member }
 {
     match member {
@@ -54,23 +66,20 @@ pub fn profile_of(image: &[u8], held: u8, member: Member) -> Option<usize>
 }
 
 // That of a component.
-#[tactic(auto, unfolding(crate::specs::Profile::profile_of, crate::specs::Profile::component_profile))]
-pub fn component_profile(image: &[u8], held: u8, component: u32) -> Option<usize>
+#[tactic(auto, unfolding(crate::specs::Profile::profile_of, crate::specs::Profile::component_profile, crate::specs::Profile::held_part))]
+pub fn component_profile(image: &[u8], held: Held, component: u32) -> Option<usize>
     ensures { result ≡ profile_of image.now held (Member.Component component) }
 {
-    let category = held_field(
-        image,
-        held,
-        CATEGORY,
-        Section::Components,
-        component,
-        image::CATEGORY,
-    );
+    let category = if held.category {
+        image::category(image, component)
+    } else {
+        0
+    };
     of_component(category, is_wired(image, held, component))
 }
 
 // That of a feature, by its owner's.
-pub fn feature_profile(image: &[u8], held: u8, component: u32, feature: u32) -> Option<usize>
+pub fn feature_profile(image: &[u8], held: Held, component: u32, feature: u32) -> Option<usize>
     ensures { result ≡ profile_of image.now held (Member.Feature component feature) }
 {
     let owner = component_profile(image, held, component);
@@ -78,55 +87,36 @@ pub fn feature_profile(image: &[u8], held: u8, component: u32, feature: u32) -> 
 }
 
 // The same where its owner's is at hand.
-#[tactic(auto, unfolding(crate::specs::Profile::owned_profile))]
-pub fn owned_profile(image: &[u8], held: u8, owner: Option<usize>, feature: u32) -> Option<usize>
+#[tactic(auto, unfolding(crate::specs::Profile::owned_profile, crate::specs::Profile::held_part))]
+pub fn owned_profile(image: &[u8], held: Held, owner: Option<usize>, feature: u32) -> Option<usize>
     ensures { result ≡ owned_profile image.now held owner feature }
 {
-    let kind = held_field(
-        image,
-        held,
-        KIND,
-        Section::Features,
-        feature,
-        image::FEATURE_KIND,
-    );
-    let direction = held_field(
-        image,
-        held,
-        DIRECTION,
-        Section::Features,
-        feature,
-        image::DIRECTION,
-    );
-    of_feature(owner, kind, direction)
-}
-
-// A number of a record where this part is held, else 0.
-#[tactic(auto, unfolding(crate::specs::Profile::held_part))]
-fn held_field(image: &[u8], held: u8, part: u8, section: Section, index: u32, number: u32) -> u32
-    requires { 0 < part }
-    ensures { result ≡ held_part held part (field image.now section index number) }
-{
-    if holds(held, part) {
-        image::field(image, section, index, number)
+    let kind = if held.kind {
+        image::feature_kind(image, feature)
     } else {
         0
-    }
+    };
+    let direction = if held.direction {
+        image::direction(image, feature)
+    } else {
+        0
+    };
+    of_feature(owner, kind, direction)
 }
 
 // Whether a component is connected, where that is held.
 #[tactic(auto, unfolding(crate::specs::Profile::wired_in))]
-fn is_wired(image: &[u8], held: u8, component: u32) -> bool
+fn is_wired(image: &[u8], held: Held, component: u32) -> bool
     ensures { result ≡ wired_in image.now held component }
 {
-    holds(held, WIRING) && instance::component_connected(image, component)
+    held.wiring && instance::component_connected(image, component)
 }
 
 // That of a diagnostic, which always holds its severity.
 pub fn diagnostic_profile(image: &[u8], diagnostic: u32) -> Option<usize>
     ensures { result ≡ of_diagnostic (severity image.now diagnostic) }
 {
-    of_diagnostic(image::field(image, Section::Diagnostics, diagnostic, image::SEVERITY))
+    of_diagnostic(image::severity(image, diagnostic))
 }
 
 // The profile by a component's category and whether it is connected.
@@ -167,43 +157,43 @@ fn of_diagnostic(severity: u32) -> Option<usize>
 // Whether a node of a kind that compares no field asks for more than the profile of a member: `has` of a component and of a feature,
 // `connected` where that is not held, `message.contains` of a diagnostic.
 #[tactic(auto, unfolding(crate::specs::Profile::asks_more))]
-pub fn asks_more(member: Member, held: u8, kind: u32) -> bool
+pub fn asks_more(member: Member, held: Held, kind: u32) -> bool
     ensures { result ≡ asks_more member held kind }
 {
     match member {
         Member::Component(_) => asks_wiring(held, false, kind),
         Member::Feature(_, _) => asks_wiring(held, true, kind),
-        Member::Diagnostic(_) => kind == kind::CONTAINS_EXPR,
+        Member::Diagnostic(_) => kind == u32::from(Kind::ContainsExpr),
     }
 }
 
 // Whether it is `has`, or `connected` where that is not held.
 #[tactic(auto, unfolding(crate::specs::Profile::asks_wiring))]
-fn asks_wiring(held: u8, features: bool, kind: u32) -> bool
+fn asks_wiring(held: Held, features: bool, kind: u32) -> bool
     ensures { result ≡ asks_wiring held features kind }
 {
-    match kind {
-        kind::CALL_EXPR => true,
-        kind::IDENT_EXPR => !wiring_held(held, features),
+    match Kind::try_from(kind) {
+        Ok(Kind::CallExpr) => true,
+        Ok(Kind::IdentExpr) => !wiring_held(held, features),
         _ => false,
     }
 }
 
 // Whether `connected` is held of components, or of features.
 #[tactic(auto, unfolding(crate::specs::Profile::wiring_held))]
-fn wiring_held(held: u8, features: bool) -> bool
+fn wiring_held(held: Held, features: bool) -> bool
     ensures { result ≡ wiring_held held features }
 {
-    holds(held, WIRING) && (!features || holds(held, WIRING_OF_FEATURES))
+    held.wiring && (!features || held.wiring_of_features)
 }
 
 // Whether a node that compares a field asks for more: for one that the member has and that is not held.
 #[tactic(auto, unfolding(crate::specs::Profile::asks_field))]
-pub fn asks_field(member: Member, held: u8, field: &[u8]) -> bool
+pub fn asks_field(member: Member, held: Held, field: &[u8]) -> bool
     ensures { result ≡ asks_field member held field.now }
 {
     match member {
-        Member::Component(_) => asks_part(held, CATEGORY, field, b"category"),
+        Member::Component(_) => asks_part(held.category, field, b"category"),
         Member::Feature(_, _) => asks_of_feature(held, field),
         Member::Diagnostic(_) => false,
     }
@@ -211,19 +201,18 @@ pub fn asks_field(member: Member, held: u8, field: &[u8]) -> bool
 
 // Of a feature, whose category is its owner's.
 #[tactic(auto, unfolding(crate::specs::Profile::asks_of_feature))]
-fn asks_of_feature(held: u8, field: &[u8]) -> bool
+fn asks_of_feature(held: Held, field: &[u8]) -> bool
     ensures { result ≡ asks_of_feature held field.now }
 {
-    asks_part(held, KIND, field, b"kind")
-        || asks_part(held, DIRECTION, field, b"direction")
-        || asks_part(held, CATEGORY, field, b"category")
+    asks_part(held.kind, field, b"kind")
+        || asks_part(held.direction, field, b"direction")
+        || asks_part(held.category, field, b"category")
 }
 
 // Whether a field is this one, and it is not held.
 #[tactic(auto, using(matching::proofs::WordLaws::pointwise_same), unfolding(crate::specs::Profile::asks_part))]
-fn asks_part(held: u8, part: u8, field: &[u8], name: &[u8]) -> bool
-    requires { 0 < part }
-    ensures { result ≡ asks_part held part field.now name.now }
+fn asks_part(held: bool, field: &[u8], name: &[u8]) -> bool
+    ensures { result ≡ asks_part held field.now name.now }
 {
-    !holds(held, part) && field == name
+    !held && field == name
 }

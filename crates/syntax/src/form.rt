@@ -48,16 +48,3 @@ impl TryFrom<u32> for Form {
         }
     }
 }
-
-// The same numbers as constants, for code that matches the number of a row.
-pub const EXPECT: u32 = 1;
-
-pub const EXPECT_IDENT: u32 = 2;
-
-pub const LEFT_OVER: u32 = 3;
-
-pub const SOURCE: u32 = 4;
-
-pub const METHOD: u32 = 5;
-
-pub const ATOM: u32 = 6;

@@ -1,13 +1,12 @@
--- `marked::make_marks` makes a block after the other. Assumes nothing.
+-- `make_marks` marks one row after the other. Assumes nothing.
 use native.Mathlib.Omega.{arith}
+use lib.ListN.{length-set}
+use mathlib.Core.Path.{◌∙◌}
 use Rattle.eval.proofs.MarkedLaws.{making_start, making_on}
 use Rattle.eval.proofs.marked.make_marks.Goals as goal
 
 pub loop-n-init : goal.loop-n-init
-loop-n-init c = making_start _ _ _ c.requires
-
-pub make_block-requires : goal.make_block-requires
-make_block-requires c = (omega (arith, c.in-Some.ensures), c.loop-n-test.true, c.loop-n.invariant.long)
+loop-n-init c = (c.told-marked, making_start _ _ _ _)
 
 pub loop-n-preserved : goal.loop-n-preserved
-loop-n-preserved c = making_on c.loop-n.invariant c.loop-n-test.true c.make_block.ensures
+loop-n-preserved c = (length-set _ _ _ ∙ c.loop-n.invariant.0, making_on c.loop-n.invariant.1 c.loop-n-test.true (omega arith) c.mark.ensures)

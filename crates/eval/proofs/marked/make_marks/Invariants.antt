@@ -1,6 +1,8 @@
--- `marked::make_marks` makes a block after the other. Assumes nothing.
-use Rattle.eval.specs.Marked.{Made}
+-- `make_marks` marks one row after the other. Assumes nothing.
+use mathlib.Core.Path.{◌≡◌}
+use lib.ListN.{length}
+use Rattle.eval.specs.Marked.{HASES, Made}
 use Rattle.eval.proofs.marked.make_marks.Given as goal
 
 abbrev pub invariant-loop-n : goal.invariant-loop-n
-invariant-loop-n l = Made l.rule l.image l.tree l.memo l.n
+invariant-loop-n l = (length l.marked ≡ HASES) × Made l.rule l.image l.tree l.marked l.n

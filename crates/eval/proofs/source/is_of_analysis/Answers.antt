@@ -6,9 +6,9 @@ use Rattle.eval.proofs.AnalysisLaws.{of_analysis, known_here, known_more}
 use Rattle.eval.proofs.source.is_of_analysis.Goals as goal
 
 pub returns-then-analysis-string : goal.returns-then-analysis-string
-returns-then-analysis-string c = (of_analysis _ _ _ c.field-string.ensures (known_here c.requires _ c.in-Some.is c.if-analysis-string.true), c.requires)
+returns-then-analysis-string c = (of_analysis _ _ _ c.analysis-string.ensures (known_here c.requires _ c.in-Some.is c.if-analysis-string.true), c.requires)
 
 pub returns : goal.returns
 returns c =
     let named = sym (text_same c.args.image.now c.args.name.now refl c.string.ensures c.same-named.ensures) in
-    (of_analysis _ _ _ c.field-string.ensures named, known_more c.requires _ _ (omega arith) named)
+    (of_analysis _ _ _ c.analysis-string.ensures named, known_more c.requires _ _ (omega arith) named)

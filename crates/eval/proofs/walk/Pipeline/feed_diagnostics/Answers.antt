@@ -1,12 +1,14 @@
--- `feed_diagnostics` sends every diagnostic of the analysis with a memo of zeros. Assumes nothing.
-use Rattle.eval.proofs.MemoLaws.{notes_none}
-use Rattle.eval.proofs.SentLaws.{begun}
-use Rattle.eval.specs.Memo.{PLAIN}
-use Rattle.eval.specs.Walk.{every_of_analysis}
-use native.Mathlib.Omega.{arith}
+-- `feed_diagnostics` sends every diagnostic of the analysis with notes that say nothing yet. Assumes nothing.
+use mathlib.Core.Bool.{false≢true}
+use mathlib.Core.Path.{sym, ◌∙◌}
 use mathlib.Core.List.{List}
 use Prim.Native.Nat.{ℕ}
+use Rattle.eval.proofs.MarkedLaws.{marks_none}
+use Rattle.eval.proofs.MemoLaws.{sound_begun}
+use Rattle.eval.proofs.SentLaws.{begun}
+use Rattle.eval.specs.Memo.{WAY_NOTES}
+use Rattle.eval.specs.Walk.{every_of_analysis}
 use Rattle.eval.proofs.walk.Pipeline.feed_diagnostics.Goals as goal
 
 pub feed_each_diagnostic-requires : goal.feed_each_diagnostic-requires
-feed_each_diagnostic-requires c = begun c.new-walk.ensures (λ (image : List ℕ). every_of_analysis image c.args.name.now) c.requires (notes_none _ _ _ _ PLAIN (omega arith) (omega arith))
+feed_each_diagnostic-requires c = begun c.new-walk.ensures (λ (image : List ℕ). every_of_analysis image c.args.name.now) c.requires (sound_begun _ _ WAY_NOTES (marks_none _ _ _) (λ e. absurd (false≢true (sym c.default.ensures.1.0 ∙ e))))

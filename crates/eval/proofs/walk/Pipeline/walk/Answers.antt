@@ -2,7 +2,7 @@
 use Rattle.eval.proofs.SourceLaws.{rows_fits, rows_walked, decides_all, components_fit_lem, diagnostics_fit_lem, components_walked, diagnostics_walked}
 use Rattle.eval.proofs.FeedLaws.{stands_is}
 use Rattle.predicate.specs.Rows.{kind_at, children_at}
-use mathlib.Core.Path.{◌∙◌}
+use mathlib.Core.Path.{sym, ◌∙◌}
 use Rattle.eval.proofs.walk.Pipeline.walk.Goals as goal
 
 pub feed_components-requires : goal.feed_components-requires
@@ -10,12 +10,12 @@ feed_components-requires c =
     let p = c.args.self in
     rows_fits (components_fit_lem p.rule.now p.image.now p.tree.now p.calls.now c.args.collection.now (kind_at p.tree.now c.args.source) (children_at p.rule.now p.tree.now c.args.source) c.requires.well c.requires.room) (decides_all p.rule.now p.tree.now p.calls.now c.requires.decides) c.clear.ensures
 
-pub returns-then-self-source-eq-IDENT_EXPR : goal.returns-then-self-source-eq-IDENT_EXPR
-returns-then-self-source-eq-IDENT_EXPR c =
+pub returns-then-self-source : goal.returns-then-self-source
+returns-then-self-source c =
     let p = c.args.self in
     stands_is c.feed_components.ensures
     (rows_walked (components_fit_lem p.rule.now p.image.now p.tree.now p.calls.now c.args.collection.now (kind_at p.tree.now c.args.source) (children_at p.rule.now p.tree.now c.args.source) c.requires.well c.requires.room) c.clear.ensures
-    ∙ components_walked p.rule.now p.image.now p.tree.now p.calls.now c.args.collection.now (kind_at p.tree.now c.args.source) (children_at p.rule.now p.tree.now c.args.source) c.if-self-source-eq-IDENT_EXPR.true)
+    ∙ components_walked p.rule.now p.image.now p.tree.now p.calls.now c.args.collection.now (kind_at p.tree.now c.args.source) (children_at p.rule.now p.tree.now c.args.source) (c.if-self-source.true ∙ c.from.ensures))
 
 pub feed_diagnostics-requires : goal.feed_diagnostics-requires
 feed_diagnostics-requires c =
@@ -27,4 +27,4 @@ returns c =
     let p = c.args.self in
     stands_is c.feed_diagnostics.ensures
     (rows_walked (diagnostics_fit_lem p.rule.now p.image.now p.tree.now p.calls.now c.args.collection.now (kind_at p.tree.now c.args.source) (children_at p.rule.now p.tree.now c.args.source) c.find_string_literal-name.result.now c.requires.room) c.clear.ensures
-    ∙ diagnostics_walked p.rule.now p.image.now p.tree.now p.calls.now c.args.collection.now (kind_at p.tree.now c.args.source) (children_at p.rule.now p.tree.now c.args.source) _ c.if-self-source-eq-IDENT_EXPR.false c.find_string_literal-name.ensures)
+    ∙ diagnostics_walked p.rule.now p.image.now p.tree.now p.calls.now c.args.collection.now (kind_at p.tree.now c.args.source) (children_at p.rule.now p.tree.now c.args.source) _ (λ e. c.if-self-source.false (e ∙ sym c.from.ensures)) c.find_string_literal-name.ensures)

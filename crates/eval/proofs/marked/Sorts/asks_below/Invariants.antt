@@ -2,10 +2,10 @@
 use Prim.Native.Nat.{◌-◌}
 use lib.ListN.{length}
 use Rattle.eval.proofs.MarkedLaws.{Telling}
-use Rattle.eval.proofs.marked.asks_below.Given as goal
+use Rattle.eval.proofs.marked.Sorts.asks_below.Given as goal
 
 abbrev pub invariant-loop-member : goal.invariant-loop-member
-invariant-loop-member l = Telling l.rule l.tree l.at l.member l.memo l.level l.row
+invariant-loop-member l = Telling l.rule l.tree l.at l.member l.self l.level l.row
 
 abbrev pub decreases-loop-member : goal.decreases-loop-member
 decreases-loop-member l = length l.tree - l.row

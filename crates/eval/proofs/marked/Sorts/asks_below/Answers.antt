@@ -4,7 +4,7 @@ use mathlib.Core.Bool.{not}
 use native.Mathlib.Omega.{arith}
 use Rattle.predicate.proofs.RowLaws.{row_there, below_row}
 use Rattle.eval.proofs.MarkedLaws.{tells_more, telling_on, telling_end}
-use Rattle.eval.proofs.marked.asks_below.Goals as goal
+use Rattle.eval.proofs.marked.Sorts.asks_below.Goals as goal
 
 pub returns-then-tree-lt-ROW : goal.returns-then-tree-lt-ROW
 returns-then-tree-lt-ROW c = tells_more
@@ -16,7 +16,7 @@ pub is_below-requires : goal.is_below-requires
 is_below-requires c = tt
 
 pub is_told-requires : goal.is_told-requires
-is_told-requires c = (row_there _ _ (below_row _ _ _ (sym c.is_below.ensures ∙ c.loop-member-test.true)).0, c.requires)
+is_told-requires c = row_there _ _ (below_row _ _ _ (sym c.is_below.ensures ∙ c.loop-member-test.true)).0
 
 pub returns-then-not-is_told : goal.returns-then-not-is_told
 returns-then-not-is_told c = tells_more
