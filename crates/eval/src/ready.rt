@@ -94,8 +94,8 @@ fn put_calls(rule: &[u8], tree: &[u32], at: usize, source: usize, calls: &mut [C
 fn is_call(tree: &[u32], level: usize, row: usize) -> bool
     ensures { result ≡ row_passes (of_kind DOT_CALL) tree.now level row }
 {
-    rows::level_at(tree, row) as usize == level
-        && matches!(rows::kind_at(tree, row), Ok(Kind::DotCall))
+    matches!(rows::kind_at(tree, row), Ok(Kind::DotCall))
+        && rows::level_at(tree, row) as usize == level
 }
 
 // The call whose DOT_CALL has its row at a place.

@@ -1,11 +1,16 @@
 -- The truth of a node by its kind. Assumes nothing.
-use mathlib.Core.Path.{◌≡◌, sym, ap, ◌∙◌}
+use mathlib.Core.Path.{◌≡◌, sym, ap, ◌∙◌, subst}
 use mathlib.Core.Bool.{Bool, false, cond}
 use mathlib.Core.List.{List}
 use Prim.Native.Nat.{ℕ, ◌+◌, ◌≤◌}
+use native.Mathlib.Omega.{arith}
 use lib.ListN.{length}
 use borrow.Author.Tests.{le-leb, ne_eqb}
 use Rattle.syntax.specs.Kind.{BINARY_EXPR, UNARY_EXPR, COMPARE_EXPR, CALL_EXPR, PAREN_EXPR, IDENT_EXPR, CONTAINS_EXPR}
+use Rattle.std.specs.Prelude.{Result, Err}
+use Rattle.syntax.specs.Kinds.{Names}
+use Rattle.syntax.specs.declared.kind.Kind.{Kind}
+use Rattle.syntax.specs.declared.kind.UnknownKind.{UnknownKind}
 use Rattle.trees.specs.Green.{Forest, nil, node}
 use Rattle.predicate.specs.declared.Evaluator.{Evaluator}
 use Rattle.predicate.specs.Truth.{literal_of, field_of, connected, has, compares, message_contains, sort_of, settle, truths, truth}
@@ -58,3 +63,9 @@ module _ (ev : Evaluator) (at : ℕ) where
   unfolding sort_of settle
   settled_other b u p i c n q =
       sym (rw (ne_eqb _ BINARY_EXPR b, ne_eqb _ UNARY_EXPR u, ne_eqb _ PAREN_EXPR p, ne_eqb _ IDENT_EXPR i, ne_eqb _ CALL_EXPR c, ne_eqb _ CONTAINS_EXPR n, ne_eqb _ COMPARE_EXPR q))
+
+  -- a number that is no kind's
+  pub settled_none : {named : Result Kind UnknownKind} {e : UnknownKind} → Names (kind_at ev.tree.now at) named → named ≡ Err e → false ≡ settled_at ev at
+  settled_none n h =
+      let above = (subst (Names (kind_at ev.tree.now at)) h n).0 in
+      settled_other (λ q. omega arith) (λ q. omega arith) (λ q. omega arith) (λ q. omega arith) (λ q. omega arith) (λ q. omega arith) (λ q. omega arith)

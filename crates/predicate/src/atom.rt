@@ -1,11 +1,12 @@
 // The atoms of predicates: `connected`, `has('..')`, `field == '..'` and `message.contains('..')`, of one member of a board.
 ghost use Rattle.std.specs.Prelude.{◌≡◌};
 ghost use Rattle.syntax.specs.Kind.{BINARY_EXPR, UNARY_EXPR, PAREN_EXPR};
+ghost use Rattle.syntax.specs.Kinds.{number};
 ghost use Rattle.predicate.specs.Truth.{connected, has_property_of, has, compares, message_contains, literal_of};
 ghost use Rattle.predicate.specs.Rows.{kind_at, children_at};
 ghost use Rattle.predicate.specs.Eval.{settled_at};
 
-use crate::{Evaluator, node, rows};
+use crate::{Evaluator, node};
 use board::image;
 use instance;
 use matching;
@@ -21,17 +22,18 @@ pub enum Member {
 }
 
 impl<'a> Evaluator<'a> {
-    // Whether the atom whose row is at a place is true of the member.
+    // Whether the atom whose row is at a place, and is of this kind, is true of the member.
     #[tactic(auto, using(crate::proofs::AtomLaws::settled_ident, crate::proofs::AtomLaws::settled_call, crate::proofs::AtomLaws::settled_contains, crate::proofs::AtomLaws::settled_compare, crate::proofs::AtomLaws::settled_other))]
-    pub(crate) fn eval_atom(&self, at: usize) -> bool
-        requires { (kind_at self.now.tree.now at ≡ BINARY_EXPR → ⊥) × (kind_at self.now.tree.now at ≡ UNARY_EXPR → ⊥) × (kind_at self.now.tree.now at ≡ PAREN_EXPR → ⊥) }
+    pub(crate) fn eval_atom(&self, kind: Kind, at: usize) -> bool
+        requires kind { number kind ≡ kind_at self.now.tree.now at }
+        requires atom { (kind_at self.now.tree.now at ≡ BINARY_EXPR → ⊥) × (kind_at self.now.tree.now at ≡ UNARY_EXPR → ⊥) × (kind_at self.now.tree.now at ≡ PAREN_EXPR → ⊥) }
         ensures { result ≡ settled_at self.now at }
     {
-        match rows::kind_at(self.tree, at) {
-            Ok(Kind::IdentExpr) => self.member.connected(self.image),
-            Ok(Kind::CallExpr) => self.member.has(self.image, self.value(at)),
-            Ok(Kind::ContainsExpr) => self.member.message_contains(self.image, self.value(at)),
-            Ok(Kind::CompareExpr) => {
+        match kind {
+            Kind::IdentExpr => self.member.connected(self.image),
+            Kind::CallExpr => self.member.has(self.image, self.value(at)),
+            Kind::ContainsExpr => self.member.message_contains(self.image, self.value(at)),
+            Kind::CompareExpr => {
                 let field = node::ident(self.rule, self.tree, at);
                 self.member.compares(self.image, field, self.value(at))
             }

@@ -81,7 +81,8 @@ impl Evaluator<'_> {
             Ok(Kind::BinaryExpr) => self.eval_node(predicate).value,
             Ok(Kind::UnaryExpr) => !self.eval_args(predicate),
             Ok(Kind::ParenExpr) => self.eval_args(predicate),
-            _ => self.eval_atom(predicate),
+            Ok(kind) => self.eval_atom(kind, predicate),
+            Err(_) => false,
         }
     }
 
@@ -93,24 +94,27 @@ impl Evaluator<'_> {
     {
         let level = self.tree[at + 1];
         let inside = at + rows::ROW;
-        match Kind::try_from(self.tree[at]) {
-            Ok(Kind::BinaryExpr) => self.eval_operands(level, inside),
+        let value = match Kind::try_from(self.tree[at]) {
+            Ok(Kind::BinaryExpr) => return self.eval_operands(level, inside),
             Ok(Kind::UnaryExpr) => {
                 let inner = self.eval_inner(level, inside);
-                Truth {
+                return Truth {
                     value: !inner.value,
                     next: inner.next,
-                }
+                };
             }
-            Ok(Kind::ParenExpr) => self.eval_inner(level, inside),
-            _ => Truth {
-                value: self.eval_atom(at),
-                next: rows::skip_below(self.tree, level as usize, inside),
-            },
+            Ok(Kind::ParenExpr) => return self.eval_inner(level, inside),
+            Ok(kind) => self.eval_atom(kind, at),
+            Err(_) => false,
+        };
+        Truth {
+            value,
+            next: rows::skip_below(self.tree, level as usize, inside),
         }
     }
 
     // The first node below a level from a place on: its truth, or false where there is none.
+    #[inline(always)]
     #[cycle(eval_node)]
     fn eval_inner(&self, level: u32, from: usize) -> Truth
         requires { from ≤ length self.now.tree.now }
@@ -133,6 +137,7 @@ impl Evaluator<'_> {
     }
 
     // The operands below a level from a place on, joined from left to right.
+    #[inline(always)]
     #[cycle(eval_node)]
     fn eval_operands(&self, level: u32, from: usize) -> Truth
         requires { from ≤ length self.now.tree.now }

@@ -4,7 +4,7 @@ use mathlib.Core.Bool.{not}
 use native.Mathlib.Omega.{arith}
 use Rattle.std.proofs.Common.{rules}
 use Rattle.predicate.proofs.NodeLaws.{row_found, row_absent}
-use Rattle.predicate.proofs.AtomLaws.{node_truth}
+use Rattle.predicate.proofs.AtomLaws.{node_truth, settled_none}
 use Rattle.predicate.proofs.EvalLaws.{truth_unary, truth_paren, inner_none, inner_found}
 use Rattle.predicate.proofs.Evaluator.+eval_args.Goals as goal
 
@@ -38,7 +38,12 @@ returns-in-Ok-ParenExpr t c =
     let found = row_found (sym c.first_child.ensures ∙ c.in-Some.is) in
     c.eval_args-in-Ok-ParenExpr.ensures ∙ sym (inner_found c.args.self.now _ _ _ found ∙ truth_paren c.args.self.now _ found.whole (search rules))
 
-pub returns-in_default-kind_at : goal.returns-in_default-kind_at
-returns-in_default-kind_at t c =
+pub returns-in-Ok : goal.returns-in-Ok
+returns-in-Ok t c =
     let found = row_found (sym c.first_child.ensures ∙ c.in-Some.is) in
     c.eval_atom.ensures ∙ sym (inner_found c.args.self.now _ _ _ found ∙ node_truth c.args.self.now _ found.whole)
+
+pub returns-in-Err : goal.returns-in-Err
+returns-in-Err t c =
+    let found = row_found (sym c.first_child.ensures ∙ c.in-Some.is) in
+    settled_none c.args.self.now _ c.kind_at.ensures c.in-Err.is ∙ sym (inner_found c.args.self.now _ _ _ found ∙ node_truth c.args.self.now _ found.whole)

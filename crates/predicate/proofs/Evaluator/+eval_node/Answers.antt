@@ -5,7 +5,9 @@ use borrow.Author.Tests.{leb-true, leb-false}
 use Rattle.std.proofs.Common.{rules}
 use Rattle.syntax.specs.Kind.{ROOT}
 use Rattle.predicate.proofs.EvalLaws.{operand_there, joins_deeper, joins_token, joins_decided, joins_open, joining_end, evaluated_binary, evaluated_unary, evaluated_paren, evaluated_atom, inner_empty, inner_first}
+use Rattle.predicate.proofs.AtomLaws.{settled_none}
 use Rattle.predicate.proofs.Evaluator.+eval_node.Goals as goal
+use Rattle.predicate.proofs.Evaluator.+eval_node.Goals.{eval_node-in-Ok, eval_node-in-Err}
 
 pub eval_inner-returns-in-Some : goal.eval_inner-returns-in-Some
 eval_inner-returns-in-Some t c = inner_first c.in-Some.ensures c.eval_node-inner.ensures c.skip_below.ensures
@@ -22,8 +24,12 @@ eval_node-returns-in-Ok-UnaryExpr t c = evaluated_unary c.requires (search rules
 pub eval_node-returns-in-Ok-ParenExpr : goal.eval_node-returns-in-Ok-ParenExpr
 eval_node-returns-in-Ok-ParenExpr t c = evaluated_paren c.requires (search rules) c.eval_inner.ensures
 
-pub eval_node-returns-in_default : goal.eval_node-returns-in_default
-eval_node-returns-in_default t c = evaluated_atom c.requires c.eval_atom.ensures c.skip_below.ensures
+pub eval_node-returns : goal.eval_node-returns
+eval_node-returns t c =
+    elim c.match-try_from.branch [
+      | eval_node-in-Ok w ↦ evaluated_atom c.requires (w.value-is ∙ w.eval_atom-value.ensures) c.skip_below.ensures
+      | eval_node-in-Err w ↦ evaluated_atom c.requires (w.value-is ∙ settled_none c.args.self.now c.args.at c.try_from.ensures w.in-Err.is) c.skip_below.ensures
+    ]
 
 pub eval_operand-overflow_add-after : goal.eval_operand-overflow_add-after
 eval_operand-overflow_add-after t c = omega (arith, operand_there c.requires)
