@@ -14,8 +14,7 @@ use predicate::{node, rows};
 use syntax::kind::Kind;
 use syntax::refusal::Refusal;
 
-// A call by its method, and the place of its CALL_ARGS in the tree table: where there is none, past all rows. An `Option` would make it half
-// as large again.
+// A call by its method, and the place of its CALL_ARGS in the tree table.
 #[derive(Clone, Copy)]
 pub(crate) struct Call {
     pub method: Method,
@@ -108,7 +107,8 @@ fn call_at(rule: &[u8], tree: &[u32], row: usize) -> Call
     }
 }
 
-// The place of the CALL_ARGS of the DOT_CALL whose row is at a place; where there is none, past all rows.
+// The place of the CALL_ARGS of the DOT_CALL whose row is at a place; where there is none, past all rows. An `Option` would make `Call` half
+// as large again.
 fn args_place(tree: &[u32], row: usize) -> usize
     ensures { result ≡ args_place tree.now row }
 {
