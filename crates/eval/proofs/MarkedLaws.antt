@@ -248,12 +248,6 @@ module _ {rule tree : List ℕ} {row : ℕ} {m : Member} {sorts : Sorts} where
             (λ _. sym (e ∙ ap (asks_field m sorts.held) f) ∙ not-true a t);
       }
 
-  pub row_plain : {a : Bool} → (kind_at tree row ≡ COMPARE_EXPR → ⊥) → a ≡ asks_more m sorts.held (kind_at tree row) → not a ≡ true → RowTold rule tree row m sorts true
-  row_plain {a} n e h = record { told = λ _. plain (sym e ∙ not-true a h) (λ k. absurd (n k)) }
-
-  pub row_untold : RowTold rule tree row m sorts false
-  row_untold = record { told = λ e. absurd (false≢true e) }
-
   pub row_marked : {r : Bool} → kind_at tree row ≡ CALL_EXPR → HasRow sorts.marked.now row r → RowTold rule tree row m sorts r
   unfolding value_of
   row_marked k f =

@@ -6,7 +6,7 @@ use Rattle.board.specs.WellFormed.{WellFormed, Room}
 use Rattle.predicate.specs.declared.atom.Member.{Member}
 use Rattle.predicate.specs.declared.atom.Member.TheVariants.{Diagnostic}
 use Rattle.predicate.specs.Truth.{truth}
-use Rattle.predicate.specs.Rows.{ROW, kind_at, children_at}
+use Rattle.predicate.specs.Rows.{kind_at, children_at}
 use Rattle.profile.specs.Profile.{PROFILES}
 use Rattle.meaning.specs.declared.Method.{Method}
 use Rattle.meaning.specs.Calls.{Call, kept, up_from}
@@ -52,7 +52,6 @@ SentAll p members before after t = Stands (last_of p) (state_of t after) (fed p.
 
 -- the members of the source whose row is at a place may be sent into a table with room for what is on the board, and were
 pub record Walks (p : Pipeline) (source : ℕ) (table : List ℕ) : Type 0 where
-  pub whole : source + ROW ≤ length p.tree.now
   pub well : WellFormed p.image.now
   pub room : Room p.image.now (length table)
   pub decides : Decides (last_of p) (calls_in p.rule.now p.tree.now p.calls.now)

@@ -135,16 +135,16 @@ impl<'a> Sorts<'a> {
 
     // Whether the node whose row is at a place asks for no more of a member than its profile and its bits.
     fn is_told(self, rule: &[u8], tree: &[u32], row: usize, member: Member) -> bool
-        requires { row + ROW ≤ length tree.now }
         ensures { RowTold rule.now tree.now row member self.entry result }
     {
-        if tree[row] == u32::from(Kind::CompareExpr) {
-            return !profile::asks_field(member, self.held, node::ident(rule, tree, row));
+        match rows::kind_at(tree, row) {
+            Ok(Kind::CompareExpr) => {
+                !profile::asks_field(member, self.held, node::ident(rule, tree, row))
+            }
+            Ok(Kind::CallExpr) if has_row(self.marked, row) => true,
+            Ok(kind) => !profile::asks_more(member, self.held, kind.into()),
+            Err(_) => false,
         }
-        if !profile::asks_more(member, self.held, tree[row]) {
-            return true;
-        }
-        tree[row] == u32::from(Kind::CallExpr) && has_row(self.marked, row)
     }
 }
 

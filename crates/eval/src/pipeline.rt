@@ -95,7 +95,7 @@ impl Evaluator<'_> {
 
     // How many members arrive by what is planned: a `count` behind the calls keeps their rows out of the collection table.
     fn count_members(&self, plan: Plan, calls: &mut [Call], collection: &mut [u32]) -> usize
-        requires { (plan.source + ROW ≤ length self.now.tree.now) × (plan.calls < length calls.old) × Lent self.now.image.now collection.old }
+        requires { (plan.calls < length calls.old) × Lent self.now.image.now collection.old }
         ensures { Counts self.now.rule.now self.now.image.now self.now.tree.now plan calls.old collection.old collection.new result }
     {
         calls[plan.calls] = Call {

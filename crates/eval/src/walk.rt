@@ -3,7 +3,6 @@
 ghost use Rattle.std.specs.Prelude.{◌≡◌, true, [], ◌∷◌, ◌++◌, ◌+◌, ◌*◌, ◌^◌, ◌≤◌, ◌<◌, length, drop, replicate};
 ghost use Rattle.std.proofs.lemmas.List.Edits.{sets};
 ghost use Rattle.board.specs.Check as meant;
-ghost use Rattle.predicate.specs.Rows.{ROW};
 ghost use Rattle.profile.specs.Profile.{profile_of};
 ghost use Rattle.meaning.specs.Value.{row_of, whole_rows};
 ghost use Rattle.meaning.specs.Calls.{features_of};
@@ -20,7 +19,7 @@ use board::image;
 use instance;
 use meaning::Method;
 use predicate::atom::Member;
-use predicate::node;
+use predicate::{node, rows};
 use profile;
 use syntax::kind::Kind;
 
@@ -72,11 +71,13 @@ impl<'a> Pipeline<'a> {
         ensures { Walked self.entry source collection.old collection.new result }
     {
         clear(collection);
-        if self.tree[source] == u32::from(Kind::IdentExpr) {
-            return self.feed_components(collection);
+        match rows::kind_at(self.tree, source) {
+            Ok(Kind::IdentExpr) => self.feed_components(collection),
+            _ => {
+                let name = node::find_string_literal(self.rule, self.tree, source);
+                self.feed_diagnostics(name, collection)
+            }
         }
-        let name = node::find_string_literal(self.rule, self.tree, source);
-        self.feed_diagnostics(name, collection)
     }
 }
 

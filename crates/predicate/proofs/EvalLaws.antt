@@ -74,7 +74,6 @@ pub inner_skip : {tree : List ℕ} {level from at past next : ℕ} → FoundAt o
 inner_skip {tree} {level} {from} {at} {past} {next} f s t =
     record {
       later = omega (arith, f.later, s.later, t.later);
-      within = t.within;
       here = t.here ∙ ap (past_below level) over ∙ passed_passed level (drop (at + ROW) tree) ∙ sym (passed_row tree level at below) ∙ sym (found_passed of_node level f);
     }
   where
@@ -103,7 +102,6 @@ module _ (ev : Evaluator) {level : ℕ} {s : Operands} (b : Operand ev.tree.now 
       record {
         value = sym (ap (λ (f : Forest). joined s.or s.before f (truths ev.image.now ev.member f)) (forest_below ev.rule.now ev.tree.now (level + 1) s.at there l));
         later = omega arith;
-        within = there;
         here = sym (passed_row ev.tree.now level s.at b.row);
       }
 
@@ -120,7 +118,6 @@ module _ (ev : Evaluator) {level : ℕ} {s : Operands} (b : Operand ev.tree.now 
               ap (λ (o : Bool). joined_from ev level (record { at = s.at + ROW; or = o; before = s.before })) e
               ∙ sym (ap (λ (f : Forest). joined s.or s.before f (truths ev.image.now ev.member f)) (forest_token ev.rule.now ev.tree.now (level + 1) s.at there level_is k));
           later = omega arith;
-          within = there;
           here = sym (passed_row ev.tree.now level s.at b.row);
         }
 
@@ -146,7 +143,6 @@ module _ (ev : Evaluator) {level : ℕ} {s : Operands} (b : Operand ev.tree.now 
         record {
           value = ap (λ (t : Bool). joined_from ev level (record { at = next; or = s.or; before = t })) (sym e) ∙ operand k n;
           later = omega (arith, n.later);
-          within = n.within;
           here = passed n;
         }
 
@@ -162,22 +158,21 @@ module _ (ev : Evaluator) {level : ℕ} {s : Operands} (b : Operand ev.tree.now 
 pub record Joining (ev : Evaluator) (level from : ℕ) (s : Operands) : Type 0 where
   pub value : joined_from ev level s ≡ joined_from ev level (record { at = from; or = false; before = true })
   pub later : from ≤ s.at
-  pub within : s.at ≤ length ev.tree.now
   pub here : past_below level (drop s.at ev.tree.now) ≡ past_below level (drop from ev.tree.now)
 
 module _ {ev : Evaluator} {level from : ℕ} where
-  pub joining_start : from ≤ length ev.tree.now → Joining ev level from (record { at = from; or = false; before = true })
-  joining_start h = record { value = refl; later = omega arith; within = h; here = refl }
+  pub joining_start : Joining ev level from (record { at = from; or = false; before = true })
+  joining_start = record { value = refl; later = omega arith; here = refl }
 
   pub joining_on : {s r : Operands} → Joining ev level from s → Joins ev level s r → Joining ev level from r
-  joining_on j n = record { value = n.value ∙ j.value; later = omega (arith, j.later, n.later); within = n.within; here = n.here ∙ j.here }
+  joining_on j n = record { value = n.value ∙ j.value; later = omega (arith, j.later, n.later); here = n.here ∙ j.here }
 
   pub joining_end : {s : Operands} → Joining ev level from s → is_below ev.tree.now level s.at ≡ false → Joined ev level from (record { value = s.before; next = s.at })
   unfolding joined_from joined truths
   joining_end {s} j h =
       record {
         value = sym (ap (λ (f : Forest). joined s.or s.before f (truths ev.image.now ev.member f)) (forest_ends ev.rule.now ev.tree.now level s.at h)) ∙ j.value;
-        next = record { later = j.later; within = j.within; here = sym (passed_stop ev.tree.now level s.at h) ∙ j.here };
+        next = record { later = j.later; here = sym (passed_stop ev.tree.now level s.at h) ∙ j.here };
       }
 
 -- what the functions of the cycle give, by what those that they call gave

@@ -86,11 +86,10 @@ few tree at h = omega (arith, length-drop at tree)
 -- how far a row was looked for
 pub record Finding (test : ℕ → Bool) (tree : List ℕ) (level from at : ℕ) : Type 0 where
   pub later : from ≤ at
-  pub within : at ≤ length tree
   pub rest : rows_from test level (drop at tree) ≡ rows_from test level (drop from tree)
 
-pub finding_start : {test : ℕ → Bool} {tree : List ℕ} {level from : ℕ} → from ≤ length tree → Finding test tree level from from
-finding_start h = record { later = omega arith; within = h; rest = refl }
+pub finding_start : {test : ℕ → Bool} {tree : List ℕ} {level from : ℕ} → Finding test tree level from from
+finding_start = record { later = omega arith; rest = refl }
 
 module _ {test : ℕ → Bool} {tree : List ℕ} {level from at : ℕ} (f : Finding test tree level from at) where
   pub finding_end : length tree < at + ROW → FoundNowhere test tree level from
@@ -116,7 +115,6 @@ module _ {test : ℕ → Bool} {tree : List ℕ} {level from at : ℕ} (f : Find
     finding_on l e =
         record {
           later = omega (arith, f.later);
-          within = h;
           rest = sym (ap (rows_from test level) here ∙ rw (le-ltb (level_at tree at) level l, e)) ∙ f.rest;
         }
 
@@ -140,11 +138,10 @@ module _ {test : ℕ → Bool} {tree : List ℕ} {level from at : ℕ} {row : Ro
 -- how far rows below a level were passed over
 pub record Skipping (tree : List ℕ) (level from at : ℕ) : Type 0 where
   pub later : from ≤ at
-  pub within : at ≤ length tree
   pub rest : past_below level (drop at tree) ≡ past_below level (drop from tree)
 
-pub skipping_start : {tree : List ℕ} {level from : ℕ} → from ≤ length tree → Skipping tree level from from
-skipping_start h = record { later = omega arith; within = h; rest = refl }
+pub skipping_start : {tree : List ℕ} {level from : ℕ} → Skipping tree level from from
+skipping_start = record { later = omega arith; rest = refl }
 
 -- a row that is below a level
 pub below_row : (tree : List ℕ) (level at : ℕ) → is_below tree level at ≡ true → (is_row tree at ≡ true) × (level < level_at tree at)
@@ -185,9 +182,8 @@ module _ {tree : List ℕ} {level from at : ℕ} (s : Skipping tree level from a
   skipping_on h =
       record {
         later = omega (arith, s.later);
-        within = row_there tree at (below_row tree level at h).0;
         rest = sym (passed_row tree level at h) ∙ s.rest;
       }
 
   pub skipping_end : is_below tree level at ≡ false → Skips tree level from at
-  skipping_end h = record { later = s.later; within = s.within; here = sym (passed_stop tree level at h) ∙ s.rest }
+  skipping_end h = record { later = s.later; here = sym (passed_stop tree level at h) ∙ s.rest }

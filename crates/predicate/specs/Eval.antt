@@ -34,7 +34,6 @@ Finds test tree level from None = FoundNowhere test tree level from
 -- the rows below a level from a place on are passed over
 pub record Skips (tree : List ℕ) (level from next : ℕ) : Type 0 where
   pub later : from ≤ next
-  pub within : next ≤ length tree
   pub here : drop next tree ≡ past_below level (drop from tree)
 
 -- the truth of the node whose row is at a place
@@ -75,5 +74,4 @@ pub record Operand (tree : List ℕ) (level : ℕ) (s : Operands) : Type 0 where
 pub record Joins (ev : Evaluator) (level : ℕ) (s r : Operands) : Type 0 where
   pub value : joined_from ev level r ≡ joined_from ev level s
   pub later : s.at < r.at
-  pub within : r.at ≤ length ev.tree.now
   pub here : past_below level (drop r.at ev.tree.now) ≡ past_below level (drop s.at ev.tree.now)

@@ -117,7 +117,6 @@ impl Evaluator<'_> {
     #[inline(always)]
     #[cycle(eval_node)]
     fn eval_inner(&self, level: u32, from: usize) -> Truth
-        requires { from ≤ length self.now.tree.now }
         ensures { Inner self.now level from result }
     {
         let level = level as usize;
@@ -140,7 +139,6 @@ impl Evaluator<'_> {
     #[inline(always)]
     #[cycle(eval_node)]
     fn eval_operands(&self, level: u32, from: usize) -> Truth
-        requires { from ≤ length self.now.tree.now }
         ensures { Joined self.now level from result }
     {
         let mut operands = Operands {

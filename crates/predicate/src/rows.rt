@@ -73,7 +73,6 @@ fn is_comparison(kind: u32) -> bool
 
 // The first row of a kind at a level, from a place on, before one that is above the level.
 pub(crate) fn find_row(tree: &[u32], level: usize, kind: u32, from: usize) -> Option<usize>
-    requires { from ≤ length tree.now }
     ensures { Finds (of_kind kind) tree.now level from result }
 {
     find(tree, level, from, |k| k == kind)
@@ -81,7 +80,6 @@ pub(crate) fn find_row(tree: &[u32], level: usize, kind: u32, from: usize) -> Op
 
 // The first node at a level, from a place on, before a row that is above the level.
 pub(crate) fn find_child(tree: &[u32], level: usize, from: usize) -> Option<usize>
-    requires { from ≤ length tree.now }
     ensures { Finds of_node tree.now level from result }
 {
     find(tree, level, from, |k| is_node(k))
@@ -89,7 +87,6 @@ pub(crate) fn find_child(tree: &[u32], level: usize, from: usize) -> Option<usiz
 
 // The first operator of a comparison at a level, from a place on, before a row that is above the level.
 pub(crate) fn find_operator(tree: &[u32], level: usize, from: usize) -> Option<usize>
-    requires { from ≤ length tree.now }
     ensures { Finds is_comparison tree.now level from result }
 {
     find(tree, level, from, |k| is_comparison(k))
@@ -97,8 +94,7 @@ pub(crate) fn find_operator(tree: &[u32], level: usize, from: usize) -> Option<u
 
 // The first row at a level whose kind passes a test, from a place on, before a row that is above the level.
 fn find<F: Fn(u32) -> bool>(tree: &[u32], level: usize, from: usize, test: F) -> Option<usize>
-    requires callable { F.IsAlwaysCallable test }
-    requires within { from ≤ length tree.now }
+    requires { F.IsAlwaysCallable test }
     ensures { (p : ℕ → Bool) → Tells (F.post test) p → Finds p tree.now level from result }
 {
     let mut at = from;
@@ -117,7 +113,6 @@ fn find<F: Fn(u32) -> bool>(tree: &[u32], level: usize, from: usize, test: F) ->
 
 // The place of the first row from a place on that is not below a level, or past the last whole row.
 pub(crate) fn skip_below(tree: &[u32], level: usize, from: usize) -> usize
-    requires { from ≤ length tree.now }
     ensures { Skips tree.now level from result }
 {
     let mut at = from;

@@ -6,6 +6,7 @@ use Rattle.std.proofs.Common.{rules}
 use Rattle.syntax.specs.Kind.{ROOT}
 use Rattle.predicate.proofs.EvalLaws.{operand_there, joins_deeper, joins_token, joins_decided, joins_open, joining_end, evaluated_binary, evaluated_unary, evaluated_paren, evaluated_atom, inner_empty, inner_first}
 use Rattle.predicate.proofs.AtomLaws.{settled_none}
+use Rattle.predicate.proofs.RowLaws.{row_there, below_row}
 use Rattle.predicate.proofs.Evaluator.+eval_node.Goals as goal
 use Rattle.predicate.proofs.Evaluator.+eval_node.Goals.{eval_node-in-Ok, eval_node-in-Err}
 
@@ -55,9 +56,6 @@ eval_operand-returns-then-below-self t c = joins_deeper _ c.requires c.if-below-
 pub eval_operand-returns-then-not-is_node : goal.eval_operand-returns-then-not-is_node
 eval_operand-returns-then-not-is_node t c = joins_token _ c.requires c.if-below-self.false (leb-false ROOT _ (sym c.is_node.ensures ∙ c.if-not-is_node.true)) c.or_after.ensures
 
-pub eval_operand-skip_below-requires : goal.eval_operand-skip_below-requires
-eval_operand-skip_below-requires t c = operand_there c.requires
-
 pub eval_operand-returns-then-before-or : goal.eval_operand-returns-then-before-or
 eval_operand-returns-then-before-or t c = joins_decided _ c.requires c.if-below-self.false (leb-true ROOT _ (sym c.is_node.ensures ∙ c.if-not-is_node.false)) c.if-before-or.true c.skip_below.ensures
 
@@ -67,6 +65,9 @@ eval_operand-eval_node-operand-requires t c = (omega (arith, c.decreases, operan
 pub eval_operand-returns : goal.eval_operand-returns
 eval_operand-returns t c =
     joins_open _ c.requires c.if-below-self.false (leb-true ROOT _ (sym c.is_node.ensures ∙ c.if-not-is_node.false)) c.if-before-or.false c.eval_node-operand.ensures.next c.eval_node-operand.ensures.value
+
+pub eval_operands-loop-operands-smaller : goal.eval_operands-loop-operands-smaller
+eval_operands-loop-operands-smaller t c = omega (arith, c.eval_operand-operands.ensures.later, row_there _ _ (below_row _ _ _ (sym c.is_below.ensures ∙ c.loop-operands-test.true)).0)
 
 pub eval_operands-returns : goal.eval_operands-returns
 eval_operands-returns t c = joining_end c.loop-operands.invariant (sym c.is_below.ensures ∙ c.loop-operands-test.false)

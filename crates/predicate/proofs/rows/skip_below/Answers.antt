@@ -4,6 +4,9 @@ use native.Mathlib.Omega.{arith}
 use Rattle.predicate.proofs.RowLaws.{row_there, below_row, skipping_on, skipping_end}
 use Rattle.predicate.proofs.rows.skip_below.Goals as goal
 
+pub overflow_add-at : goal.overflow_add-at
+overflow_add-at c = omega (arith, row_there _ _ (below_row _ _ _ (sym c.is_below.ensures ∙ c.loop-at-test.true)).0)
+
 pub loop-at-smaller : goal.loop-at-smaller
 loop-at-smaller c = omega (arith, row_there _ _ (below_row _ _ _ (sym c.is_below.ensures ∙ c.loop-at-test.true)).0)
 

@@ -15,9 +15,6 @@ loop-member-init c = record { rest = λ t. t }
 pub is_below-requires : goal.is_below-requires
 is_below-requires c = tt
 
-pub is_told-requires : goal.is_told-requires
-is_told-requires c = row_there _ _ (below_row _ _ _ (sym c.is_below.ensures ∙ c.loop-member-test.true)).0
-
 pub returns-then-not-is_told : goal.returns-then-not-is_told
 returns-then-not-is_told c = tells_more
 

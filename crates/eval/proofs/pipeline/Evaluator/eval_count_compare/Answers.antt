@@ -21,7 +21,7 @@ pub returns-in_default-integer : goal.returns-in_default-integer
 returns-in_default-integer c = compare_large c.args.self.now.rule.now c.args.self.now.image.now c.args.self.now.tree.now c.args.at (source_at c.args.self.now.rule.now c.args.self.now.tree.now c.args.at c.first_child.ensures c.in-Some.is) (subst (Plans _ _ _ _) (c.in_ok-plan.was {u = tt}) c.plan_pipeline.ensures) (λ e. search (rules, e)) c.integer.ensures c.integer-2.ensures c.in_default-integer.is
 
 pub count_members-left-requires : goal.count_members-left-requires
-count_members-left-requires c = ((subst (Plans _ _ _ _) (c.in_ok-plan.was {u = tt}) c.plan_pipeline.ensures).found.whole, omega (arith, calls_room c.args.self.now.rule.now c.args.self.now.tree.now c.args.calls.now c.in-Some.pipeline (inner_few c.requires.2 (source_at c.args.self.now.rule.now c.args.self.now.tree.now c.args.at c.first_child.ensures c.in-Some.is)) c.requires.0, (subst (Plans _ _ _ _) (c.in_ok-plan.was {u = tt}) c.plan_pipeline.ensures).holds.number), c.requires.1)
+count_members-left-requires c = (omega (arith, calls_room c.args.self.now.rule.now c.args.self.now.tree.now c.args.calls.now c.in-Some.pipeline (inner_few c.requires.2 (source_at c.args.self.now.rule.now c.args.self.now.tree.now c.args.at c.first_child.ensures c.in-Some.is)) c.requires.0, (subst (Plans _ _ _ _) (c.in_ok-plan.was {u = tt}) c.plan_pipeline.ensures).holds.number), c.requires.1)
 
 pub returns-in_err-plan : goal.returns-in_err-plan
 returns-in_err-plan c =

@@ -13,7 +13,6 @@ plan_pipeline-requires c = omega (arith, calls_room c.args.self.now.rule.now c.a
 pub walk-tally-requires : goal.walk-tally-requires
 walk-tally-requires c =
     record {
-      whole = (subst (Plans _ _ _ _) (c.in_ok-plan.was {u = tt}) c.plan_pipeline.ensures).found.whole;
       well = c.requires.1.well;
       room = c.requires.1.room;
       decides = last_decides _ _ c.last_method-last.ensures;

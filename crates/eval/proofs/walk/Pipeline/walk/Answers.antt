@@ -2,7 +2,8 @@
 use Rattle.eval.proofs.SourceLaws.{rows_fits, rows_walked, decides_all, components_fit_lem, diagnostics_fit_lem, components_walked, diagnostics_walked}
 use Rattle.eval.proofs.FeedLaws.{stands_is}
 use Rattle.predicate.specs.Rows.{kind_at, children_at}
-use mathlib.Core.Path.{sym, ◌∙◌}
+use mathlib.Core.Path.{◌∙◌}
+use Rattle.std.proofs.Common.{rules}
 use Rattle.eval.proofs.walk.Pipeline.walk.Goals as goal
 
 pub feed_components-requires : goal.feed_components-requires
@@ -10,21 +11,21 @@ feed_components-requires c =
     let p = c.args.self in
     rows_fits (components_fit_lem p.rule.now p.image.now p.tree.now p.calls.now c.args.collection.now (kind_at p.tree.now c.args.source) (children_at p.rule.now p.tree.now c.args.source) c.requires.well c.requires.room) (decides_all p.rule.now p.tree.now p.calls.now c.requires.decides) c.clear.ensures
 
-pub returns-then-self-source : goal.returns-then-self-source
-returns-then-self-source c =
+pub returns-in-Ok-IdentExpr : goal.returns-in-Ok-IdentExpr
+returns-in-Ok-IdentExpr c =
     let p = c.args.self in
     stands_is c.feed_components.ensures
     (rows_walked (components_fit_lem p.rule.now p.image.now p.tree.now p.calls.now c.args.collection.now (kind_at p.tree.now c.args.source) (children_at p.rule.now p.tree.now c.args.source) c.requires.well c.requires.room) c.clear.ensures
-    ∙ components_walked p.rule.now p.image.now p.tree.now p.calls.now c.args.collection.now (kind_at p.tree.now c.args.source) (children_at p.rule.now p.tree.now c.args.source) (c.if-self-source.true ∙ c.from.ensures))
+    ∙ components_walked p.rule.now p.image.now p.tree.now p.calls.now c.args.collection.now (kind_at p.tree.now c.args.source) (children_at p.rule.now p.tree.now c.args.source) (search rules))
 
 pub feed_diagnostics-requires : goal.feed_diagnostics-requires
 feed_diagnostics-requires c =
     let p = c.args.self in
     rows_fits (diagnostics_fit_lem p.rule.now p.image.now p.tree.now p.calls.now c.args.collection.now (kind_at p.tree.now c.args.source) (children_at p.rule.now p.tree.now c.args.source) c.find_string_literal-name.result.now c.requires.room) (decides_all p.rule.now p.tree.now p.calls.now c.requires.decides) c.clear.ensures
 
-pub returns : goal.returns
-returns c =
+pub returns-in_default : goal.returns-in_default
+returns-in_default c =
     let p = c.args.self in
     stands_is c.feed_diagnostics.ensures
     (rows_walked (diagnostics_fit_lem p.rule.now p.image.now p.tree.now p.calls.now c.args.collection.now (kind_at p.tree.now c.args.source) (children_at p.rule.now p.tree.now c.args.source) c.find_string_literal-name.result.now c.requires.room) c.clear.ensures
-    ∙ diagnostics_walked p.rule.now p.image.now p.tree.now p.calls.now c.args.collection.now (kind_at p.tree.now c.args.source) (children_at p.rule.now p.tree.now c.args.source) _ (λ e. c.if-self-source.false (e ∙ sym c.from.ensures)) c.find_string_literal-name.ensures)
+    ∙ diagnostics_walked p.rule.now p.image.now p.tree.now p.calls.now c.args.collection.now (kind_at p.tree.now c.args.source) (children_at p.rule.now p.tree.now c.args.source) _ (search rules) c.find_string_literal-name.ensures)
