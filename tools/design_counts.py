@@ -23,7 +23,7 @@ SENTINEL = r"where there is none|where none|past the (table|memo|last|whole)|; 0
 
 def functions(path, text):
     """Each function: its line, name, parameters, the comment above it, and its body."""
-    for m in re.finditer(r"^((?://[^\n]*\n)*)(?:#\[[^\n]*\]\n)*[ ]*(?:pub(?:\(crate\))? )?(?:extern \"C\" )?fn (\w+)(?:<[^>(]*(?:\([^)]*\))?[^>(]*>)?\(",
+    for m in re.finditer(r"^((?://[^\n]*\n)*)(?:#\[[^\n]*\]\n)*[ ]*(?:pub(?:\(crate\))? )?(?:extern \"C\" )?fn (\w+)(?:<(?:->|[^<>()]|\([^)]*\)|<[^<>]*>)*>)?\(",
                          text, re.M):
         i, depth = m.end(), 1
         while depth:

@@ -16,7 +16,7 @@ pub(crate) const ANSWER: usize = 8;
 // Those of each of its two parts.
 const PART: usize = 4;
 
-// What a reading that is not refused comes to.
+// What a reading that is not refused comes to: the number that the header for C has.
 const READ: u32 = 6;
 
 // The first part of a run's answer: the outcome and the verdict.

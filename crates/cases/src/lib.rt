@@ -12,7 +12,8 @@ use std::io;
 use std::io::Write;
 use std::marker::PhantomData;
 
-// The number at the front of the input, and what is left past the byte that ends it. One above 9,999,999 is cut short.
+// The number at the front of the input, and what is left past the byte that ends it. One above 9,999,999 is cut short. Its end is a byte, and
+// what is left is wanted too, so that a `while` says it.
 pub fn number(input: &[u8]) -> (usize, &[u8])
     ensures value { result.0 ≡ number 0 input.now }
     ensures rest { result.1.now ≡ past_number 0 input.now }

@@ -34,7 +34,7 @@ pub struct Answer {
     pub reading: Reading,
 }
 
-// Runs any rule on any image, with any four tables.
+// Runs any rule on any image, with any four tables: plain slices, as C lends them.
 pub fn run(
     rule: &[u8],
     image: &[u8],

@@ -26,7 +26,7 @@ const BLOCK: usize = 4096;
 // Only so many rows are looked at: few rules have more, and what is not seen in them costs time alone.
 pub(crate) const ROWS: usize = 256;
 
-// The highest mark by which a `has` is true of a component, and of a feature of it.
+// The highest mark by which a `has` is true of a component, and of a feature of it. Marks are bytes, as the crate `marks` has them.
 const OF_COMPONENT: u8 = 2;
 
 const OF_FEATURE: u8 = 1;

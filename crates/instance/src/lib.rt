@@ -1,4 +1,5 @@
-// What eval.rs asks of a `SystemInstance`, asked of a board image. Any image, component, feature and text is taken.
+// What eval.rs asks of a `SystemInstance`, asked of a board image. Any image, component, feature and text is taken: plain numbers, by which
+// every caller has its members.
 #![tactic(auto)]
 
 ghost use Rattle.std.specs.Prelude.{◌≡◌, ◌<◌, ℕ, Bool, take};
@@ -9,7 +10,7 @@ ghost use Rattle.board.specs.Image.{record_count};
 use board::image;
 use board::image::Section;
 
-// The mark of a component that is wired.
+// The mark of a component that is wired, a number of the image.
 const WIRED: u32 = 1;
 
 // The bytes of a connection, a feature or a property, which have three numbers each, and where the second and the third of these are.
@@ -77,7 +78,8 @@ fn other_owner(image: &[u8], component: u32) -> u32
         .unwrap_or(component)
 }
 
-// Whether some record of a section, of three numbers each, passes a test that only those pass whose first number is one of two.
+// Whether some record of a section, of three numbers each, passes a test that only those pass whose first number is one of two. Others are
+// passed over by `next_owned`, many in a step, so that no range counts the steps.
 fn any_owned<F: Fn(usize) -> bool>(
     image: &[u8],
     section: Section,

@@ -145,7 +145,7 @@ fn write_tokens(rule: &[u8], tokens: &mut [u32]) -> usize
     written
 }
 
-// Writes a row of three numbers from `at` on.
+// Writes a row of three numbers from `at` on. One function for the rows of all crates would be public, and would test each place.
 fn put_row(table: &mut [u32], at: usize, kind: u32, first: u32, end: u32)
     requires { at + meant.TOKEN_ROW ≤ length table.old }
     ensures { table.new ≡ sets table.old at (kind ∷ first ∷ end ∷ []) }
@@ -340,7 +340,7 @@ fn word_kind(word: &[u8]) -> Kind
     Kind::Ident
 }
 
-// Whether a byte is a blank that begins a token.
+// The tests of bytes by the names that lexer.rs has for them. This one: whether a byte is a blank that begins a token.
 #[tactic(auto, unfolding(crate::specs::Bytes::is_blank))]
 fn is_blank(b: u8) -> bool
     ensures { result ≡ is_blank b }

@@ -140,7 +140,7 @@ fn category_is(image: &[u8], component: u32, field: &[u8], value: &[u8]) -> bool
         && matching::category_matches(image::category(image, component), value)
 }
 
-// The same of a diagnostic.
+// The same of a diagnostic. Each is one expression, and one function for both would take the field's two functions.
 #[tactic(auto, using(matching::proofs::WordLaws::pointwise_same), unfolding(crate::specs::Truth::compares))]
 fn severity_is(image: &[u8], diagnostic: u32, field: &[u8], value: &[u8]) -> bool
     ensures { result ≡ compares image.now (Member.Diagnostic diagnostic) field.now value.now }

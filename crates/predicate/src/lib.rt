@@ -135,7 +135,7 @@ impl Evaluator<'_> {
         }
     }
 
-    // The operands below a level from a place on, joined from left to right.
+    // The operands below a level from a place on, joined from left to right. A step passes over as many rows as it likes: no range counts it.
     #[inline(always)]
     #[cycle(eval_node)]
     fn eval_operands(&self, level: u32, from: usize) -> Truth

@@ -1,5 +1,5 @@
 // The node whose row is at a place of a tree table: the places of its children, and their texts. Where no whole row is at the place
-// there are none.
+// there are none. Rule, tree and place are plain, as each caller has them.
 ghost use Rattle.std.specs.Prelude.{◌≡◌, ◌+◌, ◌<◌};
 ghost use Rattle.syntax.specs.Kind.{IDENT, INT_LIT, ROOT};
 ghost use Rattle.syntax.specs.Kinds.{number};

@@ -92,7 +92,8 @@ pub(crate) fn find_operator(tree: &[u32], level: usize, from: usize) -> Option<u
     find(tree, level, from, |k| is_comparison(k))
 }
 
-// The first row at a level whose kind passes a test, from a place on, before a row that is above the level.
+// The first row at a level whose kind passes a test, from a place on, before a row that is above the level. The rows end at a level, and not
+// at a number, so that a `while` says it, here and below.
 fn find<F: Fn(u32) -> bool>(tree: &[u32], level: usize, from: usize, test: F) -> Option<usize>
     requires { F.IsAlwaysCallable test }
     ensures { (p : ℕ → Bool) → Tells (F.post test) p → Finds p tree.now level from result }

@@ -1,5 +1,5 @@
 // Members that are alike: what most predicates ask of a member is one of some thousand numbers, its profile; and whether a node of a
-// predicate asks for more. Any image, member and profile is taken.
+// predicate asks for more. Any image, member and profile is taken, by plain numbers, as each caller has them.
 #![tactic(auto)]
 
 ghost use Rattle.std.specs.Prelude.{◌≡◌, ◌<◌};

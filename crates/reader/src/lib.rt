@@ -39,7 +39,7 @@ impl<'a> Reader<'a> {
         self.skip_ws().kind()
     }
 
-    // The reader past the blanks that stand next.
+    // The reader past the blanks that stand next. They end at a kind, and not at a number, so that a `while` says it.
     pub fn skip_ws(self) -> Reader<'a>
         ensures { (result.rows ≡ self.entry.rows) × (result.place ≡ past_ws self.entry.rows.now self.entry.place) }
     {

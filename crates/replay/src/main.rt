@@ -11,7 +11,7 @@ use std::io;
 use std::io::Write;
 use syntax::text;
 
-// The most numbers that a token table, and a tree table or an error table, has in a case.
+// The most numbers that a token table, and a tree table or an error table, has in a case. They stand on the stack: the project has no heap.
 const TOKENS: usize = 1520;
 
 const ROWS: usize = 16672;

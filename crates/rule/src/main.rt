@@ -16,7 +16,8 @@ use std::{fs, io, str};
 use syntax::text;
 use texts::Writer;
 
-// One byte more than a rule and an image may have: what fills the buffer is too long, whatever follows.
+// One byte more than a rule and an image may have: what fills the buffer is too long, whatever follows. All buffers and tables stand on the
+// stack, as the project has no heap.
 const RULE: usize = 501;
 
 const IMAGE: usize = 65537;
@@ -162,7 +163,8 @@ fn run_rule<W: Write>(out: &mut W, image: &[u8], rule: &[u8]) -> io::Result<()> 
     }
 }
 
-// Prints what is written to an empty place with so much room.
+// Prints what is written to an empty place with so much room. One function for this program and `words` would be public, and a public
+// function asks nothing of its callers, as this one does of the closure.
 fn print_lines<const ROOM: usize, W: Write, F: FnOnce(&mut Writer<'_>)>(
     out: &mut W,
     write: F,

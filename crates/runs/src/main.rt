@@ -12,7 +12,7 @@ use std::io;
 use std::io::Write;
 use trees::Reading;
 
-// The most numbers that each table has in a run: tokens, tree and errors, collection.
+// The most numbers that each table has in a run: tokens, tree and errors, collection. They stand on the stack: the project has no heap.
 const TOKENS: usize = 1520;
 
 const ROWS: usize = 16672;
@@ -25,7 +25,8 @@ fn main(rt: HostRuntime) -> io::Result<()> {
     replay(&mut rt.stdout(), &input[..n])
 }
 
-// Runs the cases past the boards, and stops at one that is not in the format. One whose rule is cut short runs an empty rule first.
+// Runs the cases past the boards, and stops at one that is not in the format. One whose rule is cut short runs an empty rule first. A case
+// needs the boards and its number, so that `cases::replay`, whose cases stand by themselves, does not serve.
 fn replay<W: Write>(out: &mut W, input: &[u8]) -> io::Result<()> {
     let (count, boards) = cases::number(input);
     let runs = past_boards(input, boards, count);

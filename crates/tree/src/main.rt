@@ -7,7 +7,8 @@ use std::io;
 use std::io::Write;
 use syntax::text;
 
-// One byte more than a rule may have: a rule that fills the buffer is too long, whatever follows.
+// One byte more than a rule may have: a rule that fills the buffer is too long, whatever follows. It stands on the stack, as the tables do:
+// the project has no heap.
 const BUFFER: usize = 501;
 
 fn main(rt: HostRuntime) -> io::Result<()> {

@@ -16,7 +16,7 @@ use std::io::Write;
 use syntax::kind::Kind;
 use syntax::refusal::Refusal;
 
-// The numbers of a collection table that every board has room in.
+// The numbers of a collection table that every board has room in. Tables stand on the stack: the project has no heap.
 const COLLECTION: usize = 65536;
 
 fn main(rt: HostRuntime) -> io::Result<()> {
