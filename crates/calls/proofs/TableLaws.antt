@@ -1,9 +1,12 @@
 -- "What each call gives" by numbers: the rows of the table say what the definition does. Assumes nothing.
-use Rattle.std.proofs.Common.{◌≡◌, ℕ, suc, zero, min, refl, arith}
+use Rattle.std.proofs.Common.{◌≡◌, ◌≤◌, ℕ, suc, zero, min, refl, arith}
+use borrow.Author.Tests.{lt-leb}
+use lib.Dec.{leb}
 use Rattle.meaning.specs.declared.ValueKind.{ValueKind}
 use Rattle.meaning.specs.declared.Method.{Method}
 use Rattle.meaning.specs.declared.Method.TheVariants.{Where, All, Any, None, Count, Features, Diagnostics}
 use Rattle.meaning.specs.Calls.{gives}
+use Rattle.meaning.specs.Walk.{is_last}
 use Rattle.meaning.specs.Numbers.{method_at, kind_at, method_number, kind_number}
 use Rattle.calls.specs.Table.{next_for}
 
@@ -62,3 +65,22 @@ kind_at_lem ValueKind.Count = refl
 -- so the table has for their numbers what the definition gives for them
 pub next_is_lem : (m : Method) (k : ValueKind) → next_for (method_number m) (kind_number k) ≡ gives m k
 next_is_lem m k = rw (table_gives (method_number m) (kind_number k), method_at_lem m, kind_at_lem k)
+
+-- and the numbers those of the kinds
+pub kind_number_lem : (k : ℕ) → k ≤ 4 → kind_number (kind_at k) ≡ k
+kind_number_lem zero h = refl
+kind_number_lem (suc zero) h = refl
+kind_number_lem (suc (suc zero)) h = refl
+kind_number_lem (suc (suc (suc zero))) h = refl
+kind_number_lem (suc (suc (suc (suc zero)))) h = refl
+kind_number_lem (suc (suc (suc (suc (suc k))))) h = absurd (omega arith)
+
+-- from the number of `all` on, the calls up to `count` are those that give no collection
+pub last_from_lem : (n : ℕ) → method_number All ≤ n → leb n (method_number Count) ≡ is_last (method_at n)
+last_from_lem zero h = absurd (omega arith)
+last_from_lem (suc zero) h = refl
+last_from_lem (suc (suc zero)) h = refl
+last_from_lem (suc (suc (suc zero))) h = refl
+last_from_lem (suc (suc (suc (suc zero)))) h = refl
+last_from_lem (suc (suc (suc (suc (suc zero))))) h = refl
+last_from_lem (suc (suc (suc (suc (suc (suc n)))))) h = lt-leb (suc (suc (suc (suc (suc (suc n)))))) 4 (omega arith)

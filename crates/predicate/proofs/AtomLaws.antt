@@ -13,6 +13,7 @@ use Rattle.syntax.specs.declared.kind.Kind.{Kind}
 use Rattle.syntax.specs.declared.kind.UnknownKind.{UnknownKind}
 use Rattle.trees.specs.Green.{Forest, nil, node}
 use Rattle.predicate.specs.declared.Evaluator.{Evaluator}
+use Rattle.predicate.specs.declared.atom.Member.{Member}
 use Rattle.predicate.specs.Truth.{literal_of, field_of, connected, has, compares, message_contains, sort_of, settle, truths, truth}
 use Rattle.predicate.specs.Rows.{ROW, kind_at, children_at, node_at}
 use Rattle.predicate.specs.Eval.{truth_at, settled_at}
@@ -69,3 +70,12 @@ module _ (ev : Evaluator) (at : ℕ) where
   settled_none n h =
       let above = (subst (Names (kind_at ev.tree.now at)) h n).0 in
       settled_other (λ q. omega arith) (λ q. omega arith) (λ q. omega arith) (λ q. omega arith) (λ q. omega arith) (λ q. omega arith) (λ q. omega arith)
+
+-- the truth of a node whose row is at a place, by its kind
+pub of_kind_lem : (rule image tree : List ℕ) (m : Member) (at : ℕ) → at + ROW ≤ length tree → {kind : ℕ} → kind_at tree at ≡ kind
+    → settle image m (sort_of kind) (children_at rule tree at) (truths image m (children_at rule tree at)) ≡ truth image m (node_at rule tree at)
+unfolding truth truths node_at
+of_kind_lem rule image tree m at h e =
+    let f : Forest = children_at rule tree at in
+    sym (ap (λ (there : Bool). truth image m (cond there (node (kind_at tree at) f nil) nil)) (le-leb (at + ROW) (length tree) h)
+    ∙ ap (λ (k : ℕ). settle image m (sort_of k) f (truths image m f)) e)

@@ -13,7 +13,7 @@ use Rattle.std.specs.Option.{option_map, option_eq}
 use Rattle.syntax.specs.Kind.{WHITESPACE}
 use Rattle.syntax.proofs.BoolLaws.{whether}
 use Rattle.reader.specs.declared.Row.{Row}
-use Rattle.reader.specs.Reader.{rows_of, row_at, kind_at, blanks, past_ws}
+use Rattle.reader.specs.Reader.{rows_of, row_at, kind_at, blanks, past_ws, current_kind}
 
 -- the row at a place: three numbers
 abbrev pub row_here : List ℕ → ℕ → Row
@@ -78,3 +78,26 @@ past_stop rows i n = omega (arith, go (rows_of rows) i n)
     go [] (suc i) q = refl
     go (r ∷ rs) zero q = rw (ne_eqb _ _ (λ e. q (ap Some e)), blanks)
     go (r ∷ rs) (suc i) q = go rs i q
+
+-- the kind of the first token that is no blank, row by row
+module _ (k first end : ℕ) (rows : List ℕ) where
+  abbrev kind_of_row : ℕ → Option ℕ
+  kind_of_row n = option_map (λ (r : Row). r.kind) (slice_get (record { kind = k; first = first; end = end } ∷ rows_of rows) n)
+
+  pub current_later : (i : ℕ) → current_kind (k ∷ first ∷ end ∷ rows) (suc i) ≡ current_kind rows i
+  unfolding current_kind kind_at row_at past_ws rows_of
+  current_later i =
+      let e : suc i + blanks (drop i (rows_of rows)) ≡ suc (i + blanks (drop i (rows_of rows))) = omega arith in
+      ap kind_of_row e
+
+  pub current_blank : k ≡ WHITESPACE → current_kind (k ∷ first ∷ end ∷ rows) 0 ≡ current_kind rows 0
+  unfolding current_kind kind_at row_at past_ws rows_of
+  current_blank q =
+      let e : 0 + blanks (record { kind = k; first = first; end = end } ∷ rows_of rows) ≡ suc (0 + blanks (rows_of rows)) = rw (eq-eqb _ _ q, blanks) (omega arith) in
+      ap kind_of_row e
+
+  pub current_solid : (k ≡ WHITESPACE → ⊥) → current_kind (k ∷ first ∷ end ∷ rows) 0 ≡ Some k
+  unfolding current_kind kind_at row_at past_ws rows_of
+  current_solid q =
+      let e : 0 + blanks (record { kind = k; first = first; end = end } ∷ rows_of rows) ≡ 0 = rw (ne_eqb _ _ q, blanks) (omega arith) in
+      ap kind_of_row e

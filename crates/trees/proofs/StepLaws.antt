@@ -4,14 +4,14 @@ use mathlib.Core.List.{List, [], ◌∷◌}
 use mathlib.Core.Bool.{Bool, true}
 use Prim.Native.Nat.{ℕ, zero, suc, ◌+◌, ◌*◌, ◌≤◌, ◌<◌}
 use native.Mathlib.Omega.{arith}
-use borrow.Author.Tests.{eqb-true}
+use borrow.Author.Tests.{eq-eqb, eqb-true}
 use lib.Dec.{eqb}
 use lib.ListN.{length, drop, length-append, length-drop}
 use Rattle.syntax.specs.Kind.{DOT, L_PAREN, R_PAREN, AND_KW, OR_KW, NOT_KW, BINARY_EXPR, UNARY_EXPR, PAREN_EXPR, DOT_CALL, CALL_ARGS, NONE}
 use Rattle.syntax.specs.Text.{ascii}
 use Rattle.syntax.proofs.BoolLaws.{whether}
 use Rattle.lexer.specs.Lex.{Token}
-use Rattle.trees.specs.Look.{skip_ws, head_kind, at_kind, at_text, at_predicate_method, at_plain_method, has_binary_op_at_level}
+use Rattle.trees.specs.Look.{skip_ws, head_kind, current_kind, at_kind, at_text, at_predicate_method, at_plain_method, has_binary_op_at_level}
 use Rattle.trees.specs.Parse.{Parser, done, next, join, ◌▹◌, in_node, choose, eat_ws, bump, expect, Mode, OrExpr, OrRest, AndExpr, AndRest, Atom, Calls, no_args, no_method, parse_method, step, steps, parse}
 use Rattle.trees.specs.Writing.{Did}
 use Rattle.trees.specs.declared.Cursor.{Cursor}
@@ -218,3 +218,8 @@ next_ahead {ts} {c = c} h a = ahead (go (drop c.token ts) h) a
     go : (us : List Token) → 0 < length us → length (next us).rest < length us
     go [] q = absurd (omega arith)
     go (u ∷ us) q = omega arith
+
+-- a kind that is there is seen
+pub at_kind_lem : (k : ℕ) (ts : List Token) → current_kind ts ≡ k → at_kind k ts ≡ true
+unfolding at_kind
+at_kind_lem k ts e = eq-eqb (current_kind ts) k e
