@@ -93,7 +93,8 @@ pub fn field(image: &[u8], section: Section, index: u32, number: u32) -> u32
     )
 }
 
-// A component's category.
+// A component's category. This and the readers below are one look at the image, and inlined as that.
+#[inline(always)]
 pub fn category(image: &[u8], component: u32) -> u32
     ensures { result ≡ category image.now component }
 {
@@ -101,6 +102,7 @@ pub fn category(image: &[u8], component: u32) -> u32
 }
 
 // Its parent's number plus 1, or 0 where it has none.
+#[inline(always)]
 pub fn parent(image: &[u8], component: u32) -> u32
     ensures { result ≡ parent image.now component }
 {
@@ -108,12 +110,14 @@ pub fn parent(image: &[u8], component: u32) -> u32
 }
 
 // The number of its first feature, and how many it has.
+#[inline(always)]
 pub fn first_feature(image: &[u8], component: u32) -> u32
     ensures { result ≡ first_feature image.now component }
 {
     field(image, Components, component, Component::FirstFeature as u32)
 }
 
+#[inline(always)]
 pub fn features_of(image: &[u8], component: u32) -> u32
     ensures { result ≡ features_of image.now component }
 {
@@ -121,6 +125,7 @@ pub fn features_of(image: &[u8], component: u32) -> u32
 }
 
 // Its wired mark.
+#[inline(always)]
 pub fn wired(image: &[u8], component: u32) -> u32
     ensures { result ≡ wired image.now component }
 {
@@ -128,18 +133,21 @@ pub fn wired(image: &[u8], component: u32) -> u32
 }
 
 // The string of a feature's name, its kind and its direction.
+#[inline(always)]
 pub fn feature_name(image: &[u8], feature: u32) -> u32
     ensures { result ≡ feature_name image.now feature }
 {
     field(image, Features, feature, Feature::Name as u32)
 }
 
+#[inline(always)]
 pub fn feature_kind(image: &[u8], feature: u32) -> u32
     ensures { result ≡ feature_kind image.now feature }
 {
     field(image, Features, feature, Feature::Kind as u32)
 }
 
+#[inline(always)]
 pub fn direction(image: &[u8], feature: u32) -> u32
     ensures { result ≡ direction image.now feature }
 {
@@ -147,6 +155,7 @@ pub fn direction(image: &[u8], feature: u32) -> u32
 }
 
 // The component that owns a connection.
+#[inline(always)]
 pub fn owner(image: &[u8], connection: u32) -> u32
     ensures { result ≡ owner image.now connection }
 {
@@ -154,12 +163,14 @@ pub fn owner(image: &[u8], connection: u32) -> u32
 }
 
 // The strings of the features' names at its ends, each plus 1, or 0 where there is no such end.
+#[inline(always)]
 pub fn source(image: &[u8], connection: u32) -> u32
     ensures { result ≡ source image.now connection }
 {
     field(image, Connections, connection, Connection::Source as u32)
 }
 
+#[inline(always)]
 pub fn target(image: &[u8], connection: u32) -> u32
     ensures { result ≡ target image.now connection }
 {
@@ -167,18 +178,21 @@ pub fn target(image: &[u8], connection: u32) -> u32
 }
 
 // The component that has a property, and the strings of the property's set and name.
+#[inline(always)]
 pub fn property_component(image: &[u8], property: u32) -> u32
     ensures { result ≡ property_component image.now property }
 {
     field(image, Properties, property, Property::Component as u32)
 }
 
+#[inline(always)]
 pub fn property_set(image: &[u8], property: u32) -> u32
     ensures { result ≡ property_set image.now property }
 {
     field(image, Properties, property, Property::Set as u32)
 }
 
+#[inline(always)]
 pub fn property_name(image: &[u8], property: u32) -> u32
     ensures { result ≡ property_name image.now property }
 {
@@ -186,18 +200,21 @@ pub fn property_name(image: &[u8], property: u32) -> u32
 }
 
 // The string of a diagnostic's analysis, its severity, and the string of its message.
+#[inline(always)]
 pub fn analysis(image: &[u8], diagnostic: u32) -> u32
     ensures { result ≡ analysis image.now diagnostic }
 {
     field(image, Diagnostics, diagnostic, Diagnostic::Analysis as u32)
 }
 
+#[inline(always)]
 pub fn severity(image: &[u8], diagnostic: u32) -> u32
     ensures { result ≡ severity image.now diagnostic }
 {
     field(image, Diagnostics, diagnostic, Diagnostic::Severity as u32)
 }
 
+#[inline(always)]
 pub fn message(image: &[u8], diagnostic: u32) -> u32
     ensures { result ≡ message image.now diagnostic }
 {
@@ -246,6 +263,7 @@ pub fn word(image: &[u8], at: usize) -> u32
 }
 
 // A number of the record that begins at a place, of a record that the image holds.
+#[inline(always)]
 pub(crate) fn number_at(image: &[u8], at: usize, number: u32) -> u32
     requires { at + meant.NUMBER_SIZE * number + meant.NUMBER_SIZE ≤ length image.now }
     ensures { result ≡ word image.now (at + meant.NUMBER_SIZE * number) }
