@@ -81,7 +81,8 @@ pub fn record_count(image: &[u8], section: Section) -> u32
     section_length(image, section) / record_size(section)
 }
 
-// A number of a record of a section, both counted from 0; 0 where the image does not hold it.
+// A number of a record of a section, both counted from 0; 0 where the image does not hold it, as the definition has it for any bytes: with an
+// `Option` each caller would put the 0 there.
 pub fn field(image: &[u8], section: Section, index: u32, number: u32) -> u32
     ensures { result ≡ field image.now section index number }
 {
@@ -252,7 +253,7 @@ pub fn section_length(image: &[u8], section: Section) -> u32
     word(image, PAIR_SIZE * section_number(section) + NUMBER_SIZE)
 }
 
-// The little-endian u32 at a byte's place; 0 where the image does not hold all of it.
+// The little-endian u32 at a byte's place; 0 where the image does not hold all of it, as the definition has it.
 pub fn word(image: &[u8], at: usize) -> u32
     ensures { result ≡ word image.now at }
 {

@@ -72,7 +72,8 @@ pub fn sections_fit(image: &[u8]) -> bool
         && all_whole_records(image)
 }
 
-// Whether the sections lie end to end from the pairs' end to the image's.
+// Whether the sections lie end to end from the pairs' end to the image's. Strings and features do too: three loops, as each reads its pairs
+// elsewhere, and the one over components tests the record on its way.
 fn sections_laid(image: &[u8]) -> bool
     ensures { result ≡ sections_laid image.now }
 {

@@ -24,7 +24,7 @@ use syntax::refusal::Refusal;
 use syntax::text;
 use trees::{Cursor, Ops, Reading, Rows};
 
-// Reads a rule that passes refusals 1 to 4 into the three tables; a refusal leaves them as they are.
+// Reads a rule that passes refusals 1 to 4 into the three tables, plain slices as C lends them; a refusal leaves them as they are.
 pub fn parse_expr(rule: &[u8], tokens: &mut [u32], tree: &mut [u32], errors: &mut [u32]) -> Reading
     ensures { Reads (check_rule rule.now (length tokens.old) (length tree.old) (length errors.old)) rule.now tokens.old tokens.new tree.old tree.new errors.old errors.new result }
 {

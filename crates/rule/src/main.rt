@@ -164,7 +164,7 @@ fn run_rule<W: Write>(out: &mut W, image: &[u8], rule: &[u8]) -> io::Result<()> 
 }
 
 // Prints what is written to an empty place with so much room. One function for this program and `words` would be public, and a public
-// function asks nothing of its callers, as this one does of the closure.
+// function asks nothing of its callers, as this one does of the closure; a trait in its place would want a type for each text.
 fn print_lines<const ROOM: usize, W: Write, F: FnOnce(&mut Writer<'_>)>(
     out: &mut W,
     write: F,
