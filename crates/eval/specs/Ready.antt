@@ -1,6 +1,6 @@
 -- The calls of a pipeline made ready for members: each has its method, and the place of its CALL_ARGS in the tree table. Assumes nothing:
 -- these are definitions.
-use Rattle.std.specs.Prelude.{ℕ, ◌+◌, ◌≤◌, ◌<◌, List, map, cond, ◌≡◌, eqb, length, take, drop, get_or, Option, Some, None, Result, Ok, Err}
+use Rattle.std.specs.Prelude.{ℕ, ◌+◌, ◌≤◌, ◌<◌, List, map, cond, ◌≡◌, eqb, length, take, drop, get_or, Option, Some, None, unwrap_or, Result, Ok, Err}
 use Rattle.syntax.specs.Kind.{IDENT, CALL_ARGS, IDENT_EXPR}
 use Rattle.syntax.specs.declared.refusal.Refusal.{Refusal}
 use Rattle.trees.specs.Green.{Forest}
@@ -51,13 +51,9 @@ unfolding calls_in
 calls_from rule tree calls i = calls_in rule tree (drop i calls)
 
 -- the place of the CALL_ARGS in a DOT_CALL; where there is none, past all rows
-abbrev pub place_or : ℕ → Option ℕ → ℕ
-place_or past (Some at) = at
-place_or past None = past
-
 unfoldable pub args_place : List ℕ → ℕ → ℕ
 unfolding first_row
-args_place tree row = place_or (length tree) (first_row (of_kind CALL_ARGS) tree (level_at tree row + 1) (row + ROW))
+args_place tree row = unwrap_or (first_row (of_kind CALL_ARGS) tree (level_at tree row + 1) (row + ROW)) (length tree)
 
 -- the call of a DOT_CALL of the tree
 abbrev pub call_row : (rule tree : List ℕ) → ℕ → PlacedCall

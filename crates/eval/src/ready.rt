@@ -112,10 +112,7 @@ fn call_at(rule: &[u8], tree: &[u32], row: usize) -> Call
 fn args_place(tree: &[u32], row: usize) -> usize
     ensures { result ≡ args_place tree.now row }
 {
-    match node::child_of_kind(tree, row, Kind::CallArgs.into()) {
-        Some(args) => args,
-        None => tree.len(),
-    }
+    node::child_of_kind(tree, row, Kind::CallArgs.into()).unwrap_or(tree.len())
 }
 
 // The kind after all calls, or the refusal of the leftmost that may not stand where it stands.
