@@ -1,6 +1,6 @@
 -- The calls of a pipeline made ready for members: each has its method, and the place of its CALL_ARGS in the tree table. Assumes nothing:
 -- these are definitions.
-use Rattle.std.specs.Prelude.{ℕ, ◌+◌, ◌≤◌, ◌<◌, List, map, cond, ◌≡◌, eqb, length, take, drop, get_or, Option, Some, None, unwrap_or, Result, Ok, Err}
+use Rattle.std.specs.Prelude.{ℕ, ◌+◌, ◌≤◌, ◌<◌, List, map, cond, ◌≡◌, eqb, length, take, drop, get_or, Option, Some, None, unwrap_or, option_map, find, Result, Ok, Err}
 use Rattle.syntax.specs.Kind.{IDENT, CALL_ARGS, IDENT_EXPR}
 use Rattle.syntax.specs.declared.refusal.Refusal.{Refusal}
 use Rattle.trees.specs.Green.{Forest}
@@ -17,7 +17,7 @@ use Rattle.meaning.specs.declared.Method.TheVariants.{Where}
 use Rattle.meaning.specs.declared.ValueKind.{ValueKind}
 use Rattle.meaning.specs.Calls.{Call, kept, up_from}
 use Rattle.meaning.specs.Pipeline.{is_of_analysis, method_of, calls_of, eval_pipeline}
-use Rattle.meaning.specs.Walk.{plan_of, last_method}
+use Rattle.meaning.specs.Walk.{plan_of, is_last, last_method}
 use Rattle.eval.specs.declared.ready.Call.{Call as PlacedCall}
 use Rattle.eval.specs.declared.ready.Plan.{Plan}
 
@@ -69,6 +69,10 @@ pub record Holds (rule tree : List ℕ) (all : List Call) (rows : List PlacedCal
 -- rule and tree
 pub record KindAfter (rows : List PlacedCall) (source : ValueKind) (r : Result ValueKind Refusal) : Type 0 where
   pub next : (rule tree : List ℕ) → r ≡ plan_of source (calls_in rule tree rows)
+
+-- the method of the first call that gives no collection; where there is none, `where`
+abbrev pub first_last : List PlacedCall → Method
+first_last rows = unwrap_or (option_map (λ (call : PlacedCall). call.method) (find (λ (call : PlacedCall). is_last call.method) rows)) Where
 
 pub record LastMethod (rows : List PlacedCall) (r : Method) : Type 0 where
   pub method : (rule tree : List ℕ) → r ≡ last_method (calls_in rule tree rows)

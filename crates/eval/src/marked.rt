@@ -178,10 +178,5 @@ pub(crate) fn next_row(tree: &[u32], kind: Kind, from: usize) -> Option<usize>
     ensures { IfSome result (λ row. row < meant.ROWS) }
 {
     let end = (tree.len() / rows::ROW).min(ROWS);
-    for row in from..end {
-        if tree[rows::ROW * row] == u32::from(kind) {
-            return Some(row);
-        }
-    }
-    None
+    (from..end).find(|row| tree[rows::ROW * *row] == u32::from(kind))
 }

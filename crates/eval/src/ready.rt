@@ -6,7 +6,7 @@ ghost use Rattle.syntax.specs.Kind.{DOT_CALL};
 ghost use Rattle.meaning.specs.Value.{sort_kind};
 ghost use Rattle.meaning.specs.Pipeline.{calls_of};
 ghost use Rattle.meaning.specs.Walk.{is_last};
-ghost use Rattle.eval.specs.Ready.{CallAt, KindAfter, LastMethod, source_sort, args_place, call_row, Holds, Plans};
+ghost use Rattle.eval.specs.Ready.{CallAt, KindAfter, first_last, source_sort, args_place, call_row, Holds, Plans};
 
 use calls::{method, table};
 use meaning::{Method, ValueKind};
@@ -128,14 +128,12 @@ pub(crate) fn kind_after(calls: &[Call], source: ValueKind) -> Result<ValueKind,
 
 // The method of the first call that gives no collection; where there is none, `where`, as the definition has it.
 pub(crate) fn last_method(calls: &[Call]) -> Method
-    ensures { LastMethod calls.now result }
+    ensures { result ≡ first_last calls.now }
 {
-    for call in calls {
-        if is_last(call.method) {
-            return call.method;
-        }
-    }
-    Method::Where
+    calls
+        .iter()
+        .find(|call| is_last(call.method))
+        .map_or(Method::Where, |call| call.method)
 }
 
 // Whether a call of this method gives no collection.
