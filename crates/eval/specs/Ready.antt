@@ -65,14 +65,14 @@ pub record Holds (rule tree : List ℕ) (all : List Call) (rows : List PlacedCal
   pub room : count ≤ length rows
   pub calls : calls_in rule tree (take count rows) ≡ all
 
+-- the method of the first call that gives no collection; where there is none, `where`
+abbrev pub first_last : List PlacedCall → Method
+first_last rows = unwrap_or (option_map (λ (call : PlacedCall). call.method) (find (λ (call : PlacedCall). is_last call.method) rows)) Where
+
 -- the kind after all calls, or the refusal of the leftmost that may not stand where it stands; and the last call. The calls say it without
 -- rule and tree
 pub record KindAfter (rows : List PlacedCall) (source : ValueKind) (r : Result ValueKind Refusal) : Type 0 where
   pub next : (rule tree : List ℕ) → r ≡ plan_of source (calls_in rule tree rows)
-
--- the method of the first call that gives no collection; where there is none, `where`
-abbrev pub first_last : List PlacedCall → Method
-first_last rows = unwrap_or (option_map (λ (call : PlacedCall). call.method) (find (λ (call : PlacedCall). is_last call.method) rows)) Where
 
 pub record LastMethod (rows : List PlacedCall) (r : Method) : Type 0 where
   pub method : (rule tree : List ℕ) → r ≡ last_method (calls_in rule tree rows)
