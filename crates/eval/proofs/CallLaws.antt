@@ -3,7 +3,7 @@ use mathlib.Core.Path.{◌≡◌, refl, sym, ap, ◌∙◌, subst}
 use mathlib.Core.Bool.{Bool, true, false, ◌&&◌}
 use mathlib.Core.List.{List, [], ◌∷◌, ◌++◌, map, append_assoc, append-nil}
 use Rattle.std.proofs.lemmas.List.{map-append, take_more_set}
-use Rattle.std.specs.Prelude.{Option, Some, None}
+use Rattle.std.specs.Prelude.{Option, Some, None, unwrap_or}
 use Prim.Native.Nat.{ℕ, ◌+◌, ◌≤◌, ◌<◌}
 use native.Mathlib.Omega.{arith}
 use lib.Dec.{eqb, leb}
@@ -20,7 +20,7 @@ use Rattle.predicate.proofs.NodeLaws.{row_found, row_absent}
 use Rattle.meaning.specs.Calls.{Call}
 use Rattle.meaning.specs.Pipeline.{method_of, args_of, call_of, calls_of}
 use Rattle.eval.specs.declared.ready.Call.{Call as PlacedCall}
-use Rattle.eval.specs.Ready.{call_in, calls_in, place_or, args_place, call_row, Holds}
+use Rattle.eval.specs.Ready.{call_in, calls_in, args_place, call_row, Holds}
 
 -- ---- the call that a row of the tree opens
 
@@ -45,19 +45,11 @@ unfolding args_of
 args_none rule tree level from n = ignored_none args_ignores rule n ∙ sym (children_none rule tree (length tree) (no_row tree))
 
 -- its place
-pub args_at : (tree : List ℕ) (row : ℕ) {found : Option ℕ} {at : ℕ} → found ≡ first_row (of_kind CALL_ARGS) tree (level_at tree row + 1) (row + ROW) → found ≡ Some at → at ≡ args_place tree row
-unfolding args_place
-args_at tree row e h = sym (ap (place_or (length tree)) (sym e ∙ h))
-
-pub args_past : (tree : List ℕ) (row : ℕ) {found : Option ℕ} → found ≡ first_row (of_kind CALL_ARGS) tree (level_at tree row + 1) (row + ROW) → found ≡ None → length tree ≡ args_place tree row
-unfolding args_place
-args_past tree row e h = sym (ap (place_or (length tree)) (sym e ∙ h))
-
 args_placed : (rule tree : List ℕ) (row : ℕ) → children_at rule tree (args_place tree row) ≡ args_of (children_at rule tree row)
 unfolding args_place
 args_placed rule tree row = go (first_row (of_kind CALL_ARGS) tree (level_at tree row + 1) (row + ROW)) refl
   where
-    go : (f : Option ℕ) → first_row (of_kind CALL_ARGS) tree (level_at tree row + 1) (row + ROW) ≡ f → children_at rule tree (place_or (length tree) f) ≡ args_of (children_at rule tree row)
+    go : (f : Option ℕ) → first_row (of_kind CALL_ARGS) tree (level_at tree row + 1) (row + ROW) ≡ f → children_at rule tree (unwrap_or f (length tree)) ≡ args_of (children_at rule tree row)
     go (Some at) e = sym (args_found rule tree (level_at tree row + 1) (row + ROW) at (row_found e))
     go None e = sym (args_none rule tree (level_at tree row + 1) (row + ROW) (row_absent e))
 

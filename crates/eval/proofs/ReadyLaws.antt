@@ -1,6 +1,6 @@
 -- Calls, read back one after the other. Assumes nothing.
 use mathlib.Core.Path.{◌≡◌, refl, sym, ap, ap₂, ◌∙◌}
-use mathlib.Core.Bool.{true, false, false≢true}
+use mathlib.Core.Bool.{Bool, true, false, false≢true}
 use mathlib.Core.List.{List, [], ◌∷◌}
 use Prim.Native.Nat.{ℕ, suc, ◌+◌, ◌≤◌, ◌<◌}
 use native.Mathlib.Omega.{arith}
@@ -13,10 +13,9 @@ use Rattle.meaning.specs.declared.ValueKind.{ValueKind}
 use Rattle.meaning.specs.declared.Method.{Method}
 use Rattle.meaning.specs.declared.Method.TheVariants.{Where, All, Count, None, Any, Features, Diagnostics}
 use Rattle.meaning.specs.Calls.{Call, Entry, gives}
-use Rattle.meaning.specs.Walk.{entries_after, plan_of, is_last, is_quantifier, method_in, last_method, last_call}
-use Rattle.meaning.proofs.WalkLaws.{last_none, last_here, last_later}
+use Rattle.meaning.specs.Walk.{entries_after, plan_of, is_last, is_quantifier, last_method}
 use Rattle.eval.specs.declared.ready.Call.{Call as PlacedCall}
-use Rattle.eval.specs.Ready.{call_in, no_call, nth, calls_in, calls_from, KindAfter}
+use Rattle.eval.specs.Ready.{call_in, no_call, nth, calls_in, calls_from, KindAfter, first_last, LastMethod}
 
 module _ (rule tree : List ℕ) (rows : List PlacedCall) (i : ℕ) where
   pub calls_at : i < length rows → calls_from rule tree rows i ≡ call_in rule tree (nth rows i) ∷ calls_from rule tree rows (i + 1)
@@ -91,30 +90,15 @@ quantifier_of Count l h = absurd (h refl)
 quantifier_of Features l h = absurd (false≢true l)
 quantifier_of Diagnostics l h = absurd (false≢true l)
 
--- no call before the i-th is the last
-pub record NotYet (rows : List PlacedCall) (i : ℕ) : Type 0 where
-  pub rest : (rule tree : List ℕ) → last_method (calls_from rule tree rows i) ≡ last_method (calls_in rule tree rows)
+-- the first one found is it
+first_is_last : (rule tree : List ℕ) (rows : List PlacedCall) → first_last rows ≡ last_method (calls_in rule tree rows)
+unfolding last_method calls_in
+first_is_last rule tree [] = refl
+first_is_last rule tree (row ∷ rows) = go (is_last row.method) refl (first_is_last rule tree rows)
+  where
+    go : (b : Bool) → is_last row.method ≡ b → first_last rows ≡ last_method (calls_in rule tree rows) → first_last (row ∷ rows) ≡ last_method (calls_in rule tree (row ∷ rows))
+    go true e rest = rw e refl
+    go false e rest = rw e rest
 
-pub not_yet : (rows : List PlacedCall) → NotYet rows 0
-not_yet rows = record { rest = λ rule tree. ap last_method (calls_all rule tree rows) }
-
-module _ {rows : List PlacedCall} {i : ℕ} (n : NotYet rows i) where
-  module _ (h : i < length rows) where
-    pub last_found : is_last (nth rows i).method ≡ true → (rule tree : List ℕ) → (nth rows i).method ≡ last_method (calls_in rule tree rows)
-    unfolding last_method
-    last_found l rule tree =
-        sym (ap method_in (ap last_call (calls_at rule tree rows i h) ∙ last_here (call_in rule tree (nth rows i)) (calls_from rule tree rows (i + 1)) l))
-        ∙ n.rest rule tree
-
-    pub last_on : is_last (nth rows i).method ≡ false → NotYet rows (i + 1)
-    unfolding last_method
-    last_on l =
-        record {
-          rest = λ rule tree.
-              sym (ap method_in (ap last_call (calls_at rule tree rows i h) ∙ last_later (call_in rule tree (nth rows i)) (calls_from rule tree rows (i + 1)) l))
-              ∙ n.rest rule tree;
-        }
-
-  pub last_over : length rows ≤ i → (rule tree : List ℕ) → Where ≡ last_method (calls_in rule tree rows)
-  unfolding last_method
-  last_over h rule tree = sym (ap method_in (ap last_call (calls_over rule tree rows i h) ∙ last_none)) ∙ n.rest rule tree
+pub last_found : {rows : List PlacedCall} {method : Method} → method ≡ first_last rows → LastMethod rows method
+last_found {rows} e = record { method = λ rule tree. e ∙ first_is_last rule tree rows }

@@ -1,6 +1,6 @@
 -- The calls of a pipeline made ready for members: each has its method, and the place of its CALL_ARGS in the tree table. Assumes nothing:
 -- these are definitions.
-use Rattle.std.specs.Prelude.{ℕ, ◌+◌, ◌≤◌, ◌<◌, List, map, cond, ◌≡◌, eqb, length, take, drop, get_or, Option, Some, None, Result, Ok, Err}
+use Rattle.std.specs.Prelude.{ℕ, ◌+◌, ◌≤◌, ◌<◌, List, map, cond, ◌≡◌, eqb, length, take, drop, get_or, Option, Some, None, unwrap_or, option_map, find, Result, Ok, Err}
 use Rattle.syntax.specs.Kind.{IDENT, CALL_ARGS, IDENT_EXPR}
 use Rattle.syntax.specs.declared.refusal.Refusal.{Refusal}
 use Rattle.trees.specs.Green.{Forest}
@@ -17,7 +17,7 @@ use Rattle.meaning.specs.declared.Method.TheVariants.{Where}
 use Rattle.meaning.specs.declared.ValueKind.{ValueKind}
 use Rattle.meaning.specs.Calls.{Call, kept, up_from}
 use Rattle.meaning.specs.Pipeline.{is_of_analysis, method_of, calls_of, eval_pipeline}
-use Rattle.meaning.specs.Walk.{plan_of, last_method}
+use Rattle.meaning.specs.Walk.{plan_of, is_last, last_method}
 use Rattle.eval.specs.declared.ready.Call.{Call as PlacedCall}
 use Rattle.eval.specs.declared.ready.Plan.{Plan}
 
@@ -51,13 +51,9 @@ unfolding calls_in
 calls_from rule tree calls i = calls_in rule tree (drop i calls)
 
 -- the place of the CALL_ARGS in a DOT_CALL; where there is none, past all rows
-abbrev pub place_or : ℕ → Option ℕ → ℕ
-place_or past (Some at) = at
-place_or past None = past
-
 unfoldable pub args_place : List ℕ → ℕ → ℕ
 unfolding first_row
-args_place tree row = place_or (length tree) (first_row (of_kind CALL_ARGS) tree (level_at tree row + 1) (row + ROW))
+args_place tree row = unwrap_or (first_row (of_kind CALL_ARGS) tree (level_at tree row + 1) (row + ROW)) (length tree)
 
 -- the call of a DOT_CALL of the tree
 abbrev pub call_row : (rule tree : List ℕ) → ℕ → PlacedCall
@@ -68,6 +64,10 @@ pub record Holds (rule tree : List ℕ) (all : List Call) (rows : List PlacedCal
   pub number : count ≡ length all
   pub room : count ≤ length rows
   pub calls : calls_in rule tree (take count rows) ≡ all
+
+-- the method of the first call that gives no collection; where there is none, `where`
+abbrev pub first_last : List PlacedCall → Method
+first_last rows = unwrap_or (option_map (λ (call : PlacedCall). call.method) (find (λ (call : PlacedCall). is_last call.method) rows)) Where
 
 -- the kind after all calls, or the refusal of the leftmost that may not stand where it stands; and the last call. The calls say it without
 -- rule and tree

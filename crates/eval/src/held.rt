@@ -5,6 +5,7 @@ ghost use Rattle.instance.specs.Instance.{owners_wired};
 
 use crate::marked;
 use crate::ready::Call;
+use crate::walk::Pipeline;
 use instance;
 use meaning::Method;
 use predicate::{node, rows};
@@ -23,18 +24,22 @@ struct Asked {
     direction: bool,
 }
 
-// What profiles are to hold. The wiring of features is held only where the owner of every connection is wired.
-pub(crate) fn held(rule: &[u8], image: &[u8], tree: &[u32], calls: &[Call]) -> Held
-    ensures { result.wiring_of_features ≡ true → owners_wired image.now ≡ true }
-{
-    let asked = Asked::in_rows(rule, tree);
-    let wired = asked.connected && asks_features(calls) && instance::owners_wired(image);
-    Held {
-        wiring: asked.connected,
-        wiring_of_features: wired,
-        category: asked.category,
-        kind: asked.kind,
-        direction: asked.direction,
+impl Pipeline<'_> {
+    // What profiles are to hold. The wiring of features is held only where the owner of every connection is wired.
+    pub(crate) fn held(&self) -> Held
+        ensures { result.wiring_of_features ≡ true → owners_wired self.now.image.now ≡ true }
+    {
+        let asked = Asked::in_rows(self.rule, self.tree);
+        let wired = asked.connected
+            && asks_features(self.calls)
+            && instance::owners_wired(self.image);
+        Held {
+            wiring: asked.connected,
+            wiring_of_features: wired,
+            category: asked.category,
+            kind: asked.kind,
+            direction: asked.direction,
+        }
     }
 }
 

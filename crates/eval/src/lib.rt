@@ -59,9 +59,9 @@ fn with_verdict(outcome: Outcome, reading: Reading) -> Answer
     ensures { Answers outcome reading result }
 {
     Answer {
-        outcome: outcome,
+        outcome,
         verdict: verdict::verdict(outcome),
-        reading: reading,
+        reading,
     }
 }
 

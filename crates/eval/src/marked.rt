@@ -5,6 +5,7 @@ ghost use Rattle.predicate.specs.Rows.{ROW};
 ghost use Rattle.eval.specs.Marked.{counts, bit_at, bits_at, bits_by, RowTold, TellsBelow, HasRow, MarksOf, Made};
 ghost use Rattle.eval.specs.Marked as meant;
 
+use crate::walk::Pipeline;
 use board::image;
 use board::image::Section;
 use marks;
@@ -47,13 +48,13 @@ impl Marked {
 
     // Marks the components that have the property that the `has` whose row is at a place names, and the others that have a feature of this
     // name.
-    fn mark(&mut self, rule: &[u8], image: &[u8], tree: &[u32], row: usize)
-        ensures { MarksOf rule.now image.now tree.now self.new }
+    fn mark(&mut self, pipeline: &Pipeline, row: usize)
+        ensures { MarksOf pipeline.now.rule.now pipeline.now.image.now pipeline.now.tree.now self.new }
     {
         self.row = row;
-        let value = node::find_string_literal(rule, tree, row);
-        marks::mark_properties(image, value, &mut self.marks);
-        marks::mark_features(image, value, &mut self.marks);
+        let value = node::find_string_literal(pipeline.rule, pipeline.tree, row);
+        marks::mark_properties(pipeline.image, value, &mut self.marks);
+        marks::mark_features(pipeline.image, value, &mut self.marks);
     }
 }
 
@@ -155,24 +156,21 @@ fn has_row(marked: &[Marked], row: usize) -> bool
     marked.iter().any(|has| has.row == row)
 }
 
-// Marks the first CALL_EXPR rows of a tree, and gives the number of these rows.
-pub(crate) fn make_marks(
-    rule: &[u8],
-    image: &[u8],
-    tree: &[u32],
-    marked: &mut [Marked; HASES],
-) -> usize
-    ensures { Made rule.now image.now tree.now marked.new result }
-{
-    let mut from = 0;
-    for n in 0..HASES {
-        let Some(row) = next_row(tree, Kind::CallExpr, from) else {
-            return n;
-        };
-        marked[n].mark(rule, image, tree, rows::ROW * row);
-        from = row + 1;
+impl Pipeline<'_> {
+    // Marks the first CALL_EXPR rows of the tree, and gives the number of these rows.
+    pub(crate) fn make_marks(&self, marked: &mut [Marked; HASES]) -> usize
+        ensures { Made self.now.rule.now self.now.image.now self.now.tree.now marked.new result }
+    {
+        let mut from = 0;
+        for n in 0..HASES {
+            let Some(row) = next_row(self.tree, Kind::CallExpr, from) else {
+                return n;
+            };
+            marked[n].mark(self, rows::ROW * row);
+            from = row + 1;
+        }
+        HASES
     }
-    HASES
 }
 
 // The number of the first row of a kind from a row on, among those that are looked at.
@@ -180,10 +178,5 @@ pub(crate) fn next_row(tree: &[u32], kind: Kind, from: usize) -> Option<usize>
     ensures { IfSome result (λ row. row < meant.ROWS) }
 {
     let end = (tree.len() / rows::ROW).min(ROWS);
-    for row in from..end {
-        if tree[rows::ROW * row] == u32::from(kind) {
-            return Some(row);
-        }
-    }
-    None
+    (from..end).find(|row| tree[rows::ROW * *row] == u32::from(kind))
 }

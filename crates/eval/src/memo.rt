@@ -127,10 +127,10 @@ impl<'a> Walk<'a> {
         if NOTED_CALLS <= i {
             return Note::NotToKnow;
         }
-        match self.notes.get(place + profile::PROFILES * i) {
-            Some(note) => *note,
-            None => Note::NotToKnow,
-        }
+        self.notes
+            .get(place + profile::PROFILES * i)
+            .copied()
+            .unwrap_or(Note::NotToKnow)
     }
 
     // The predicate whose CALL_ARGS are at a place of the tree, asked of a member.

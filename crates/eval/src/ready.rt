@@ -6,7 +6,7 @@ ghost use Rattle.syntax.specs.Kind.{DOT_CALL};
 ghost use Rattle.meaning.specs.Value.{sort_kind};
 ghost use Rattle.meaning.specs.Pipeline.{calls_of};
 ghost use Rattle.meaning.specs.Walk.{is_last};
-ghost use Rattle.eval.specs.Ready.{CallAt, KindAfter, LastMethod, source_sort, args_place, call_row, Holds, Plans};
+ghost use Rattle.eval.specs.Ready.{CallAt, KindAfter, first_last, source_sort, args_place, call_row, Holds, Plans};
 
 use calls::{method, table};
 use meaning::{Method, ValueKind};
@@ -112,10 +112,7 @@ fn call_at(rule: &[u8], tree: &[u32], row: usize) -> Call
 fn args_place(tree: &[u32], row: usize) -> usize
     ensures { result ≡ args_place tree.now row }
 {
-    match node::child_of_kind(tree, row, Kind::CallArgs.into()) {
-        Some(args) => args,
-        None => tree.len(),
-    }
+    node::child_of_kind(tree, row, Kind::CallArgs.into()).unwrap_or(tree.len())
 }
 
 // The kind after all calls, or the refusal of the leftmost that may not stand where it stands.
@@ -131,14 +128,12 @@ pub(crate) fn kind_after(calls: &[Call], source: ValueKind) -> Result<ValueKind,
 
 // The method of the first call that gives no collection; where there is none, `where`, as the definition has it.
 pub(crate) fn last_method(calls: &[Call]) -> Method
-    ensures { LastMethod calls.now result }
+    ensures { result ≡ first_last calls.now }
 {
-    for call in calls {
-        if is_last(call.method) {
-            return call.method;
-        }
-    }
-    Method::Where
+    calls
+        .iter()
+        .find(|call| is_last(call.method))
+        .map_or(Method::Where, |call| call.method)
 }
 
 // Whether a call of this method gives no collection.

@@ -85,7 +85,7 @@ impl<'a> Pipeline<'a> {
         }
         let mut notes = [Note::NotKnown; memo::WAY_NOTES];
         let sorts = Sorts {
-            held: held::held(self.rule, self.image, self.tree, self.calls),
+            held: self.held(),
             marked: &[],
         };
         let mut walk = Walk::new(self, collection, sorts, &mut notes);
@@ -125,9 +125,9 @@ impl<'a> Pipeline<'a> {
     {
         let mut notes = [Note::NotKnown; memo::NOTES];
         let mut marked = [Marked::NONE; marked::HASES];
-        let rows = marked::make_marks(self.rule, self.image, self.tree, &mut marked);
+        let rows = self.make_marks(&mut marked);
         let sorts = Sorts {
-            held: held::held(self.rule, self.image, self.tree, self.calls),
+            held: self.held(),
             marked: &marked[..rows],
         };
         let mut walk = Walk::new(self, collection, sorts, &mut notes);
@@ -155,10 +155,7 @@ impl<'a> Pipeline<'a> {
 fn begins_with_features(calls: &[Call]) -> bool
     ensures { result ≡ true → IsCall calls.now 0 Features }
 {
-    match ready::nth(calls, 0) {
-        Some(call) => call.method == Method::Features,
-        None => false,
-    }
+    ready::nth(calls, 0).is_some_and(|call| call.method == Method::Features)
 }
 
 // So many members arrived, and no predicate was asked.

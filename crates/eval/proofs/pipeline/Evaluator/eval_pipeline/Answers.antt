@@ -5,6 +5,7 @@ use native.Mathlib.Omega.{arith}
 use Rattle.std.proofs.Common.{rules, Err}
 use mathlib.Core.Path.{◌≡◌, sym, subst}
 use Rattle.eval.specs.Pipeline.{Evaluates}
+use Rattle.eval.proofs.ReadyLaws.{last_found}
 use Rattle.eval.proofs.pipeline.Evaluator.eval_pipeline.Goals as goal
 
 pub plan_pipeline-requires : goal.plan_pipeline-requires
@@ -15,7 +16,7 @@ walk-tally-requires c =
     record {
       well = c.requires.1.well;
       room = c.requires.1.room;
-      decides = last_decides _ _ c.last_method-last.ensures;
+      decides = last_decides _ _ (last_found c.last_method-last.ensures);
     }
 
 pub returns-in_err-plan : goal.returns-in_err-plan
@@ -25,4 +26,4 @@ returns-in_err-plan c =
     subst (Evaluates _ c.args.collection.now c.args.collection.now) (sym is) (refuses _ (subst (Plans _ _ _ _) r c.plan_pipeline.ensures))
 
 pub returns : goal.returns
-returns c = pipeline_given c.args.self.now.rule.now c.args.self.now.image.now c.args.self.now.tree.now c.args.at (subst (Plans _ _ _ _) (c.in_ok-plan.was {u = tt}) c.plan_pipeline.ensures) c.walk-tally.ensures c.last_method-last.ensures c.value.ensures
+returns c = pipeline_given c.args.self.now.rule.now c.args.self.now.image.now c.args.self.now.tree.now c.args.at (subst (Plans _ _ _ _) (c.in_ok-plan.was {u = tt}) c.plan_pipeline.ensures) c.walk-tally.ensures (last_found c.last_method-last.ensures) c.value.ensures

@@ -3,7 +3,7 @@ use native.Mathlib.Omega.{arith}
 use lib.ListN.{length-set}
 use mathlib.Core.Path.{◌∙◌}
 use Rattle.eval.proofs.MarkedLaws.{making_start, making_on}
-use Rattle.eval.proofs.marked.make_marks.Goals as goal
+use Rattle.eval.proofs.walk.Pipeline.make_marks.Goals as goal
 
 pub loop-n-init : goal.loop-n-init
 loop-n-init c = (c.told-marked, making_start _ _ _ _)
