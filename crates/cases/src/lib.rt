@@ -35,7 +35,7 @@ pub fn number(input: &[u8]) -> (usize, &[u8])
 fn is_digit_of(value: usize, byte: u8) -> bool
     ensures { result ≡ is_digit_of value byte }
 {
-    value <= 999_999 && b'0' <= byte && byte <= b'9'
+    value <= 999_999 && byte.is_ascii_digit()
 }
 
 // So many bytes at the front of the input, and what is left past the byte after them; none where the input ends before that byte.

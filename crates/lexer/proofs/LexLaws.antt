@@ -16,8 +16,8 @@ use Rattle.lexer.specs.declared.Shape.{Shape}
 use Rattle.lexer.specs.declared.Shape.TheVariants.{Blanks, Quoted, Symbol, Operator, Digits, Word, Character}
 use Rattle.lexer.specs.Bytes.{shape_of, goes_on, is_ascii_whitespace, is_ascii_digit, is_ident_continue, is_trailing}
 use Rattle.std.specs.Prelude.{position, ◌==◌, Option, Some, None, cond, min, eqb, ltb}
-use borrow.Author.Tests.{ltb-true, ltb-false}
-use Rattle.std.specs.List.{take_while, prefix_len, position_or_len}
+use borrow.Author.Tests.{ltb-true, ltb-false, eqb-true, eqb-false, eq-eqb, ne_eqb}
+use Rattle.std.specs.List.{take_while, prefix_len, position_or_len, starts_with}
 use Rattle.lexer.specs.Lex.{Token, run, quoted, equals, more, kind_of, past, token, lex_from, lex}
 use Rattle.lexer.specs.Tokens.{joined, has_quote, is_closed, closed}
 
@@ -294,16 +294,12 @@ quoted_none s e =
     (λ t. let f : ◌≡◌ {A = Option ℕ} (Some n) None = rw t at e in cc)
     (λ t. omega (arith, quoted_prefix s, ltb-false n (length s) t))
 
--- what `equals` says, by the first byte
-pub equals_empty : (s : List ℕ) → length s ≡ 0 → 0 ≡ equals s
+-- what `equals` says, as a test of the front
+pub equals_front : (s : List ℕ) → bool_byte (starts_with eqb s (61 ∷ [])) ≡ equals s
 unfolding equals
-equals_empty [] e = refl
-equals_empty (b ∷ s) e = absurd (omega arith)
-
-pub equals_first : (s : List ℕ) → 0 < length s → cond (eqb (get_or s 0 0) 61) 1 0 ≡ equals s
-unfolding equals
-equals_first [] h = absurd (omega arith)
-equals_first (b ∷ s) h = refl
+equals_front [] = refl
+equals_front (b ∷ s) =
+    whether (eqb 61 b) (λ e. rw (e, eq-eqb b 61 (sym (eqb-true 61 b e))) refl) (λ e. rw (e, ne_eqb b 61 (λ q. eqb-false 61 b e (sym q))) refl)
 
 -- a test as a number
 pub byte_is : (t : Bool) → bool_byte t ≡ cond t 1 0

@@ -1,13 +1,15 @@
 -- Reading a rule token by token: counting its openers, writing its rows, and what a check that it passed says. Assumes nothing.
 use mathlib.Core.Path.{◌≡◌, refl, sym, ap, ◌∙◌}
 use mathlib.Core.Bool.{Bool, true, false, cond, not}
-use mathlib.Core.List.{List, [], ◌∷◌, ◌++◌}
-use Prim.Native.Nat.{ℕ, zero, suc, zero-le, suc-le-suc, ◌+◌, ◌*◌, ◌≤◌}
+use mathlib.Core.List.{List, [], ◌∷◌, ◌++◌, append_assoc}
+use Prim.Native.Nat.{ℕ, zero, suc, zero-le, suc-le-suc, ◌+◌, ◌-◌, ◌*◌, ◌≤◌}
 use native.Mathlib.Omega.{arith}
 use borrow.Author.Tests.{ltb-false}
 use lib.Dec.{ltb}
-use lib.ListN.{length, length-append}
-use lib.Seq.{sets, length-sets}
+use lib.ListN.{length, take, drop, length-append, length-drop}
+use lib.Seq.{sets, length-sets, drop-drop, length-take-le}
+use borrow.Rule.Slice.PartMut.{put_mid}
+use Rattle.std.proofs.lemmas.List.Edits.{sets-eq}
 use Rattle.syntax.specs.Table.{with_rows}
 use Rattle.syntax.specs.Utf8.{utf8}
 use Rattle.syntax.specs.declared.refusal.Refusal.{Refusal}
@@ -148,3 +150,11 @@ tokens_few rule tokens tree errors n e = go (check_rule rule tokens tree errors)
         let same : n ≡ length (lex rule) = cc in
         omega (arith, ltb-false MAX_RULE (length rule) (passed_lengths rule tokens tree errors p).0, lex_length rule)
     go (Err r) p q = let z : ◌≡◌ {A = ℕ} 0 1 = cc in omega arith
+
+-- some numbers in the place of as many
+pub put_is : (t row ys : List ℕ) (at n : ℕ) → at + n ≤ length t → length ys ≡ length (take (at + n - at) (drop at t)) → ys ≡ row
+    → put_mid at (at + n - at) t ys ≡ sets t at row
+put_is t row ys at n h l e =
+    let k : at + n - at ≡ n = omega arith in
+    let m : length row ≡ n = ap length (sym e) ∙ l ∙ rw k (length-take-le n (drop at t) (omega (arith, length-drop at t))) in
+    rw (e, k, drop-drop) (sym (append_assoc (take at t) row (drop (at + n) t)) ∙ sym (rw m at (sets-eq row t at (omega arith))))

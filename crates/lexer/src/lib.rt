@@ -135,9 +135,7 @@ fn write_tokens(rule: &[u8], tokens: &mut [u32]) -> usize
         put_row(
             tokens,
             TOKEN_ROW * written,
-            kind.into(),
-            at as u32,
-            end as u32,
+            [kind.into(), at as u32, end as u32],
         );
         at = end;
         written += 1;
@@ -145,14 +143,12 @@ fn write_tokens(rule: &[u8], tokens: &mut [u32]) -> usize
     written
 }
 
-// Writes a row of three numbers from `at` on. One function for the rows of all crates would be public, and would test each place.
-fn put_row(table: &mut [u32], at: usize, kind: u32, first: u32, end: u32)
-    requires { at + meant.TOKEN_ROW ≤ length table.old }
-    ensures { table.new ≡ sets table.old at (kind ∷ first ∷ end ∷ []) }
+// Writes a row of three numbers from `at` on. It is private, as it asks for room; a public one would have to say what it does without.
+fn put_row(table: &mut [u32], at: usize, row: [u32; 3])
+    requires { at + 3 ≤ length table.old }
+    ensures { table.new ≡ sets table.old at row }
 {
-    table[at] = kind;
-    table[at + 1] = first;
-    table[at + 2] = end;
+    table[at..at + 3].copy_from_slice(&row);
 }
 
 // A token: its kind, and its bytes, a part of the rule.
@@ -286,13 +282,11 @@ fn find_quote(rest: &[u8]) -> Option<usize>
 }
 
 // 1 where the next byte is `=`, else 0.
+#[tactic(auto, using(crate::proofs::LexLaws::equals_front))]
 fn equals(rest: &[u8]) -> usize
     ensures { result ≡ equals rest.now }
 {
-    if rest.is_empty() {
-        return 0;
-    }
-    usize::from(rest[0] == b'=')
+    usize::from(rest.starts_with(b"="))
 }
 
 // Whether a byte goes on a token of this shape.

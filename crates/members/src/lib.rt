@@ -6,6 +6,7 @@ ghost use Rattle.members.specs.Member.{component_text, feature_text, port_text, 
 
 use board::image;
 use calls::value::Value;
+use matching::value::Direction;
 use texts::Writer;
 
 // The words for the numbers of a board, in the order of the numbers.
@@ -85,7 +86,7 @@ fn write_port(image: &[u8], feature: u32, out: &mut Writer<'_>)
     let direction = image::direction(image, feature);
     out.append(b", ");
     out.write_item(&FEATURE_KINDS, kind);
-    if direction == 0 {
+    if direction == Direction::None as u32 {
         return;
     }
     out.append(b", ");

@@ -129,7 +129,7 @@ fn head(form: Form, expected: u32) -> Pieces<'static>
 
 // What stands for the token found, which has no text at the end of the rule.
 #[tactic(auto, unfolding(crate::specs::Parts::found_of))]
-fn found_of<'a>(form: Form, text: &'a [u8]) -> Pieces<'a>
+fn found_of(form: Form, text: &[u8]) -> Pieces<'_>
     ensures { whole result ≡ found_of (number form) text.now }
 {
     match form {
@@ -141,7 +141,7 @@ fn found_of<'a>(form: Form, text: &'a [u8]) -> Pieces<'a>
 
 // `found` of `expect` and `expect_ident`: the token in quotes, or EOF without quotes.
 #[tactic(auto, using(crate::proofs::MessageLaws::found_none, crate::proofs::MessageLaws::found_some))]
-fn found<'a>(text: &'a [u8]) -> Pieces<'a>
+fn found(text: &[u8]) -> Pieces<'_>
     ensures { whole result ≡ found text.now }
 {
     if text.is_empty() {
@@ -153,7 +153,7 @@ fn found<'a>(text: &'a [u8]) -> Pieces<'a>
 
 // The text of a token, or EOF.
 #[tactic(auto, using(crate::proofs::MessageLaws::text_none, crate::proofs::MessageLaws::text_some))]
-fn text_or_eof<'a>(text: &'a [u8]) -> &'a [u8]
+fn text_or_eof(text: &[u8]) -> &[u8]
     ensures { result.now ≡ text_or_eof text.now }
 {
     if text.is_empty() { b"EOF" } else { text }
@@ -206,8 +206,5 @@ fn kind_name(kind: u32) -> &'static [u8]
 fn name_in(names: &[&'static [u8]], n: u32) -> &'static [u8]
     ensures { result.now ≡ nth (map (λ name. name.now) names.now) n }
 {
-    match names.get(n as usize) {
-        Some(name) => name,
-        None => b"",
-    }
+    names.get(n as usize).copied().unwrap_or(b"")
 }

@@ -1,15 +1,13 @@
 -- What the parser's methods ask and leave, put together as the definitions are, and what its looks see. Assumes nothing.
 use mathlib.Core.Path.{◌≡◌, refl, sym, ap, ◌∙◌}
-use mathlib.Core.List.{List, [], ◌∷◌, append_assoc}
+use mathlib.Core.List.{List, [], ◌∷◌}
 use mathlib.Core.Bool.{Bool, true, false, ◌&&◌, ◌||◌}
 use Prim.Native.Nat.{ℕ, ◌+◌, ◌-◌, ◌≤◌, ◌<◌, ◌^◌}
 use native.Mathlib.Omega.{arith}
 use lib.Dec.{eqb}
 use lib.Pointwise.{pointwise}
 use lib.ListN.{length, take, drop, length-drop}
-use lib.Seq.{sets, drop-drop, length-take-le}
-use borrow.Rule.Slice.PartMut.{put_mid}
-use Rattle.std.proofs.lemmas.List.Edits.{sets-eq}
+use lib.Seq.{sets}
 use Rattle.std.specs.Prelude.{Some, None, Result, Ok, Err, MatchResult}
 use borrow.Author.Tests.{ne_eqb}
 use Rattle.syntax.specs.Text.{ascii, same}
@@ -188,15 +186,6 @@ module _ {s d : ExprParser} {p q : Parser} (g : Ongoing s d p q) where
           rest = λ r b. g.rest r (did_as e (did_then w b));
           fewer = omega (arith, g.fewer, no_more w);
         }
-
--- ---- four numbers in the place of four
-
-pub put_is : (t row ys : List ℕ) (at : ℕ) → at + 4 ≤ length t → length ys ≡ length (take (at + 4 - at) (drop at t)) → ys ≡ row
-    → put_mid at (at + 4 - at) t ys ≡ sets t at row
-put_is t row ys at h l e =
-    let k : at + 4 - at ≡ 4 = omega arith in
-    let n : length row ≡ 4 = ap length (sym e) ∙ l ∙ rw k (length-take-le 4 (drop at t) (omega (arith, length-drop at t))) in
-    rw (e, k, drop-drop) (sym (append_assoc (take at t) row (drop (at + 4) t)) ∙ sym (rw n at (sets-eq row t at (omega arith))))
 
 -- ---- looks
 

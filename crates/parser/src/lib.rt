@@ -116,7 +116,7 @@ fn past_last(rule: &[u8], tokens: &[u32], kind: Kind) -> usize
     0
 }
 
-// A row of four numbers from `at` on. It is no more than a copy, which each crate has for its own rows: for all, it would test each place.
+// Writes a row of four numbers from `at` on. It is private, as it asks for room; a public one would have to say what it does without.
 fn put_row(table: &mut [u32], at: usize, row: [u32; 4])
     requires { at + 4 ≤ length table.old }
     ensures { table.new ≡ sets table.old at row }

@@ -90,26 +90,19 @@ fn predicate_row(rows: &[[u32; 4]]) -> usize
     ensures { result ≤ length rows.now }
 {
     let from = past_last_arguments(rows);
-    let found = rows[from..]
+    rows[from..]
         .iter()
-        .position(|row| u32::from(Kind::Root) <= row[0]);
-    match found {
-        Some(i) => from + i,
-        None => rows.len(),
-    }
+        .position(|row| u32::from(Kind::Root) <= row[0])
+        .map_or(rows.len(), |i| from + i)
 }
 
 // The index of the row past the last CALL_ARGS; 0 where there is none.
 fn past_last_arguments(rows: &[[u32; 4]]) -> usize
     ensures { result ≤ length rows.now }
 {
-    match rows
-        .iter()
+    rows.iter()
         .rposition(|row| row[0] == u32::from(Kind::CallArgs))
-    {
-        Some(i) => i + 1,
-        None => 0,
-    }
+        .map_or(0, |last| last + 1)
 }
 
 // A predicate by the place of its row in a tree, and what it is asked on.

@@ -1,14 +1,6 @@
--- `put_row` stores the three numbers one after the other. Assumes nothing.
-use native.Mathlib.Numerals.{add-one, add-two}
-use lib.ListN.{length-set}
-use native.Mathlib.Omega.{arith}
+-- `put_row` puts its three numbers in the place of those that stand there. Assumes nothing.
+use Rattle.lexer.proofs.ReadLaws.{put_is}
 use Rattle.lexer.proofs.put_row.Goals as goal
 
-pub bounds-table-at-2 : goal.bounds-table-at-2
-bounds-table-at-2 c = simp length-set (omega arith)
-
-pub bounds-table-at-3 : goal.bounds-table-at-3
-bounds-table-at-3 c = simp length-set (omega arith)
-
 pub returns : goal.returns
-returns c = rw (add-one, add-two)
+returns c = put_is _ _ _ _ 3 c.requires c.copy_from_slice.ensures.len c.copy_from_slice.ensures.after
