@@ -141,14 +141,6 @@ module _ {test : ℕ → Bool} {tree : List ℕ} {level from at : ℕ} {row : Ro
   pub found_failing : {r : Bool} → row.level ≡ level → r ≡ test row.kind → r ≡ false → Finding test tree level from (at + ROW)
   found_failing e t h = finding_on f i.whole (omega (arith, i.level)) (sym (passes e t) ∙ h)
 
--- how far rows below a level were passed over
-pub record Skipping (tree : List ℕ) (level from at : ℕ) : Type 0 where
-  pub later : from ≤ at
-  pub rest : past_below level (drop at tree) ≡ past_below level (drop from tree)
-
-pub skipping_start : {tree : List ℕ} {level from : ℕ} → Skipping tree level from from
-skipping_start = record { later = omega arith; rest = refl }
-
 -- a row that is below a level
 pub below_row : (tree : List ℕ) (level at : ℕ) → is_below tree level at ≡ true → (is_row tree at ≡ true) × (level < level_at tree at)
 unfolding is_below
@@ -183,23 +175,12 @@ passed_stop tree level at h = go (is_row tree at) refl
         stay : past_below level (row_and tree at) ≡ row_and tree at
         stay = rw (stops)
 
-module _ {tree : List ℕ} {level from at : ℕ} (s : Skipping tree level from at) where
-  pub skipping_on : is_below tree level at ≡ true → Skipping tree level from (at + ROW)
-  skipping_on h =
-      record {
-        later = omega (arith, s.later);
-        rest = sym (passed_row tree level at h) ∙ s.rest;
-      }
-
-  pub skipping_end : is_below tree level at ≡ false → Skips tree level from at
-  skipping_end h = record { later = s.later; here = sym (passed_stop tree level at h) ∙ s.rest }
-
 -- whether a row by itself is below a level
 abbrev pub row_test : ℕ → List ℕ → Bool
 row_test level row = ltb level (get_or row 1 0)
 
 -- as many of the first rows are passed over as are below the level
-pub chunks_passed : (level n : ℕ) (rows : List ℕ) → 4 * n ≤ length rows → length rows < 4 * n + 4 →
+chunks_passed : (level n : ℕ) (rows : List ℕ) → 4 * n ≤ length rows → length rows < 4 * n + 4 →
     drop (4 * prefix_len (row_test level) (first_chunks 4 n rows)) rows ≡ past_below level rows
 unfolding past_below
 chunks_passed level zero rows h l = sym (short_passed level rows (omega arith))
@@ -223,6 +204,7 @@ pub rest_read : (tree : List ℕ) (from : ℕ) (r : Option (Bor (List ℕ))) →
 rest_read tree from None h none z = z ∙ sym (drop_all from tree (elim h.0 [ inl l ↦ omega arith | inr l ↦ absurd (omega arith) ]))
 rest_read tree from (Some part) h none z = h.0.2 ∙ take_all (length tree - from) (drop from tree) (omega (arith, length-drop from tree))
 
+-- where that many are counted from a place on, the rows below the level are passed over
 pub skips : (tree : List ℕ) (level from : ℕ) {n : ℕ} → n ≡ prefix_len (row_test level) (first_chunks 4 (length (drop from tree) / 4) (drop from tree)) → Skips tree level from (from + 4 * n)
 skips tree level from {n} e =
     record {

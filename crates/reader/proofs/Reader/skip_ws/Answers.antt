@@ -1,11 +1,10 @@
 -- `skip_ws` passes as many rows as are blanks. Assumes nothing.
-use Rattle.std.proofs.Common.{rules, tests, ◌≡◌, ◌∙◌, ℕ, length, drop, ◌/◌, List, refl, ap}
+use Rattle.std.proofs.Common.{rules, tests, ◌≡◌, ◌∙◌, drop, refl, ap}
 use Rattle.std.proofs.lemmas.Iterator.{YieldsList-from_slice}
 use Rattle.std.proofs.lemmas.Iterator.Consumers.{count_from_yields_List}
 use Rattle.std.proofs.lemmas.Iterator.Search.{YieldsList-from_take_while}
 use Rattle.std.proofs.lemmas.List.Folds.{length-prefix_len}
 use Rattle.std.specs.List.{prefix_len}
-use Rattle.std.specs.Simd.{first_chunks}
 use Rattle.reader.proofs.ReaderLaws.{row_test, rest_read, blanks_passed}
 use Rattle.reader.proofs.Reader.skip_ws.Goals as goal
 
