@@ -2,11 +2,17 @@
 use mathlib.Core.Path.{◌≡◌, refl, sym, ap, ◌∙◌}
 use mathlib.Core.Bool.{Bool, true, false, ◌&&◌}
 use mathlib.Core.List.{List, [], ◌∷◌}
-use Prim.Native.Nat.{ℕ, suc, ◌+◌, ◌≤◌, ◌<◌}
+use Prim.Native.Nat.{ℕ, zero, suc, ◌+◌, ◌-◌, ◌*◌, ◌/◌, ◌≤◌, ◌<◌}
 use native.Mathlib.Omega.{arith}
 use lib.Dec.{ltb}
 use lib.ListN.{length, get_or, drop, length-drop}
-use lib.Seq.{drop-cons}
+use Rattle.std.proofs.Common.{cond, Option, None, Some, inl, inr, Bor}
+use Rattle.std.specs.Option.{unwrap_or}
+use Rattle.std.specs.Slice.{IsGetRangeResult}
+use Rattle.std.proofs.lemmas.List.{drop-drop, drop_all}
+use Rattle.std.specs.List.{prefix_len}
+use Rattle.std.specs.Simd.{first_chunks}
+use lib.Seq.{drop-cons, take_all}
 use borrow.Author.Tests.{lt-ltb, le-ltb, le-leb, lt-leb, eq-eqb, ne_eqb, leb-true, leb-false, ltb-true}
 use Rattle.trees.specs.Green.{nil}
 use Rattle.syntax.proofs.BoolLaws.{both}
@@ -135,14 +141,6 @@ module _ {test : ℕ → Bool} {tree : List ℕ} {level from at : ℕ} {row : Ro
   pub found_failing : {r : Bool} → row.level ≡ level → r ≡ test row.kind → r ≡ false → Finding test tree level from (at + ROW)
   found_failing e t h = finding_on f i.whole (omega (arith, i.level)) (sym (passes e t) ∙ h)
 
--- how far rows below a level were passed over
-pub record Skipping (tree : List ℕ) (level from at : ℕ) : Type 0 where
-  pub later : from ≤ at
-  pub rest : past_below level (drop at tree) ≡ past_below level (drop from tree)
-
-pub skipping_start : {tree : List ℕ} {level from : ℕ} → Skipping tree level from from
-skipping_start = record { later = omega arith; rest = refl }
-
 -- a row that is below a level
 pub below_row : (tree : List ℕ) (level at : ℕ) → is_below tree level at ≡ true → (is_row tree at ≡ true) × (level < level_at tree at)
 unfolding is_below
@@ -177,13 +175,39 @@ passed_stop tree level at h = go (is_row tree at) refl
         stay : past_below level (row_and tree at) ≡ row_and tree at
         stay = rw (stops)
 
-module _ {tree : List ℕ} {level from at : ℕ} (s : Skipping tree level from at) where
-  pub skipping_on : is_below tree level at ≡ true → Skipping tree level from (at + ROW)
-  skipping_on h =
-      record {
-        later = omega (arith, s.later);
-        rest = sym (passed_row tree level at h) ∙ s.rest;
-      }
+-- whether a row by itself is below a level
+abbrev pub row_test : ℕ → List ℕ → Bool
+row_test level row = ltb level (get_or row 1 0)
 
-  pub skipping_end : is_below tree level at ≡ false → Skips tree level from at
-  skipping_end h = record { later = s.later; here = sym (passed_stop tree level at h) ∙ s.rest }
+-- as many of the first rows are passed over as are below the level
+chunks_passed : (level n : ℕ) (rows : List ℕ) → 4 * n ≤ length rows → length rows < 4 * n + 4 →
+    drop (4 * prefix_len (row_test level) (first_chunks 4 n rows)) rows ≡ past_below level rows
+unfolding past_below
+chunks_passed level zero rows h l = sym (short_passed level rows (omega arith))
+chunks_passed level (suc n) [] h l = absurd (omega arith)
+chunks_passed level (suc n) (k ∷ []) h l = absurd (omega arith)
+chunks_passed level (suc n) (k ∷ m ∷ []) h l = absurd (omega arith)
+chunks_passed level (suc n) (k ∷ m ∷ a ∷ []) h l = absurd (omega arith)
+chunks_passed level (suc n) (k ∷ m ∷ a ∷ e ∷ rows) h l = by (ltb level m) (chunks_passed level n rows (omega arith) (omega arith))
+  where
+    some : ℕ
+    some = prefix_len (row_test level) (first_chunks 4 n rows)
+
+    by : (b : Bool) → drop (4 * some) rows ≡ past_below level rows → drop (4 * cond b (1 + some) 0) (k ∷ m ∷ a ∷ e ∷ rows) ≡ cond b (past_below level rows) (k ∷ m ∷ a ∷ e ∷ rows)
+    by true inner =
+        let four : 4 * (1 + some) ≡ suc (suc (suc (suc (4 * some)))) = omega arith in
+        ap (λ (i : ℕ). drop i (k ∷ m ∷ a ∷ e ∷ rows)) four ∙ inner
+    by false inner = refl
+
+-- the table from a place on, none where the place is past its end
+pub rest_read : (tree : List ℕ) (from : ℕ) (r : Option (Bor (List ℕ))) → IsGetRangeResult tree from (length tree) r → (none : Bor (List ℕ)) → none.now ≡ [] → (unwrap_or r none).now ≡ drop from tree
+rest_read tree from None h none z = z ∙ sym (drop_all from tree (elim h.0 [ inl l ↦ omega arith | inr l ↦ absurd (omega arith) ]))
+rest_read tree from (Some part) h none z = h.0.2 ∙ take_all (length tree - from) (drop from tree) (omega (arith, length-drop from tree))
+
+-- where that many are counted from a place on, the rows below the level are passed over
+pub skips : (tree : List ℕ) (level from : ℕ) {n : ℕ} → n ≡ prefix_len (row_test level) (first_chunks 4 (length (drop from tree) / 4) (drop from tree)) → Skips tree level from (from + 4 * n)
+skips tree level from {n} e =
+    record {
+      later = omega arith;
+      here = sym (drop-drop (4 * n) from tree) ∙ ap (λ (i : ℕ). drop (4 * i) (drop from tree)) e ∙ chunks_passed level (length (drop from tree) / 4) (drop from tree) (omega arith) (omega arith);
+    }

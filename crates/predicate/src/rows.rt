@@ -93,7 +93,7 @@ pub(crate) fn find_operator(tree: &[u32], level: usize, from: usize) -> Option<u
 }
 
 // The first row at a level whose kind passes a test, from a place on, before a row that is above the level. The rows end at a level, and not
-// at a number, so that a `while` says it, here and below.
+// at a number, so that a `while` says it.
 fn find<F: Fn(u32) -> bool>(tree: &[u32], level: usize, from: usize, test: F) -> Option<usize>
     requires { F.IsAlwaysCallable test }
     ensures { (p : ℕ → Bool) → Tells (F.post test) p → Finds p tree.now level from result }
@@ -116,11 +116,9 @@ fn find<F: Fn(u32) -> bool>(tree: &[u32], level: usize, from: usize, test: F) ->
 pub(crate) fn skip_below(tree: &[u32], level: usize, from: usize) -> usize
     ensures { Skips tree.now level from result }
 {
-    let mut at = from;
-    while is_below(tree, level, at) {
-        at += ROW;
-    }
-    at
+    let (rows, _) = tree.get(from..).unwrap_or(&[]).as_chunks::<ROW>();
+    let below = rows.iter().take_while(|row| level < row[1] as usize);
+    from + ROW * below.count()
 }
 
 // Whether a row is at a place and is below a level.

@@ -1,17 +1,21 @@
--- The row at a place as the numbers have it, and blanks passed one by one. Assumes nothing.
-use mathlib.Core.Path.{◌≡◌, refl, sym, ap}
-use mathlib.Core.Bool.{true, false}
+-- The row at a place as the numbers have it, and the blanks from a place on. Assumes nothing.
+use mathlib.Core.Path.{◌≡◌, refl, sym, ap, ◌∙◌}
+use mathlib.Core.Bool.{Bool, true, false}
 use mathlib.Core.List.{List, [], ◌∷◌}
-use Prim.Native.Nat.{ℕ, zero, suc, ◌+◌, ◌*◌, ◌≤◌, ◌<◌}
-use native.Mathlib.Numerals.{add-one}
+use Prim.Native.Nat.{ℕ, zero, suc, ◌+◌, ◌-◌, ◌*◌, ◌/◌, ◌≤◌, ◌<◌}
 use native.Mathlib.Omega.{arith}
-use borrow.Author.Tests.{eq-eqb, ne_eqb, eqb-true, eqb-false, ltb-true, ltb-false}
-use lib.Dec.{eqb, ltb}
-use lib.ListN.{length, drop, get_or}
-use Rattle.std.specs.Prelude.{Option, Some, None, slice_get}
-use Rattle.std.specs.Option.{option_map, option_eq}
+use borrow.Author.Tests.{eq-eqb, ne_eqb}
+use lib.Dec.{eqb}
+use lib.ListN.{length, drop, get_or, length-drop}
+use Rattle.std.proofs.Common.{cond, Option, None, Some, inl, inr, Bor}
+use Rattle.std.specs.Prelude.{slice_get}
+use lib.Seq.{take_all}
+use Rattle.std.specs.Slice.{IsGetRangeResult}
+use Rattle.std.specs.List.{prefix_len}
+use Rattle.std.specs.Simd.{first_chunks}
+use Rattle.std.proofs.lemmas.List.{drop_all}
+use Rattle.std.specs.Option.{option_map, unwrap_or}
 use Rattle.syntax.specs.Kind.{WHITESPACE}
-use Rattle.syntax.proofs.BoolLaws.{whether}
 use Rattle.reader.specs.declared.Row.{Row}
 use Rattle.reader.specs.Reader.{rows_of, row_at, kind_at, blanks, past_ws, current_kind}
 
@@ -40,45 +44,6 @@ row_none (a ∷ b ∷ []) i h = refl
 row_none (a ∷ b ∷ d ∷ rows) zero h = absurd (omega arith)
 row_none (a ∷ b ∷ d ∷ rows) (suc i) h = row_none rows i (omega arith)
 
--- a test of the code for a kind
-pub is_kind : (o : Option ℕ) (k : ℕ) → true ≡ option_eq eqb o (Some k) → o ≡ Some k
-is_kind None k e = cc
-is_kind (Some j) k e = ap Some (eqb-true _ _ (sym e))
-
-pub is_other : (o : Option ℕ) (k : ℕ) → false ≡ option_eq eqb o (Some k) → o ≡ Some k → ⊥
-is_other None k e q = cc
-is_other (Some j) k e q = let w : j ≡ k = cc in eqb-false _ _ (sym e) w
-
--- a blank has a whole row
-pub blank_within : (rows : List ℕ) (i : ℕ) → kind_at rows i ≡ Some WHITESPACE → 3 * i + 3 ≤ length rows
-unfolding kind_at
-blank_within rows i e = whether (ltb (length rows) (3 * i + 3)) (λ t. absurd (go _ (row_none rows i (ltb-true _ _ t)) e)) (λ t. ltb-false _ _ t)
-  where
-    go : (o : Option Row) → None ≡ o → option_map (λ (r : Row). r.kind) o ≡ Some WHITESPACE → ⊥
-    go None p q = cc
-    go (Some r) p q = cc
-
--- a blank is passed: the same place is looked for from the next on
-pub past_blank : (rows : List ℕ) (i : ℕ) → kind_at rows i ≡ Some WHITESPACE → past_ws rows (i + 1) ≡ past_ws rows i
-unfolding kind_at row_at past_ws
-past_blank rows i e = rw add-one (omega (arith, go (rows_of rows) i e))
-  where
-    go : (rs : List Row) (i : ℕ) → option_map (λ (r : Row). r.kind) (slice_get rs i) ≡ Some WHITESPACE → blanks (drop i rs) ≡ suc (blanks (drop (suc i) rs))
-    go [] i q = cc
-    go (r ∷ rs) zero q = let e : r.kind ≡ WHITESPACE = cc in rw (eq-eqb _ _ e, blanks)
-    go (r ∷ rs) (suc i) q = go rs i q
-
--- at a token that is no blank, and at the end, it is found
-pub past_stop : (rows : List ℕ) (i : ℕ) → (kind_at rows i ≡ Some WHITESPACE → ⊥) → i ≡ past_ws rows i
-unfolding kind_at row_at past_ws
-past_stop rows i n = omega (arith, go (rows_of rows) i n)
-  where
-    go : (rs : List Row) (i : ℕ) → (option_map (λ (r : Row). r.kind) (slice_get rs i) ≡ Some WHITESPACE → ⊥) → blanks (drop i rs) ≡ 0
-    go [] zero q = refl
-    go [] (suc i) q = refl
-    go (r ∷ rs) zero q = rw (ne_eqb _ _ (λ e. q (ap Some e)), blanks)
-    go (r ∷ rs) (suc i) q = go rs i q
-
 -- the kind of the first token that is no blank, row by row
 module _ (k first end : ℕ) (rows : List ℕ) where
   abbrev kind_of_row : ℕ → Option ℕ
@@ -101,3 +66,38 @@ module _ (k first end : ℕ) (rows : List ℕ) where
   current_solid q =
       let e : 0 + blanks (record { kind = k; first = first; end = end } ∷ rows_of rows) ≡ 0 = rw (ne_eqb _ _ q, blanks) (omega arith) in
       ap kind_of_row e
+
+-- whether a row by itself is a blank
+abbrev pub row_test : List ℕ → Bool
+row_test row = eqb (get_or row 0 0) WHITESPACE
+
+-- the rest of the rows from a place on, none where the place is past the last
+pub rest_read : (xs : List (List ℕ)) (from : ℕ) (r : Option (Bor (List (List ℕ)))) → IsGetRangeResult xs from (length xs) r → (none : Bor (List (List ℕ))) → none.now ≡ [] → (unwrap_or r none).now ≡ drop from xs
+rest_read xs from None h none z = z ∙ sym (drop_all from xs (elim h.0 [ inl l ↦ omega arith | inr l ↦ absurd (omega arith) ]))
+rest_read xs from (Some part) h none z = h.0.2 ∙ take_all (length xs - from) (drop from xs) (omega (arith, length-drop from xs))
+
+-- as many of the first rows are blanks as are passed
+blanks_first : (n : ℕ) (rows : List ℕ) → 3 * n ≤ length rows → length rows < 3 * n + 3 → (i : ℕ) →
+    prefix_len row_test (drop i (first_chunks 3 n rows)) ≡ blanks (drop i (rows_of rows))
+unfolding rows_of blanks
+blanks_first zero [] h l zero = refl
+blanks_first zero [] h l (suc i) = refl
+blanks_first zero (a ∷ []) h l zero = refl
+blanks_first zero (a ∷ []) h l (suc i) = refl
+blanks_first zero (a ∷ b ∷ []) h l zero = refl
+blanks_first zero (a ∷ b ∷ []) h l (suc i) = refl
+blanks_first zero (a ∷ b ∷ d ∷ rows) h l i = absurd (omega arith)
+blanks_first (suc n) [] h l i = absurd (omega arith)
+blanks_first (suc n) (a ∷ []) h l i = absurd (omega arith)
+blanks_first (suc n) (a ∷ b ∷ []) h l i = absurd (omega arith)
+blanks_first (suc n) (a ∷ b ∷ d ∷ rows) h l zero = by (eqb a WHITESPACE) (blanks_first n rows (omega arith) (omega arith) zero)
+  where
+    by : (t : Bool) {x y : ℕ} → x ≡ y → cond t (1 + x) 0 ≡ cond t (suc y) 0
+    by true e = omega arith
+    by false e = refl
+blanks_first (suc n) (a ∷ b ∷ d ∷ rows) h l (suc i) = blanks_first n rows (omega arith) (omega arith) i
+
+-- the place past the blanks, by their number
+pub blanks_passed : (rows : List ℕ) (place : ℕ) {n : ℕ} → n ≡ prefix_len row_test (drop place (first_chunks 3 (length rows / 3) rows)) → place + n ≡ past_ws rows place
+unfolding past_ws
+blanks_passed rows place e = ap (λ k. place + k) (e ∙ blanks_first (length rows / 3) rows (omega arith) (omega arith) place)

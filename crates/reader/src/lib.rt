@@ -39,15 +39,14 @@ impl<'a> Reader<'a> {
         self.skip_ws().kind()
     }
 
-    // The reader past the blanks that stand next. They end at a kind, and not at a number, so that a `while` says it.
+    // The reader past the blanks that stand next.
     pub fn skip_ws(self) -> Reader<'a>
         ensures { (result.rows ≡ self.entry.rows) × (result.place ≡ past_ws self.entry.rows.now self.entry.place) }
     {
-        let mut reader = self;
-        while reader.kind() == Some(Kind::Whitespace as u32) {
-            reader.place += 1;
-        }
-        reader
+        let (rows, _) = self.rows.as_chunks::<TOKEN_ROW>();
+        let rest = rows.get(self.place..).unwrap_or(&[]);
+        let blanks = rest.iter().take_while(|r| r[0] == Kind::Whitespace as u32);
+        Reader::new(self.rows, self.place + blanks.count())
     }
 
     // The kind of the next token.
