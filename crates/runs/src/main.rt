@@ -8,6 +8,7 @@ ghost use Rattle.std.specs.Prelude.{◌<◌, ◌≤◌};
 
 use calls::value::{Outcome, Value};
 use cases::{Cases, noise};
+use eval::Answer;
 use std::io;
 use std::io::Write;
 use trees::Reading;
@@ -114,36 +115,48 @@ fn run_case<W: Write>(out: &mut W, image: &[u8], case: &Case<'_>, seed: usize) -
     let mut tree = noise::table::<ROWS>(seed + 8);
     let mut errors = noise::table::<ROWS>(seed + 16);
     let mut collection = noise::table::<COLLECTION>(seed + 24);
-    print_run(
-        out,
-        case.rule.unwrap_or(&[]),
-        image,
-        &mut tokens[..case.tokens],
-        &mut tree[..case.tree],
-        &mut errors[..case.errors],
-        &mut collection[..case.collection],
-    )
+    let mut tables = Tables {
+        tokens: &mut tokens[..case.tokens],
+        tree: &mut tree[..case.tree],
+        errors: &mut errors[..case.errors],
+        collection: &mut collection[..case.collection],
+    };
+    tables.print_run(out, case.rule.unwrap_or(&[]), image)
 }
 
-// Prints the answer's numbers, a digest of each table, and the members of a collection.
-fn print_run<W: Write>(
-    out: &mut W,
-    rule: &[u8],
-    image: &[u8],
-    tokens: &mut [u32],
-    tree: &mut [u32],
-    errors: &mut [u32],
-    collection: &mut [u32],
-) -> io::Result<()> {
-    let answer = eval::run(rule, image, tokens, tree, errors, collection);
-    print_outcome(out, answer.outcome)?;
-    write!(out, "{} ", u32::from(answer.verdict))?;
-    print_reading(out, answer.reading)?;
-    write!(out, "{} {} ", digest(tokens), digest(tree))?;
-    writeln!(out, "{} {}", digest(errors), digest(collection))?;
-    match answer.outcome {
-        Ok(value) => print_members(out, rows::members(value, collection)),
-        Err(_) => Ok(()),
+// The four tables that a rule runs with.
+#[derive(Drop)]
+struct Tables<'a> {
+    tokens: &'a mut [u32],
+    tree: &'a mut [u32],
+    errors: &'a mut [u32],
+    collection: &'a mut [u32],
+}
+
+impl Tables<'_> {
+    fn run(&mut self, rule: &[u8], image: &[u8]) -> Answer {
+        eval::run(
+            rule,
+            image,
+            self.tokens,
+            self.tree,
+            self.errors,
+            self.collection,
+        )
+    }
+
+    // Runs the rule, and prints the answer's numbers, a digest of each table, and the members of a collection.
+    fn print_run<W: Write>(&mut self, out: &mut W, rule: &[u8], image: &[u8]) -> io::Result<()> {
+        let answer = self.run(rule, image);
+        print_outcome(out, answer.outcome)?;
+        write!(out, "{} ", u32::from(answer.verdict))?;
+        print_reading(out, answer.reading)?;
+        write!(out, "{} {} ", digest(self.tokens), digest(self.tree))?;
+        writeln!(out, "{} {}", digest(self.errors), digest(self.collection))?;
+        match answer.outcome {
+            Ok(value) => print_members(out, rows::members(value, self.collection)),
+            Err(_) => Ok(()),
+        }
     }
 }
 
