@@ -95,7 +95,7 @@ fn bits_at(image: &[u8], marked: &[Marked], most: u8, component: u32) -> Option<
     Some(first + 2 * second + 4 * third + 8 * fourth)
 }
 
-// Whether the j-th marked `has` is true by the mark of a component, as 1 or 0; 0 where there are not so many.
+// Whether the j-th marked `has` is true by the mark of a component, as 1 or 0, one bit of a number; 0 where there are not so many.
 #[tactic(auto, unfolding(crate::specs::Marked::bit_at))]
 fn bit(marked: &[Marked], most: u8, component: usize, j: usize) -> usize
     requires { component < meant.BLOCK }
@@ -124,7 +124,7 @@ impl<'a> Sorts<'a> {
         }
         let level = tree[at + 1] as usize;
         let mut row = at + rows::ROW;
-        // The rows end at a level, and not at a number, so that a `while` says it.
+        // The place of a row is asked for and not the row: a chain over rows would count them, and make places of the numbers.
         while rows::is_below(tree, level, row) {
             if !self.is_told(rule, tree, row, member) {
                 return true;

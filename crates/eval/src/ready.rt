@@ -77,7 +77,7 @@ fn put_calls(rule: &[u8], tree: &[u32], at: usize, source: usize, calls: &mut [C
     let level = rows::level_at(tree, at) as usize;
     let mut row = source;
     let mut count = 0;
-    // The rows end at a level, and not at a number, so that a `while` says it.
+    // The place of a row is asked for and not the row: a chain over rows would count them, and make places of the numbers.
     while rows::is_below(tree, level, row) {
         if is_call(tree, level + 1, row) {
             calls[count] = call_at(rule, tree, row);

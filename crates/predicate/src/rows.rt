@@ -42,7 +42,7 @@ pub fn kind_at(tree: &[u32], at: usize) -> Result<Kind, UnknownKind>
     Kind::try_from(tree.get(at).copied().unwrap_or(0))
 }
 
-// Its level; 0 where no row is there.
+// Its level; 0 where no row is there. The definitions have these numbers for any table, so that places need no test.
 #[inline(always)]
 pub fn level_at(tree: &[u32], at: usize) -> u32
     ensures { result ≡ level_at tree.now at }
@@ -92,8 +92,8 @@ pub(crate) fn find_operator(tree: &[u32], level: usize, from: usize) -> Option<u
     find(tree, level, from, |k| is_comparison(k))
 }
 
-// The first row at a level whose kind passes a test, from a place on, before a row that is above the level. The rows end at a level, and not
-// at a number, so that a `while` says it.
+// The first row at a level whose kind passes a test, from a place on, before a row that is above the level. A chain
+// would ask each row's level twice, to go on and to find.
 fn find<F: Fn(u32) -> bool>(tree: &[u32], level: usize, from: usize, test: F) -> Option<usize>
     requires { F.IsAlwaysCallable test }
     ensures { (p : ℕ → Bool) → Tells (F.post test) p → Finds p tree.now level from result }

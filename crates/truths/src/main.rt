@@ -96,7 +96,7 @@ fn predicate_row(rows: &[[u32; 4]]) -> usize
         .map_or(rows.len(), |i| from + i)
 }
 
-// The index of the row past the last CALL_ARGS; 0 where there is none.
+// The index of the row past the last CALL_ARGS; 0, the first row's, where there is none.
 fn past_last_arguments(rows: &[[u32; 4]]) -> usize
     ensures { result ≤ length rows.now }
 {

@@ -75,7 +75,7 @@ fn args_text<'a>(rule: &'a [u8], tree: &[u32], call: usize) -> &'a [u8]
     }
 }
 
-// A number of the row at a place; 0 where the table does not have it.
+// A number of the row at a place; 0 where the table does not have it, as the definition has it for any table.
 fn number_at(tree: &[u32], at: usize, number: usize) -> u32
     ensures { result ≡ get_or tree.now (at + number) 0 }
 {
