@@ -272,10 +272,6 @@ module _ (image : List ℕ) (call : Call) (calls : List Call) (h : call.method �
 
 -- ---- the last call, found one call at a time
 
-pub last_none : last_call [] ≡ none
-unfolding last_call
-last_none = refl
-
 pub last_here : (call : Call) (calls : List Call) → is_last call.method ≡ true → last_call (call ∷ calls) ≡ some call
 unfolding last_call
 last_here call calls e = rw e
