@@ -33,7 +33,8 @@ fn print_reading<W: Write>(out: &mut W, rule: &[u8]) -> io::Result<()> {
     }
 }
 
-// Prints the first n rows of a tree table, or as many as it has.
+// Prints the first n rows of a tree table, or as many as it has. `replay` has the same: one for both would be public, with no contract that
+// says what is printed.
 fn print_tree<W: Write>(out: &mut W, table: &[u32], n: usize) -> io::Result<()> {
     for row in rows::first::<4>(table, n) {
         let [kind, level, first, end] = *row;
