@@ -4,7 +4,7 @@
 
 pub mod noise;
 
-ghost use Rattle.std.specs.Prelude.{◌≡◌, ◌↔◌, ◌+◌, ◌<◌, ◌≤◌, length, take, drop, IsSome, IfSome, IfNone, MatchOption, []};
+ghost use Rattle.std.specs.Prelude.{◌≡◌, ◌↔◌, ◌+◌, ◌<◌, ◌≤◌, length, take, drop, IsSome, IfSome, IfNone, MatchOption, [], Ok};
 ghost use Rattle.cases.specs.File.{is_digit_of, number, past_number};
 ghost use Rattle.std.specs.Iterator.{at_most};
 
@@ -117,8 +117,11 @@ pub trait Replayed<'a>: Case<'a> + Drop {
     fn run<W: Write>(self, out: &mut W) -> io::Result<()>;
 }
 
-// Runs the cases of a file from the first on, and stops at one that is not in the format.
-pub fn replay<'a, C: Replayed<'a>, W: Write>(out: &mut W, input: &'a [u8]) -> io::Result<()> {
+// Runs the cases of a file from the first on, and stops at one that is not in the format. Of a file without bytes nothing is run or printed;
+// what is printed of others is for each kind of case to say.
+pub fn replay<'a, C: Replayed<'a>, W: Write>(out: &mut W, input: &'a [u8]) -> io::Result<()>
+    ensures { input.now ≡ [] → (result ≡ Ok tt) × (out.new ≡ out.old) }
+{
     for (i, case) in Cases::<C>::new(input).enumerate() {
         let Some(case) = case else {
             return writeln!(out, "not a case");
