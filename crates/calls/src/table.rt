@@ -2,27 +2,69 @@
 ghost use Rattle.std.specs.Prelude.{◌≡◌};
 ghost use Rattle.meaning.specs.Calls.{gives};
 
+use Refusal::{
+    CountOnNoCollection, DiagnosticsOnNoDiagnostics, FeaturesOnNoComponents,
+    QuantifierOnNoCollection, WhereOnNoCollection,
+};
+use ValueKind::{Boolean, Components, Count, Diagnostics, Features};
 use meaning::{Method, ValueKind};
 use syntax::refusal::Refusal;
 
-// What a call gives on a kind: the rows of the table, each with the kinds that it takes and then the others.
+type Entry = Result<ValueKind, Refusal>;
+
+// The calls but `where` on a collection, of whatever members, give one kind; on others each call has its refusal.
+const QUANTIFIER: [Entry; 5] = [
+    Ok(Boolean),
+    Ok(Boolean),
+    Ok(Boolean),
+    Err(QuantifierOnNoCollection),
+    Err(QuantifierOnNoCollection),
+];
+
+// A line for each call and a column for each kind, in their order.
+const NEXT: [[Entry; 5]; 7] = [
+    // where
+    [
+        Ok(Components),
+        Ok(Features),
+        Ok(Diagnostics),
+        Err(WhereOnNoCollection),
+        Err(WhereOnNoCollection),
+    ],
+    // all, any, none
+    QUANTIFIER,
+    QUANTIFIER,
+    QUANTIFIER,
+    // count
+    [
+        Ok(Count),
+        Ok(Count),
+        Ok(Count),
+        Err(CountOnNoCollection),
+        Err(CountOnNoCollection),
+    ],
+    // features
+    [
+        Ok(Features),
+        Err(FeaturesOnNoComponents),
+        Err(FeaturesOnNoComponents),
+        Err(FeaturesOnNoComponents),
+        Err(FeaturesOnNoComponents),
+    ],
+    // diagnostics
+    [
+        Err(DiagnosticsOnNoDiagnostics),
+        Err(DiagnosticsOnNoDiagnostics),
+        Ok(Diagnostics),
+        Err(DiagnosticsOnNoDiagnostics),
+        Err(DiagnosticsOnNoDiagnostics),
+    ],
+];
+
+// What a call gives on a kind: its place in the table.
 #[tactic(auto, unfolding(meaning::specs::Calls::gives))]
 pub fn next_kind(method: Method, kind: ValueKind) -> Result<ValueKind, Refusal>
     ensures { result ≡ gives method kind }
 {
-    use ValueKind::{Components, Features, Diagnostics, Boolean, Count};
-    match (method, kind) {
-        (Method::Where, Components | Features | Diagnostics) => Ok(kind),
-        (Method::Where, _) => Err(Refusal::WhereOnNoCollection),
-        (Method::All | Method::Any | Method::None, Components | Features | Diagnostics) => {
-            Ok(Boolean)
-        }
-        (Method::All | Method::Any | Method::None, _) => Err(Refusal::QuantifierOnNoCollection),
-        (Method::Count, Components | Features | Diagnostics) => Ok(Count),
-        (Method::Count, _) => Err(Refusal::CountOnNoCollection),
-        (Method::Features, Components) => Ok(Features),
-        (Method::Features, _) => Err(Refusal::FeaturesOnNoComponents),
-        (Method::Diagnostics, Diagnostics) => Ok(Diagnostics),
-        (Method::Diagnostics, _) => Err(Refusal::DiagnosticsOnNoDiagnostics),
-    }
+    NEXT[method as usize][kind as usize]
 }

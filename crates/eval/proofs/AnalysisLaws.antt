@@ -13,7 +13,7 @@ use Rattle.syntax.proofs.BoolLaws.{whether}
 use Rattle.board.specs.Image.{text, analysis}
 use Rattle.predicate.specs.declared.atom.Member.TheVariants.{Diagnostic}
 use Rattle.meaning.specs.Pipeline.{is_of_analysis}
-use Rattle.eval.specs.declared.source.Analysis.{Analysis}
+use Rattle.eval.specs.declared.analysis.Analysis.{Analysis}
 use Rattle.eval.specs.Analysis.{KNOWN, Known}
 
 -- a diagnostic by the string of its analysis

@@ -13,4 +13,5 @@ pub mod MarkedLaws
 pub mod MemoLaws
 pub mod AnalysisLaws
 pub mod StepLaws
+pub mod FoundLaws
 pub mod SentLaws

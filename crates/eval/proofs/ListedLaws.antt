@@ -1,6 +1,6 @@
 -- Members listed or counted where no predicate is asked: row after row, and what that comes to by the calls. Assumes nothing.
 use mathlib.Core.Path.{◌≡◌, refl, sym, ap, ◌∙◌, subst}
-use mathlib.Core.Bool.{Bool, false}
+use mathlib.Core.Bool.{Bool, true, false}
 use mathlib.Core.List.{List, [], ◌∷◌, ◌++◌, map, append-nil}
 use Prim.Native.Nat.{ℕ, zero, suc, ◌+◌, ◌-◌, ◌*◌, ◌≤◌, ◌<◌}
 use native.Mathlib.Nat.{zero-add}
@@ -9,14 +9,15 @@ use lib.ListN.{length, length-append}
 use lib.Seq.{sets, length-sets}
 use Rattle.syntax.proofs.TableLaws.{sets_append}
 use Rattle.board.specs.Check.{COLLECTION_ROW}
-use Rattle.board.specs.Image.{component_count, first_feature}
+use Rattle.board.specs.Image.{component_count, diagnostic_count, first_feature}
 use Rattle.instance.specs.Instance.{features_end}
 use Rattle.predicate.specs.declared.atom.Member.{Member}
-use Rattle.predicate.specs.declared.atom.Member.TheVariants.{Component, Feature}
+use Rattle.predicate.specs.declared.atom.Member.TheVariants.{Component, Feature, Diagnostic}
 use Rattle.meaning.specs.Value.{row_of, rows_of}
 use Rattle.meaning.specs.declared.Method.{Method}
 use Rattle.meaning.specs.declared.Method.TheVariants.{Count, Features}
 use Rattle.meaning.specs.Calls.{Call, kept, up_from, features_of, fan_out}
+use Rattle.meaning.specs.Pipeline.{is_of_analysis}
 use Rattle.meaning.specs.Walk.{arrivals, arrive_by, last_call, how_many}
 use Rattle.meaning.proofs.WalkLaws.{up_to, up_turn, up_over, up_all, features_made, rows_append, rows_length}
 use Rattle.eval.specs.declared.ready.Call.{Call as PlacedCall}
@@ -25,6 +26,7 @@ use Rattle.std.specs.Prelude.{Option, Some}
 use Rattle.eval.specs.Ready.{call_in, nth, CallAt, IsCall, calls_from}
 use Rattle.eval.specs.Feed.{state_of, begin, arrive, fed, Fits}
 use Rattle.eval.specs.Listed.{every_component, every_feature, Lists}
+use Rattle.eval.specs.Walk.{every_of_analysis}
 use Rattle.eval.proofs.ReadyLaws.{calls_at, calls_over}
 use Rattle.eval.proofs.FeedLaws.{state, state_is}
 
@@ -57,6 +59,11 @@ module _ {all : List Member} {first : ℕ} {before : List ℕ} {rest : List Memb
       place : COLLECTION_ROW * r ≡ COLLECTION_ROW * row + length (rows_of xs)
       place = omega (arith, w.row, rows_length xs)
 
+  -- one is passed over
+  pub listing_skip : {others : List Member} {r : ℕ} {after : List ℕ} → rest ≡ others → r ≡ row → after ≡ table → Listing all first before others r after
+  unfolding rows_of
+  listing_skip {others} e h t = listing_on [] e (record { row = omega (arith, h); table = t })
+
   -- all are
   pub listing_end : rest ≡ [] → Lists all first before table row
   unfolding rows_of
@@ -84,6 +91,20 @@ module _ (make : ℕ → Member) (first end : ℕ) where
   pub made_none : end ≤ first → map make (up_to first end) ≡ []
   made_none h = ap (map make) (up_over first end h)
 
+-- those of them that pass a test
+module _ (passes : Member → Bool) (make : ℕ → Member) (first end : ℕ) where
+  pub kept_first : passes (make first) ≡ true → first < end → kept passes (map make (up_to first end)) ≡ make first ∷ kept passes (map make (up_to (first + 1) end))
+  unfolding kept
+  kept_first t h = rw (up_turn first end h, t)
+
+  pub kept_others : passes (make first) ≡ false → first < end → kept passes (map make (up_to first end)) ≡ kept passes (map make (up_to (first + 1) end))
+  unfolding kept
+  kept_others t h = rw (up_turn first end h, t)
+
+  pub kept_nobody : end ≤ first → kept passes (map make (up_to first end)) ≡ []
+  unfolding kept
+  kept_nobody h = ap (kept passes) (made_none make first end h)
+
 made_number : (make : ℕ → Member) (first n : ℕ) → length (map make (up_from first n)) ≡ n
 unfolding up_from
 made_number make first zero = refl
@@ -94,6 +115,13 @@ every_made image e = ap (map Component) (up_all (component_count image) ∙ ap (
 
 pub features_are : (image : List ℕ) (c : ℕ) {first end : ℕ} → end ≡ features_end image c → first ≡ first_feature image c → features_of image c ≡ map (Feature c) (up_to first end)
 features_are image c e f = features_made image c ∙ λ i. map (Feature c) (up_to (sym f i) (sym e i))
+
+-- the diagnostics of an analysis from one on
+abbrev pub diagnostics_from : (image name : List ℕ) → (diagnostic count : ℕ) → List Member
+diagnostics_from image name diagnostic count = kept (is_of_analysis image name) (map Diagnostic (up_to diagnostic count))
+
+pub diagnostics_made : (image name : List ℕ) {count : ℕ} → count ≡ diagnostic_count image → every_of_analysis image name ≡ diagnostics_from image name 0 count
+diagnostics_made image name e = ap (λ (ns : List ℕ). kept (is_of_analysis image name) (map Diagnostic ns)) (up_all (diagnostic_count image) ∙ ap (up_to 0) (sym e))
 
 -- how many a component has
 pub features_number : (image : List ℕ) (c : ℕ) {first end : ℕ} → end ≡ features_end image c → first ≡ first_feature image c → end - first ≡ length (features_of image c)
@@ -136,6 +164,25 @@ module _ {image : List ℕ} {component count features : ℕ} (k : Counting image
 
   pub counting_end : count ≤ component → features ≡ length (every_feature image)
   counting_end h = omega (arith, k.number, ap length (owned_none image component count h))
+
+-- ---- counting the diagnostics of an analysis: no more than there are diagnostics
+
+pub record CountingThese (all rest : List Member) (diagnostic counted : ℕ) : Type 0 where
+  pub number : counted + length rest ≡ length all
+  pub most : counted ≤ diagnostic
+
+pub these_start : {all rest : List Member} → all ≡ rest → CountingThese all rest 0 0
+these_start {all} {rest} e = record { number = zero-add (length rest) ∙ sym (ap length e); most = omega arith }
+
+module _ {all rest : List Member} {diagnostic counted : ℕ} (k : CountingThese all rest diagnostic counted) where
+  pub these_on : {m : Member} {others : List Member} {n : ℕ} → rest ≡ m ∷ others → n ≡ counted + 1 → CountingThese all others (diagnostic + 1) n
+  these_on e h = record { number = omega (arith, k.number, ap length e, h); most = omega (arith, k.most, h) }
+
+  pub these_skip : {others : List Member} {n : ℕ} → rest ≡ others → n ≡ counted → CountingThese all others (diagnostic + 1) n
+  these_skip e h = record { number = omega (arith, k.number, ap length e, h); most = omega (arith, k.most, h) }
+
+  pub these_end : rest ≡ [] → counted ≡ length all
+  these_end e = omega (arith, k.number, ap length e)
 
 -- ---- what that comes to by the calls
 
@@ -186,21 +233,24 @@ module _ (rule image tree : List ℕ) (rows : List PlacedCall) where
 
   -- no call
   module _ (h : length rows ≤ 0) where
-    pub listed_room : {last : Method} {table : List ℕ} → Fits last image (from 0) (every_component image) (begin table) → COLLECTION_ROW * length (every_component image) ≤ length table
+    pub listed_room : {last : Method} (ms : List Member) {table : List ℕ} → Fits last image (from 0) ms (begin table) → COLLECTION_ROW * length ms ≤ length table
     unfolding arrivals
-    listed_room {last} {table} f =
-        let n = ap (λ (calls : List Call). length (arrivals image calls (every_component image))) (calls_over rule tree rows 0 h) in
+    listed_room {last} ms {table} f =
+        let n = ap (λ (calls : List Call). length (arrivals image calls ms)) (calls_over rule tree rows 0 h) in
         omega (arith, f.room, n)
 
-    pub listed_all : {before after : List ℕ} {r : ℕ} → Lists (every_component image) 0 before after r → state r 0 after ≡ fed image (from 0) (every_component image) (begin before)
-    listed_all {before} w = fed_listed image (every_component image) w ∙ ap (λ (calls : List Call). fed image calls (every_component image) (begin before)) (sym (calls_over rule tree rows 0 h))
+    pub listed_all : (ms : List Member) {before after : List ℕ} {r : ℕ} → Lists ms 0 before after r → state r 0 after ≡ fed image (from 0) ms (begin before)
+    listed_all ms {before} w = fed_listed image ms w ∙ ap (λ (calls : List Call). fed image calls ms (begin before)) (sym (calls_over rule tree rows 0 h))
 
   -- `count` first
+  pub counted_these : (ms : List Member) {n : ℕ} (table : List ℕ) → IsCall rows 0 Count → n ≡ length ms → state n 0 table ≡ fed image (from 0) ms (begin table)
+  counted_these ms table c e =
+      state_is e refl refl
+      ∙ fed_counted image (call_at 0) (from 1) ms table c.is
+      ∙ ap (λ (calls : List Call). fed image calls ms (begin table)) (sym (calls_at rule tree rows 0 c.there))
+
   pub counted_all : {n : ℕ} (table : List ℕ) → IsCall rows 0 Count → n ≡ component_count image → state n 0 table ≡ fed image (from 0) (every_component image) (begin table)
-  counted_all table c e =
-      state_is (e ∙ sym (made_number Component 0 (component_count image))) refl refl
-      ∙ fed_counted image (call_at 0) (from 1) (every_component image) table c.is
-      ∙ ap (λ (calls : List Call). fed image calls (every_component image) (begin table)) (sym (calls_at rule tree rows 0 c.there))
+  counted_all table c e = counted_these (every_component image) table c (e ∙ sym (made_number Component 0 (component_count image)))
 
   -- `features` first
   module _ (f : IsCall rows 0 Features) where

@@ -29,7 +29,7 @@ use Rattle.profile.specs.Profile.{numbered, profile_of, asks_more, asks_field}
 use Rattle.profile.proofs.ProfileLaws.{Alike, components, features, diagnostics, compare_asks, same_profile, settle_alike}
 use Rattle.eval.specs.declared.marked.Marked.{Marked}
 use Rattle.eval.specs.declared.marked.Sorts.{Sorts}
-use Rattle.eval.specs.Marked.{HASES, WAYS, BLOCK, OF_COMPONENT, OF_FEATURE, no_row, row_in, value_of, mark_for, has_marks, MarksOf, Marks, Made, counts, bit_at, bits_at, bits_by, bits_of, Told, plain, by_marks, RowsTold, RowTold, TellsBelow, HasRow}
+use Rattle.eval.specs.Marked.{HASES, WAYS, BLOCK, HIGHEST_OF_COMPONENT, HIGHEST_OF_FEATURE, no_row, row_in, value_of, mark_for, has_marks, MarksOf, Marks, Made, counts, bit_at, bits_at, bits_by, bits_of, Told, plain, by_marks, RowsTold, RowTold, TellsBelow, HasRow}
 
 -- all nodes of a forest ask for no more of a member than its profile and its bits
 unfoldable pub NodesTold : (rule tree : List ℕ) → Sorts → Member → Forest → Type 0
@@ -82,8 +82,8 @@ four_small : (marked : List Marked) (most c : ℕ) → four marked most c < WAYS
 four_small marked most c = omega (arith, bit_small marked most c 0, bit_small marked most c 1, bit_small marked most c 2, bit_small marked most c 3)
 
 pub bits_small : (image : List ℕ) (marked : List Marked) (m : Member) {bits : ℕ} → bits_by image marked m ≡ Some bits → bits < WAYS
-bits_small image marked (Component c) e = omega (arith, (bits_are image marked OF_COMPONENT c e).are, four_small marked OF_COMPONENT c)
-bits_small image marked (Feature c f) e = omega (arith, (bits_are image marked OF_FEATURE c e).are, four_small marked OF_FEATURE c)
+bits_small image marked (Component c) e = omega (arith, (bits_are image marked HIGHEST_OF_COMPONENT c e).are, four_small marked HIGHEST_OF_COMPONENT c)
+bits_small image marked (Feature c f) e = omega (arith, (bits_are image marked HIGHEST_OF_FEATURE c e).are, four_small marked HIGHEST_OF_FEATURE c)
 bits_small image marked (Diagnostic d) {bits} e =
     let z : ◌≡◌ {A = ℕ} 0 bits = cc in
     omega arith
@@ -116,20 +116,20 @@ module _ {rule image tree : List ℕ} {marked : List Marked} (w : Marks rule ima
     abbrev value : List ℕ
     value = value_of rule tree (row_in marked j).row
 
-    bit_component : (c : ℕ) → has_marks image c ≡ true → bit_at marked OF_COMPONENT c j ≡ cond (has image (Component c) value) 1 0
+    bit_component : (c : ℕ) → has_marks image c ≡ true → bit_at marked HIGHEST_OF_COMPONENT c j ≡ cond (has image (Component c) value) 1 0
     unfolding bit_at has
     bit_component c i = rw ((w.so j h).so c i) (by (has_property_of image c value) (has_feature image c value))
       where
-        by : (p f : Bool) → ◌≡◌ {A = ℕ} (cond (counts (mark_by p f) OF_COMPONENT) 1 0) (cond (p || f) 1 0)
+        by : (p f : Bool) → ◌≡◌ {A = ℕ} (cond (counts (mark_by p f) HIGHEST_OF_COMPONENT) 1 0) (cond (p || f) 1 0)
         by true f = refl
         by false true = refl
         by false false = refl
 
-    bit_feature : (c f : ℕ) → has_marks image c ≡ true → bit_at marked OF_FEATURE c j ≡ cond (has image (Feature c f) value) 1 0
+    bit_feature : (c f : ℕ) → has_marks image c ≡ true → bit_at marked HIGHEST_OF_FEATURE c j ≡ cond (has image (Feature c f) value) 1 0
     unfolding bit_at has
     bit_feature c f i = rw ((w.so j h).so c i) (by (has_property_of image c value) (has_feature image c value))
       where
-        by : (p f : Bool) → ◌≡◌ {A = ℕ} (cond (counts (mark_by p f) OF_FEATURE) 1 0) (cond p 1 0)
+        by : (p f : Bool) → ◌≡◌ {A = ℕ} (cond (counts (mark_by p f) HIGHEST_OF_FEATURE) 1 0) (cond p 1 0)
         by true f = refl
         by false true = refl
         by false false = refl
@@ -154,10 +154,10 @@ module _ {rule image tree : List ℕ} {marked : List Marked} (w : Marks rule ima
         go : {m n : Member} → Alike image held m n → bits_by image marked m ≡ Some bits → bits_by image marked n ≡ Some bits
             → has image m (value_of rule tree (row_in marked j).row) ≡ has image n (value_of rule tree (row_in marked j).row)
         go (components {c} {d} p o) e l =
-            same_here j h OF_COMPONENT c d (has image (Component c) (value j h)) (has image (Component d) (value j h))
+            same_here j h HIGHEST_OF_COMPONENT c d (has image (Component c) (value j h)) (has image (Component d) (value j h))
             (bit_component j h c) (bit_component j h d) e l
         go (features {c} {f} {d} {g} p o q r) e l =
-            same_here j h OF_FEATURE c d (has image (Feature c f) (value j h)) (has image (Feature d g) (value j h))
+            same_here j h HIGHEST_OF_FEATURE c d (has image (Feature c f) (value j h)) (has image (Feature d g) (value j h))
             (bit_feature j h c f) (bit_feature j h d g) e l
         go (diagnostics p) e l = refl
 

@@ -234,6 +234,10 @@ module _ {start w : Walk} {i : ℕ} {all rest : List Member} (g : Going start i 
   pub going_profile : (m : Member) {p : Option ℕ} → p ≡ profile_of start.pipeline.image.now start.sorts.held m → p ≡ profile_of w.pipeline.image.now w.sorts.held m
   going_profile m e = e ∙ λ j. profile_of (sym g.same.pipeline j).image.now (sym g.same.sorts j).held m
 
+  -- and so is a call
+  pub going_call : {j : ℕ} {m : Method} → IsCall start.pipeline.calls.now j m → IsCall w.pipeline.calls.now j m
+  going_call {j} {m} = subst (λ (p : Pipeline). IsCall p.calls.now j m) (sym g.same.pipeline)
+
   -- some are passed over
   pub going_skip : {others : List Member} → Alike start.pipeline.image.now (calls_at start.pipeline i) rest (calls_at start.pipeline i) others → Going start i all others w
   going_skip a = record { same = g.same; feeding = feeding_skip g.feeding a; sound = g.sound }
@@ -245,6 +249,9 @@ module _ {start w : Walk} {i : ℕ} {all rest : List Member} (g : Going start i 
 -- ---- a walk from its beginning
 
 module _ {p : Pipeline} {collection : ℕ} {table : List ℕ} {sorts : Sorts} {name : ℕ} {notes : List Note} {w : Walk} (b : Begins p collection table sorts name notes w) (of : List ℕ → List Member) where
+  pub begun_call : {i : ℕ} {m : Method} → IsCall p.calls.now i m → IsCall w.pipeline.calls.now i m
+  begun_call {i} {m} = subst (λ (q : Pipeline). IsCall q.calls.now i m) (sym b.pipeline)
+
   pub begun : SendsAll p (of p.image.now) table → SoundOf p sorts notes → Sending w 0 (of w.pipeline.image.now)
   begun f n =
       record {
@@ -348,14 +355,15 @@ first_sending {w} {c} first p = alike_sending (features_first w c first) p
 pub first_sent : {w v : Walk} {c : ℕ} → IsCall w.pipeline.calls.now 0 Features → Sent w 1 (features_of w.pipeline.image.now c) v → Sent w 0 (Component c ∷ []) v
 first_sent {w} {c = c} first s = alike_sent (features_first w c first) s
 
--- a step that the notes tell is taken
-module _ {w : Walk} {i place : ℕ} {m : Member} {found : Option Step} (p : Sending w i (m ∷ [])) (at : place_of w.pipeline.image.now w.sorts m ≡ Some place)
-    (s : Steps w.pipeline.calls.now i place w.notes.now found) {step : Step} (e : found ≡ Some step) where
-  told : StepIs w.pipeline.image.now (calls_at w.pipeline i) m step
-  told = s.so w.pipeline.rule.now w.pipeline.image.now w.pipeline.tree.now w.sorts m p.sound at step e
+-- the step of a member whose notes begin at a place, as they tell it
+pub told_step : {w : Walk} {i place : ℕ} {m : Member} {found : Option Step} → Sending w i (m ∷ []) → place_of w.pipeline.image.now w.sorts m ≡ Some place
+    → Steps w.pipeline.calls.now i place w.notes.now found → {step : Step} → found ≡ Some step → StepIs w.pipeline.image.now (calls_at w.pipeline i) m step
+told_step {w} {m = m} p at s {step} e = s.so w.pipeline.rule.now w.pipeline.image.now w.pipeline.tree.now w.sorts m p.sound at step e
 
+-- a step is taken
+module _ {w : Walk} {i : ℕ} {m : Member} {step : Step} (p : Sending w i (m ∷ [])) (t : StepIs w.pipeline.image.now (calls_at w.pipeline i) m step) where
   pub step_takes : Takes w step
-  step_takes = record { room = step_room told p.fits; fewer = p.fits.fewer }
+  step_takes = record { room = step_room t p.fits; fewer = p.fits.fewer }
 
   pub step_sent : {v : Walk} → Moved w (after step m (state_in w)) v → Sent w i (m ∷ []) v
-  step_sent l = sent_moved p l (told.same (state_in w))
+  step_sent l = sent_moved p l (t.same (state_in w))

@@ -2,7 +2,7 @@
 use Rattle.std.specs.Prelude.{ℕ, List, Bool, Option, Some, None, ◌≡◌, get_or}
 use Rattle.syntax.specs.Text.{same}
 use Rattle.board.specs.Image.{text}
-use Rattle.eval.specs.declared.source.Analysis.{Analysis}
+use Rattle.eval.specs.declared.analysis.Analysis.{Analysis}
 
 -- how many analyses are known
 abbrev pub KNOWN : ℕ

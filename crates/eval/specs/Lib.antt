@@ -1,5 +1,6 @@
 pub mod Ready
 pub mod Feed
+pub mod Found
 pub mod Pipeline
 pub mod Run
 pub mod Marked

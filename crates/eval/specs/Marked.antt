@@ -30,10 +30,11 @@ BLOCK = 4096
 abbrev pub ROWS : ℕ
 ROWS = 256
 
--- the j-th of the rows, if there are so many
+-- what stands where there is no such row
 abbrev pub no_row : Marked
 no_row = record { row = 0; marks = [] }
 
+-- the j-th of the rows, if there are so many
 abbrev pub row_in : List Marked → ℕ → Marked
 row_in marked j = get_or marked j no_row
 
@@ -64,11 +65,11 @@ pub record Made (rule image tree : List ℕ) (marked : List Marked) (n : ℕ) : 
   pub so : (j : ℕ) → j < n → MarksOf rule image tree (row_in marked j)
 
 -- the highest mark by which a `has` is true of a component, and of a feature of it
-abbrev pub OF_COMPONENT : ℕ
-OF_COMPONENT = 2
+abbrev pub HIGHEST_OF_COMPONENT : ℕ
+HIGHEST_OF_COMPONENT = 2
 
-abbrev pub OF_FEATURE : ℕ
-OF_FEATURE = 1
+abbrev pub HIGHEST_OF_FEATURE : ℕ
+HIGHEST_OF_FEATURE = 1
 
 -- whether a mark says so, by the highest that does
 abbrev pub counts : (mark most : ℕ) → Bool
@@ -86,8 +87,8 @@ bits_at image marked most c =
 
 -- those of a member
 abbrev pub bits_by : List ℕ → List Marked → Member → Option ℕ
-bits_by image marked (Component c) = bits_at image marked OF_COMPONENT c
-bits_by image marked (Feature c f) = bits_at image marked OF_FEATURE c
+bits_by image marked (Component c) = bits_at image marked HIGHEST_OF_COMPONENT c
+bits_by image marked (Feature c f) = bits_at image marked HIGHEST_OF_FEATURE c
 bits_by image marked (Diagnostic d) = Some 0
 
 -- and 0 where no row has marks

@@ -25,10 +25,11 @@ use Rattle.eval.specs.declared.ready.Plan.{Plan}
 abbrev pub call_in : (rule tree : List ℕ) → PlacedCall → Call
 call_in rule tree call = record { method = call.method; args = children_at rule tree call.args }
 
--- the i-th, if there are so many
+-- what stands where there is no such call
 abbrev pub no_call : PlacedCall
 no_call = record { method = Where; args = 0 }
 
+-- the i-th, if there are so many
 abbrev pub nth : List PlacedCall → ℕ → PlacedCall
 nth calls i = get_or calls i no_call
 
@@ -69,11 +70,11 @@ pub record Holds (rule tree : List ℕ) (all : List Call) (rows : List PlacedCal
 abbrev pub first_last : List PlacedCall → Method
 first_last rows = unwrap_or (option_map (λ (call : PlacedCall). call.method) (find (λ (call : PlacedCall). is_last call.method) rows)) Where
 
--- the kind after all calls, or the refusal of the leftmost that may not stand where it stands; and the last call. The calls say it without
--- rule and tree
+-- the kind after all calls, or the refusal of the leftmost that may not stand where it stands. The calls say it without rule and tree
 pub record KindAfter (rows : List PlacedCall) (source : ValueKind) (r : Result ValueKind Refusal) : Type 0 where
   pub next : (rule tree : List ℕ) → r ≡ plan_of source (calls_in rule tree rows)
 
+-- the method of the last call, as the definitions have it
 pub record LastMethod (rows : List PlacedCall) (r : Method) : Type 0 where
   pub method : (rule tree : List ℕ) → r ≡ last_method (calls_in rule tree rows)
 

@@ -25,13 +25,15 @@ use Rattle.eval.specs.Memo.{note_for, args_of, Sound}
 use Rattle.eval.specs.Feed.{State, state_of, begin, fed, walked, Decides, Fits, Stands}
 use Rattle.eval.specs.Step.{arrives}
 
--- the calls of a pipeline from the i-th on, its last call, and that what notes say of it is so
+-- the calls of a pipeline from the i-th on
 abbrev pub calls_at : Pipeline → ℕ → List Call
 calls_at p i = calls_from p.rule.now p.tree.now p.calls.now i
 
+-- its last call
 abbrev pub last_of : Pipeline → Method
 last_of p = p.last
 
+-- what notes say of it is so
 abbrev pub SoundOf : Pipeline → Sorts → List Note → Type 0
 SoundOf p sorts notes = Sound p.rule.now p.image.now p.tree.now p.calls.now sorts notes
 

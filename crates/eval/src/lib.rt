@@ -2,6 +2,8 @@
 // refusals 9 to 16 are settled, and only then the collection table is written.
 #![tactic(auto)]
 
+pub mod analysis;
+pub mod found;
 pub mod held;
 pub mod listed;
 pub mod marked;

@@ -3,8 +3,10 @@ ghost use Rattle.std.specs.Prelude.{◌≡◌, ◌+◌, ◌*◌, ◌≤◌, leng
 ghost use Rattle.board.specs.Check.{COLLECTION_ROW};
 ghost use Rattle.meaning.specs.Calls.{features_of};
 ghost use Rattle.eval.specs.Listed.{every_component, every_feature, Lists};
+ghost use Rattle.eval.specs.Walk.{every_of_analysis};
 
-use crate::walk;
+use crate::analysis::KNOWN;
+use crate::{analysis, walk};
 use board::image;
 use board::image::Section;
 use instance;
@@ -40,8 +42,7 @@ fn list_features(image: &[u8], component: u32, first: usize, collection: &mut [u
     requires { COLLECTION_ROW * (first + length (features_of image.now component)) ≤ length collection.old }
     ensures { Lists (features_of image.now component) first collection.old collection.new result }
 {
-    let end = instance::features_end(image, component);
-    let start = image::first_feature(image, component);
+    let (start, end) = instance::features(image, component);
     let mut row = first;
     for feature in start..end {
         walk::put_member(collection, row, Member::Feature(component, feature));
@@ -66,7 +67,38 @@ pub(crate) fn count_owned(image: &[u8]) -> usize
 fn count_features(image: &[u8], component: u32) -> u32
     ensures { result ≡ length (features_of image.now component) }
 {
-    let end = instance::features_end(image, component);
-    let first = image::first_feature(image, component);
+    let (first, end) = instance::features(image, component);
     end.saturating_sub(first)
+}
+
+// Writes the rows of the diagnostics of the analysis with this name, and gives their number.
+pub(crate) fn list_diagnostics(image: &[u8], name: &[u8], collection: &mut [u32]) -> usize
+    requires { COLLECTION_ROW * length (every_of_analysis image.now name.now) ≤ length collection.old }
+    ensures { Lists (every_of_analysis image.now name.now) 0 collection.old collection.new result }
+{
+    let count = image::record_count(image, Section::Diagnostics);
+    let mut known = [None; KNOWN];
+    let mut row = 0;
+    for diagnostic in 0..count {
+        if analysis::is_of_analysis(image, name, diagnostic, &mut known) {
+            walk::put_member(collection, row, Member::Diagnostic(diagnostic));
+            row += 1;
+        }
+    }
+    row
+}
+
+// How many diagnostics are of the analysis with this name.
+pub(crate) fn count_diagnostics(image: &[u8], name: &[u8]) -> usize
+    ensures { result ≡ length (every_of_analysis image.now name.now) }
+{
+    let count = image::record_count(image, Section::Diagnostics);
+    let mut known = [None; KNOWN];
+    let mut diagnostics = 0;
+    for diagnostic in 0..count {
+        if analysis::is_of_analysis(image, name, diagnostic, &mut known) {
+            diagnostics += 1;
+        }
+    }
+    diagnostics
 }

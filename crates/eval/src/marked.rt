@@ -28,9 +28,9 @@ const BLOCK: usize = 4096;
 pub(crate) const ROWS: usize = 256;
 
 // The highest mark by which a `has` is true of a component, and of a feature of it. Marks are bytes, as the crate `marks` has them.
-const OF_COMPONENT: u8 = 2;
+const HIGHEST_OF_COMPONENT: u8 = 2;
 
-const OF_FEATURE: u8 = 1;
+const HIGHEST_OF_FEATURE: u8 = 1;
 
 // The place of the row of a `has`, and the marks of the components.
 #[derive(Clone, Copy)]
@@ -70,8 +70,8 @@ pub(crate) fn bits(image: &[u8], marked: &[Marked], member: Member) -> Option<us
     ensures { result ≡ bits_by image.now marked.now member }
 {
     match member {
-        Member::Component(component) => bits_at(image, marked, OF_COMPONENT, component),
-        Member::Feature(component, _) => bits_at(image, marked, OF_FEATURE, component),
+        Member::Component(component) => bits_at(image, marked, HIGHEST_OF_COMPONENT, component),
+        Member::Feature(component, _) => bits_at(image, marked, HIGHEST_OF_FEATURE, component),
         Member::Diagnostic(_) => Some(0),
     }
 }
@@ -124,7 +124,7 @@ impl<'a> Sorts<'a> {
         }
         let level = tree[at + 1] as usize;
         let mut row = at + rows::ROW;
-        // The place of a row is asked for and not the row: a chain over rows would count them, and make places of the numbers.
+        // A `while` over places: numbers of rows would have to be made places again.
         while rows::is_below(tree, level, row) {
             if !self.is_told(rule, tree, row, member) {
                 return true;

@@ -17,7 +17,7 @@ use profile;
 // The calls whose predicates are noted. That of a later call is asked of each member.
 const NOTED_CALLS: usize = 4;
 
-// The notes for each of the bits, and for all.
+// The notes for one value of the bits, and for all.
 pub(crate) const WAY_NOTES: usize = profile::PROFILES * NOTED_CALLS;
 
 pub(crate) const NOTES: usize = WAY_NOTES * marked::WAYS;
@@ -56,8 +56,7 @@ impl Note {
 }
 
 impl<'a> Sorts<'a> {
-    // Where the notes of a member with this profile begin, if it has any. The way of most members goes where nothing is marked: there it is
-    // the profile.
+    // Where the notes of a member with this profile begin, if it has any. Where nothing is marked, as for most members, it is the profile.
     #[inline(always)]
     pub(crate) fn place_of(
         self,

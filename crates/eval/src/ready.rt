@@ -28,7 +28,7 @@ pub(crate) fn nth(calls: &[Call], i: usize) -> Option<Call>
     calls.get(i).copied()
 }
 
-// What is known of a pipeline before any member is looked at: the row of its source, the number of its calls and the kind that they come
+// What is known of a pipeline before any member is looked at: the place of its source's row, the number of its calls and the kind that they come
 // to.
 #[derive(Clone, Copy)]
 pub(crate) struct Plan {
@@ -77,7 +77,7 @@ fn put_calls(rule: &[u8], tree: &[u32], at: usize, source: usize, calls: &mut [C
     let level = rows::level_at(tree, at) as usize;
     let mut row = source;
     let mut count = 0;
-    // The place of a row is asked for and not the row: a chain over rows would count them, and make places of the numbers.
+    // A `while` over places: numbers of rows would have to be made places again.
     while rows::is_below(tree, level, row) {
         if is_call(tree, level + 1, row) {
             calls[count] = call_at(rule, tree, row);

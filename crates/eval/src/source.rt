@@ -1,36 +1,28 @@
-// `eval_source`: the members of a source, each sent through the calls. Components are sent as `walk` sends members, with notes where there
-// are enough of them; diagnostics if their analysis has the name asked for.
+// `eval_source`: the members of a source, each sent through the calls: as was found of its profile (`found`) where nothing is marked, as the
+// notes tell (`walk`) where something is, and by asking where there are few. Diagnostics are sent if their analysis has the name asked for.
 ghost use Rattle.std.specs.Prelude.{◌≡◌, true, [], ◌∷◌};
 ghost use Rattle.meaning.specs.declared.Method.TheVariants.{Features};
-ghost use Rattle.meaning.specs.Pipeline.{is_of_analysis};
 ghost use Rattle.eval.specs.Ready.{IsCall};
 ghost use Rattle.eval.specs.Listed.{every_component};
-ghost use Rattle.eval.specs.Analysis.{Known};
+ghost use Rattle.eval.specs.Found.{FoundSo};
+ghost use Rattle.meaning.specs.Calls.{features_of};
 ghost use Rattle.eval.specs.Walk.{every_of_analysis, SendsAll, SentAll, Sending, Sent};
 
+use crate::analysis::KNOWN;
+use crate::found::Profiles;
 use crate::marked::{Marked, Sorts};
 use crate::memo::Note;
 use crate::ready::Call;
 use crate::walk::{Pipeline, Tally, Walk};
-use crate::{held, listed, marked, memo, ready};
+use crate::{analysis, held, listed, marked, memo, ready};
 use board::image;
 use board::image::Section;
+use instance;
 use meaning::Method;
 use predicate::atom::Member;
 use profile;
 use profile::Held;
 use syntax::kind::Kind;
-use syntax::text;
-
-// How many analyses are known: that of a string is at its number's rest by this.
-const KNOWN: usize = 8;
-
-// An analysis by its string, and whether its text is the name asked for.
-#[derive(Clone, Copy)]
-struct Analysis {
-    string: u32,
-    named: bool,
-}
 
 // On a board with fewer components nothing is noted of them where their category is compared; on one with fewer than the second nothing
 // where a `has` is asked, which needs marks.
@@ -89,7 +81,11 @@ impl<'a> Pipeline<'a> {
             marked: &[],
         };
         let mut walk = Walk::new(self, collection, sorts, &mut notes);
-        walk.feed_each_component();
+        if begins_with_features(self.calls) {
+            walk.send_each_feature();
+        } else {
+            walk.send_each_component();
+        }
         walk.tally
     }
 
@@ -135,8 +131,24 @@ impl<'a> Pipeline<'a> {
         walk.tally
     }
 
-    // `analysis('name')`: the diagnostics of the analysis with this name.
+    // `analysis('name')`: the diagnostics of the analysis with this name. Where there is no call all have rows, and a first call `count` gives
+    // their number.
     pub(crate) fn feed_diagnostics(self, name: &[u8], collection: &mut [u32]) -> Tally
+        requires { SendsAll self (every_of_analysis self.image.now name.now) collection.old }
+        ensures { SentAll self.entry (every_of_analysis self.entry.image.now name.now) collection.old collection.new result }
+    {
+        let Some(first) = ready::nth(self.calls, 0) else {
+            return tally_of(listed::list_diagnostics(self.image, name, collection));
+        };
+        if first.method == Method::Count {
+            return tally_of(listed::count_diagnostics(self.image, name));
+        }
+        self.feed_noted_diagnostics(name, collection)
+    }
+
+    // Sends every diagnostic of the analysis through the calls, with notes. It is not inlined, so that its loop has the registers for itself.
+    #[inline(never)]
+    fn feed_noted_diagnostics(self, name: &[u8], collection: &mut [u32]) -> Tally
         requires { SendsAll self (every_of_analysis self.image.now name.now) collection.old }
         ensures { SentAll self.entry (every_of_analysis self.entry.image.now name.now) collection.old collection.new result }
     {
@@ -180,6 +192,58 @@ impl<'a> Walk<'a> {
         }
     }
 
+    // Sends every component through the calls, as was found of its profile.
+    fn send_each_component(&mut self)
+        requires { Sending self.old 0 (every_component self.old.pipeline.image.now) }
+        ensures { Sent self.old 0 (every_component self.old.pipeline.image.now) self.new }
+    {
+        let image = self.pipeline.image;
+        let held = self.sorts.held;
+        let count = image::record_count(image, Section::Components);
+        let mut profiles = Profiles::NONE;
+        for component in 0..count {
+            let profile = profile::component_profile(image, held, component);
+            self.send_as_found(0, Member::Component(component), profile, &mut profiles);
+            if self.is_decided() {
+                return;
+            }
+        }
+    }
+
+    // Sends the features of every component through the calls after the first, as was found of their profiles.
+    fn send_each_feature(&mut self)
+        requires { Sending self.old 0 (every_component self.old.pipeline.image.now) × IsCall self.old.pipeline.calls.now 0 Features }
+        ensures { Sent self.old 0 (every_component self.old.pipeline.image.now) self.new }
+    {
+        let count = image::record_count(self.pipeline.image, Section::Components);
+        let mut profiles = Profiles::NONE;
+        for component in 0..count {
+            self.send_features(component, &mut profiles);
+            if self.is_decided() {
+                return;
+            }
+        }
+    }
+
+    // Sends the features of a component.
+    #[inline(always)]
+    fn send_features(&mut self, component: u32, profiles: &mut Profiles)
+        requires { Sending self.old 1 (features_of self.old.pipeline.image.now component) × FoundSo self.old 1 profiles.old.found }
+        ensures { Sent self.old 1 (features_of self.old.pipeline.image.now component) self.new × FoundSo self.new 1 profiles.new.found }
+    {
+        let image = self.pipeline.image;
+        let held = self.sorts.held;
+        let (first, end) = instance::features(image, component);
+        let owner = profile::component_profile(image, held, component);
+        for feature in first..end {
+            let profile = profile::owned_profile(image, held, owner, feature);
+            self.send_as_found(1, Member::Feature(component, feature), profile, profiles);
+            if self.is_decided() {
+                return;
+            }
+        }
+    }
+
     // Sends one component: its features where they are asked for first; by asking where nothing is noted; else as the notes tell.
     fn feed_component(&mut self, component: u32)
         requires { Sending self.old 0 (Member.Component component ∷ []) }
@@ -204,37 +268,16 @@ impl<'a> Walk<'a> {
         let image = self.pipeline.image;
         let count = image::record_count(image, Section::Diagnostics);
         let mut known = [None; KNOWN];
+        let mut profiles = Profiles::NONE;
         for diagnostic in 0..count {
-            if !is_of_analysis(image, name, diagnostic, &mut known) {
+            if !analysis::is_of_analysis(image, name, diagnostic, &mut known) {
                 continue;
             }
             let profile = profile::diagnostic_profile(image, diagnostic);
-            self.send(0, Member::Diagnostic(diagnostic), profile);
+            self.send_as_found(0, Member::Diagnostic(diagnostic), profile, &mut profiles);
             if self.is_decided() {
                 return;
             }
         }
     }
-}
-
-// Whether the analysis of a diagnostic has this name. The text is compared only where it is not among those that are known.
-fn is_of_analysis(
-    image: &[u8],
-    name: &[u8],
-    diagnostic: u32,
-    known: &mut [Option<Analysis>; KNOWN],
-) -> bool
-    requires { Known image.now name.now known.old }
-    ensures { (result ≡ is_of_analysis image.now name.now (Member.Diagnostic diagnostic)) × Known image.now name.now known.new }
-{
-    let string = image::analysis(image, diagnostic);
-    let at = string as usize % KNOWN;
-    if let Some(analysis) = known[at] {
-        if analysis.string == string {
-            return analysis.named;
-        }
-    }
-    let named = text::same(image::string(image, string), name);
-    known[at] = Some(Analysis { string, named });
-    named
 }

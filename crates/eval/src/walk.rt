@@ -81,8 +81,8 @@ impl<'a> Pipeline<'a> {
     }
 }
 
-// A walk through the calls: what is looked at, the collection table, what members are told apart by, what is noted of the calls' predicates, and
-// who arrived. Notes are none where nothing is to be noted; those of one way where nothing is marked, and else those of all.
+// A walk through the calls: what is looked at, the collection table, what members are told apart by, what is noted of the calls' predicates,
+// and who arrived. Notes are none where nothing is to be noted; those of bits 0 where nothing is marked, and else those of all bits.
 #[derive(Drop)]
 pub(crate) struct Walk<'a> {
     pub pipeline: Pipeline<'a>,
@@ -158,8 +158,7 @@ impl<'a> Walk<'a> {
         ensures { Sent self.old i (features_of self.old.pipeline.image.now component) self.new }
     {
         let image = self.pipeline.image;
-        let first = image::first_feature(image, component);
-        let end = instance::features_end(image, component);
+        let (first, end) = instance::features(image, component);
         let owner = profile::component_profile(image, self.sorts.held, component);
         for feature in first..end {
             self.feed_feature(i, component, feature, owner);
@@ -211,7 +210,7 @@ impl<'a> Walk<'a> {
 
     // What was told happens to a member.
     #[inline(always)]
-    fn take(&mut self, step: Step, member: Member)
+    pub(crate) fn take(&mut self, step: Step, member: Member)
         requires { Takes self.old step }
         ensures { Moved self.old (after step member (state_in self.old)) self.new }
     {

@@ -5,7 +5,7 @@
 ghost use Rattle.std.specs.Prelude.{◌≡◌, ◌<◌, ℕ, Bool, take};
 ghost use Rattle.instance.specs.Instance.{some, component_connected, end_is, feature_connected, owners_wired, has_property, features_end, has_feature};
 ghost use Rattle.instance.specs.Places.{PLACES, other_owner, joins_at, is_property_at, feature_is_at, Skipped, Tells, IsOwned, record_passes};
-ghost use Rattle.board.specs.Image.{record_count};
+ghost use Rattle.board.specs.Image.{first_feature, record_count};
 
 use board::image;
 use board::image::Section;
@@ -187,7 +187,8 @@ pub fn has_feature(image: &[u8], component: u32, name: &[u8]) -> bool
     ensures { result ≡ has_feature image.now component name.now }
 {
     let first = image::section_offset(image, Section::Features) as usize;
-    for n in image::first_feature(image, component)..features_end(image, component) {
+    let (start, end) = features(image, component);
+    for n in start..end {
         if feature_is(image, name, first + RECORD_SIZE * (n as usize)) {
             return true;
         }
@@ -203,13 +204,15 @@ fn feature_is(image: &[u8], name: &[u8], at: usize) -> bool
     image::string_is(image, image::word(image, at), name)
 }
 
-// The place past a component's last feature, as far as the features go.
+// The features of a component, as far as the features go: the first, and the place past the last.
 #[tactic(auto, unfolding(crate::specs::Instance::features_end))]
-pub fn features_end(image: &[u8], component: u32) -> u32
-    ensures { result ≡ features_end image.now component }
+#[inline(always)]
+pub fn features(image: &[u8], component: u32) -> (u32, u32)
+    ensures first { result.0 ≡ first_feature image.now component }
+    ensures end { result.1 ≡ features_end image.now component }
 {
-    let first = image::first_feature(image, component) as usize;
+    let first = image::first_feature(image, component);
     let features = image::features_of(image, component) as usize;
     let count = image::record_count(image, Section::Features) as usize;
-    (first + features).min(count) as u32
+    (first, (first as usize + features).min(count) as u32)
 }

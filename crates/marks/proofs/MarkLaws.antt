@@ -1,13 +1,13 @@
 -- What stands at a place of the marks, and how far the passes have come: properties looked at one by one, where those that are left
 -- decide what is not marked yet; and components looked at one by one. Assumes nothing.
 use mathlib.Core.Path.{◌≡◌, refl, sym, ap, ◌∙◌, subst}
-use mathlib.Core.Bool.{Bool, true, false, not, ◌&&◌, ◌||◌, cond}
+use mathlib.Core.Bool.{Bool, true, false, ◌&&◌, ◌||◌, cond, and-false}
 use mathlib.Core.List.{List, [], ◌∷◌}
 use Prim.Native.Nat.{ℕ, zero, suc, ◌+◌, ◌-◌, ◌≤◌, ◌<◌}
 use native.Mathlib.Nat.{sub-zero}
 use native.Mathlib.Numerals.{add-one}
 use native.Mathlib.Omega.{arith}
-use borrow.Author.Tests.{eq-eqb, ne_eqb, lt-ltb, le-ltb, eqb-true, eqb-false, ltb-true, ltb-false, not-true, not-false}
+use borrow.Author.Tests.{eq-eqb, ne_eqb, lt-ltb, le-ltb, eqb-true, eqb-false, ltb-true, ltb-false}
 use lib.Dec.{eqb, ltb}
 use lib.ListN.{length, get_or, set, replicate, length-set, length-replicate, get_or-replicate}
 use lib.Seq.{set_out, get_or-set_same, get_or-set_other, ext_get_or}
@@ -117,20 +117,19 @@ module _ {image set name : List ℕ} {size count n : ℕ} {marks : List ℕ} (p 
       none : (c : ℕ) → get_or marks c 0 ≡ cond (some (is_property image c set name) n (count - n)) 1 (get_or marks c 0)
       none c = let over : count - n ≡ 0 = omega arith in rw over
 
--- its owner is marked where it is named so and there is a mark
+-- the owner of a property is marked where there is a mark
+pub owner_outside : (image marks : List ℕ) (property : ℕ) {owner : ℕ} → owner ≡ property_component image property → length marks ≤ owner → marks ≡ set marks (property_component image property) 1
+owner_outside image marks property {owner} f l = rw (← f) (sym (set_out marks owner 1 l))
+
+-- a property that was looked at
 module _ (image set_name name : List ℕ) (property : ℕ) (marks : List ℕ) {r : Bool} (e : r ≡ is_named image set_name name property) where
-  pub owner_unnamed : not r ≡ true → marks ≡ marked image set_name name property marks
+  pub marked_named : r ≡ true → set marks (property_component image property) 1 ≡ marked image set_name name property marks
   unfolding marked
-  owner_unnamed h = rw (sym e ∙ not-true r h)
+  marked_named t = rw (sym e ∙ t)
 
-  module _ {owner : ℕ} (h : not r ≡ false) (f : owner ≡ property_component image property) where
-    pub owner_marked : set marks owner 1 ≡ marked image set_name name property marks
-    unfolding marked
-    owner_marked = rw (sym e ∙ not-false r h, f)
-
-    pub owner_outside : length marks ≤ owner → marks ≡ marked image set_name name property marks
-    unfolding marked
-    owner_outside l = rw (sym e ∙ not-false r h, ← f) (sym (set_out marks owner 1 l))
+  pub marked_other : r ≡ false → marks ≡ marked image set_name name property marks
+  unfolding marked
+  marked_other t = rw (sym e ∙ t)
 
 -- ---- components looked at for a feature
 
@@ -196,6 +195,13 @@ module _ (image name : List ℕ) where
           whether (eqb n c)
           (λ t. rw t (subst (λ (x : ℕ). cond (eqb (get_or marks n 0) 0 && has_feature image n name) 2 (get_or marks x 0) ≡ get_or (feature_marks image name (n + 1) 0 before) x 0) (eqb-true n c t) (here (omega (arith, eqb-true n c t)))))
           (λ t. rw t (was c h ∙ mark_other n c (get_or before c 0) (eqb-false n c t) ∙ sym (features_at (n + 1) before c h)))
+
+-- where no component has a feature of the name, every mark stays
+pub features_none : (image name : List ℕ) → ((c : ℕ) → has_feature image c name ≡ false) → (n : ℕ) (marks : List ℕ) → marks ≡ feature_marks image name n 0 marks
+unfolding feature_mark
+features_none image name none n marks =
+    ext_get_or 0 marks (feature_marks image name n 0 marks) (sym (features_length image name n 0 marks))
+    (λ c h. sym (features_at image name n marks c h ∙ rw (none c, and-false (eqb (get_or marks c 0) 0), and-false (ltb c n))))
 
 -- a component past the marks, one that has a mark, and one that has none
 module _ (image name : List ℕ) (c : ℕ) (marks : List ℕ) where

@@ -8,24 +8,14 @@ use borrow.Author.Tests.{ne_eqb}
 use lib.Dec.{eqb}
 use lib.ListN.{length, get_or, get_or-eq_default}
 use Rattle.syntax.specs.Text.{same}
-use Rattle.std.specs.Cmp.Lexicographic.{pointwise}
 use Rattle.std.specs.List.{list_all, zip}
 use Rattle.syntax.proofs.TextLaws.{same_lengths}
 use Rattle.matching.specs.Words.{fold, folded, one_of}
 
 -- texts of the same bytes, as `==` says it
-pub pointwise_same : (xs ys : List ℕ) → pointwise eqb xs ys ≡ same xs ys
-pointwise_same [] [] = refl
-pointwise_same [] (y ∷ ys) = refl
-pointwise_same (x ∷ xs) [] = refl
-pointwise_same (x ∷ xs) (y ∷ ys) = ap (λ (r : Bool). eqb x y && r) (pointwise_same xs ys)
-
--- a text that is one word, and one that is so as typed
+-- a text that is one word
 pub one_word : {r p : Bool} → r ≡ p → r ≡ (p || false)
 one_word {r} {p} e = e ∙ sym (or-false p)
-
-pub typed_word : (s word : List ℕ) {r : Bool} → r ≡ pointwise eqb s word → r ≡ one_of s (word ∷ [])
-typed_word s word e = one_word (e ∙ pointwise_same s word)
 
 -- a text folded is as long, and has each byte folded
 folded_length : (s : List ℕ) → length (folded s) ≡ length s

@@ -5,8 +5,10 @@ pub mod search;
 pub mod value;
 
 ghost use Rattle.std.specs.Prelude.{◌≡◌, [], ◌∷◌, get_or};
+ghost use Rattle.syntax.specs.Text.{same};
 ghost use Rattle.matching.specs.Words.{fold, folded, one_of, category_matches, feature_kind_matches, direction_matches, severity_matches, category_number, feature_kind_number, direction_number, severity_number, category_words, feature_kind_words, direction_words, severity_words};
 
+use syntax::text;
 use value::{ComponentCategory, Direction, FeatureKind, FieldValue, Severity};
 
 // Whether a category, by its number on the board, is the one that a word typed in a rule means.
@@ -157,12 +159,12 @@ impl FieldValue for Severity {
 
     ghost numbered = { λ n r k. k };
 
-    #[tactic(auto, using(crate::proofs::WordLaws::typed_word), unfolding(crate::specs::Words::severity_words))]
+    #[tactic(auto, using(crate::proofs::WordLaws::one_word), unfolding(crate::specs::Words::severity_words))]
     fn is_meant_by(self, value: &[u8]) -> bool {
         match self {
-            Severity::Error => value == b"error".as_slice(),
-            Severity::Warning => value == b"warning".as_slice(),
-            Severity::Info => value == b"info".as_slice(),
+            Severity::Error => text::same(value, b"error"),
+            Severity::Warning => text::same(value, b"warning"),
+            Severity::Info => text::same(value, b"info"),
         }
     }
 }

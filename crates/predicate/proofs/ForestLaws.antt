@@ -139,11 +139,11 @@ found_passed test {tree} level {from} {at} f =
     passed_found test level (drop from tree) _ _ (sym f.here ∙ drop_row tree at f.whole) ∙ ap (past_below level) (sym f.here)
 
 -- the row found is at the level and passes
-record Passing (test : ℕ → Bool) (level k m : ℕ) : Type 0 where
-  level_is : m ≡ level
-  kind_is : test k ≡ true
+pub record Passing (test : ℕ → Bool) (level k m : ℕ) : Type 0 where
+  pub level_is : m ≡ level
+  pub kind_is : test k ≡ true
 
-found_passes : (test : ℕ → Bool) (level : ℕ) (rows : List ℕ) (k m a e : ℕ) (more : List ℕ) → rows_from test level rows ≡ k ∷ m ∷ a ∷ e ∷ more → Passing test level k m
+pub found_passes : (test : ℕ → Bool) (level : ℕ) (rows : List ℕ) (k m a e : ℕ) (more : List ℕ) → rows_from test level rows ≡ k ∷ m ∷ a ∷ e ∷ more → Passing test level k m
 unfolding rows_from
 found_passes test level [] k m a e more h = absurd (cons≢nil (sym h))
 found_passes test level (k₁ ∷ []) k m a e more h = absurd (cons≢nil (sym h))

@@ -7,14 +7,15 @@ use native.Mathlib.Omega.{arith}
 use lib.Dec.{eqb, ltb}
 use lib.ListN.{length, take, drop, length-drop, drop_of_length-le}
 use lib.Seq.{drop-drop}
+use Rattle.std.proofs.lemmas.List.{get_or-drop}
 use borrow.Author.Tests.{eqb-true}
 use Rattle.syntax.specs.Kind.{STRING_LIT, ROOT, LITERAL}
 use Rattle.std.specs.Prelude.{Option, None, Some}
 use Rattle.predicate.specs.Truth.{content, first_text, literal_of}
-use Rattle.predicate.specs.Rows.{ROW, kind_at, level_at, text_at, forest_from, children_at, of_kind, rows_from, place_in, first_row}
+use Rattle.predicate.specs.Rows.{ROW, level_at, text_at, forest, forest_from, children_at, of_kind, rows_from, place_in, first_row}
 use Rattle.predicate.specs.Eval.{FoundAt, FoundNowhere, Finds}
-use Rattle.predicate.proofs.RowLaws.{row_and, drop_row}
-use Rattle.predicate.proofs.ForestLaws.{forest_token, forest_node, found_level, found_kind, Ignores, ignored_none, ignored_found}
+use Rattle.predicate.proofs.RowLaws.{row_and, drop_row, short_forest}
+use Rattle.predicate.proofs.ForestLaws.{forest_token, forest_node, found_passes, Ignores, ignored}
 
 -- how many numbers before the row found stand
 record Before (rows found : List ℕ) : Type 0 where
@@ -59,6 +60,28 @@ module _ {test : ℕ → Bool} {tree : List ℕ} {level from : ℕ} where
   unfolding first_row place_in
   first_nowhere n = ap (place_in tree) (sym n.none)
 
+  -- the place of the rows found, by how many they are
+  found_place : {x : ℕ} {more : List ℕ} → rows_from test level (drop from tree) ≡ x ∷ more → FoundAt test tree level from (length tree - length (x ∷ more))
+  found_place {x} {more} e = subst (FoundAt test tree level from) same there
+    where
+      b : Before (drop from tree) (rows_from test level (drop from tree))
+      b = found_before test level (drop from tree) x more e
+
+      there : FoundAt test tree level from (from + b.skipped)
+      there =
+          record {
+            later = omega arith;
+            whole = omega (arith, b.whole, length-drop from tree);
+            here = sym (drop-drop b.skipped from tree) ∙ b.here;
+          }
+
+      same : from + b.skipped ≡ length tree - length (x ∷ more)
+      same = omega (arith, b.whole, length-drop from tree, ap length (b.here ∙ e), length-drop b.skipped (drop from tree))
+
+  pub found_some : (found : List ℕ) → found ≡ rows_from test level (drop from tree) → 0 < length found → FoundAt test tree level from (length tree - length found)
+  found_some [] e h = absurd (omega arith)
+  found_some (x ∷ more) e h = found_place (sym e)
+
   pub row_found : {at : ℕ} → first_row test tree level from ≡ Some at → FoundAt test tree level from at
   unfolding first_row place_in
   row_found {at} h = go (rows_from test level (drop from tree)) refl h
@@ -67,21 +90,9 @@ module _ {test : ℕ → Bool} {tree : List ℕ} {level from : ℕ} where
       go [] e p =
           let z : ◌≡◌ {A = ℕ} 0 1 = cc in
           absurd (omega arith)
-      go (x ∷ more) e p = subst (FoundAt test tree level from) same there
-        where
-          b : Before (drop from tree) (rows_from test level (drop from tree))
-          b = found_before test level (drop from tree) x more e
-
-          there : FoundAt test tree level from (from + b.skipped)
-          there =
-              record {
-                later = omega arith;
-                whole = omega (arith, b.whole, length-drop from tree);
-                here = sym (drop-drop b.skipped from tree) ∙ b.here;
-              }
-
-          same : from + b.skipped ≡ at
-          same = cc (first_found there ∙ h)
+      go (x ∷ more) e p =
+          let same : length tree - length (x ∷ more) ≡ at = cc in
+          subst (FoundAt test tree level from) same (found_place e)
 
   pub row_absent : first_row test tree level from ≡ None → FoundNowhere test tree level from
   unfolding first_row place_in
@@ -120,31 +131,57 @@ text_ignores : (kind : ℕ) → Ignores (of_kind kind) (first_text kind)
 unfolding first_text
 text_ignores kind = record { tokens = λ t f e. rw (e, first_text); nodes = λ k s f l e. refl }
 
-pub text_none : (rule : List ℕ) (kind : ℕ) {tree : List ℕ} {level from : ℕ} → FoundNowhere (of_kind kind) tree level from → [] ≡ first_text kind (forest_from rule tree level from)
-unfolding first_text
-text_none rule kind h = sym (ignored_none (text_ignores kind) rule h)
+-- fewer numbers than a row have no text
+pub no_text : (rule : List ℕ) (rows : List ℕ) → length rows < ROW → [] ≡ text_at rule rows 0
+no_text rule [] h = refl
+no_text rule (k ∷ []) h = refl
+no_text rule (k ∷ m ∷ []) h = refl
+no_text rule (k ∷ m ∷ a ∷ []) h =
+    let e : 0 - a ≡ 0 = omega arith in
+    sym (ap (λ (n : ℕ). take n (drop a rule)) e)
+no_text rule (k ∷ m ∷ a ∷ e ∷ rows) h = absurd (omega arith)
 
-pub text_found : (rule : List ℕ) (kind : ℕ) {tree : List ℕ} {level from at : ℕ} → kind < ROOT → FoundAt (of_kind kind) tree level from at → text_at rule tree at ≡ first_text kind (forest_from rule tree level from)
-unfolding first_text
-text_found rule kind {tree} {level} {from} {at} k f =
-    sym (ignored_found (text_ignores kind) rule f
-    ∙ ap (first_text kind) (forest_token rule tree level at f.whole (found_level f) (omega (arith, eqb-true (kind_at tree at) kind (found_kind f))))
-    ∙ rw (found_kind f, first_text))
+-- it is the text of the row found
+pub text_in : (rule : List ℕ) (kind : ℕ) (tree : List ℕ) (level from : ℕ) → kind < ROOT → text_at rule (rows_from (of_kind kind) level (drop from tree)) 0 ≡ first_text kind (forest_from rule tree level from)
+unfolding first_text forest_from
+text_in rule kind tree level from h = go (rows_from (of_kind kind) level (drop from tree)) refl ∙ sym (ignored (text_ignores kind) rule level (drop from tree))
+  where
+    short : (r : List ℕ) → length r < ROW → text_at rule r 0 ≡ first_text kind (forest rule level r)
+    short r l = sym (no_text rule r l) ∙ sym (ap (first_text kind) (short_forest rule level r l))
+
+    go : (r : List ℕ) → rows_from (of_kind kind) level (drop from tree) ≡ r → text_at rule r 0 ≡ first_text kind (forest rule level r)
+    go [] e = short [] (omega arith)
+    go (k ∷ []) e = short (k ∷ []) (omega arith)
+    go (k ∷ m ∷ []) e = short (k ∷ m ∷ []) (omega arith)
+    go (k ∷ m ∷ a ∷ []) e = short (k ∷ m ∷ a ∷ []) (omega arith)
+    go (k ∷ m ∷ a ∷ b ∷ more) e =
+        let p = found_passes (of_kind kind) level (drop from tree) k m a b more e in
+        sym (ap (first_text kind) (forest_token rule (k ∷ m ∷ a ∷ b ∷ more) level 0 (omega arith) p.level_is (omega (arith, eqb-true k kind p.kind_is))) ∙ rw (p.kind_is, first_text))
 
 -- the literal of a node looks at no other row
 literal_ignores : Ignores (of_kind LITERAL) literal_of
 unfolding literal_of
 literal_ignores = record { tokens = λ t f e. refl; nodes = λ k s f l e. rw (e, literal_of) }
 
-pub literal_none : (rule : List ℕ) {tree : List ℕ} {level from : ℕ} → FoundNowhere (of_kind LITERAL) tree level from → [] ≡ literal_of (forest_from rule tree level from)
-unfolding literal_of
-literal_none rule h = sym (ignored_none literal_ignores rule h)
+-- it is in the row found
+pub literal_in : (rule tree : List ℕ) (level from : ℕ) → content (first_text STRING_LIT (children_at rule (rows_from (of_kind LITERAL) level (drop from tree)) 0)) ≡ literal_of (forest_from rule tree level from)
+unfolding literal_of first_text content forest_from forest
+literal_in rule tree level from = go (rows_from (of_kind LITERAL) level (drop from tree)) refl ∙ sym (ignored literal_ignores rule level (drop from tree))
+  where
+    short : (r : List ℕ) → length r < ROW → content (first_text STRING_LIT (children_at rule r 0)) ≡ literal_of (forest rule level r)
+    short r l = ap (λ (rest : List ℕ). content (first_text STRING_LIT (forest rule (level_at r 0 + 1) rest))) (drop_of_length-le r {i = ROW} (omega arith)) ∙ sym (ap literal_of (short_forest rule level r l))
 
--- the string in the literal found is the first inside it
-pub literal_found : (rule : List ℕ) {tree : List ℕ} {level from at : ℕ} → FoundAt (of_kind LITERAL) tree level from at → content (first_text STRING_LIT (children_at rule tree at)) ≡ literal_of (forest_from rule tree level from)
-unfolding literal_of
-literal_found rule {tree} {level} {from} {at} f =
-    ap (λ (l : ℕ). content (first_text STRING_LIT (forest_from rule tree (l + 1) (at + ROW)))) (found_level f)
-    ∙ sym (ignored_found literal_ignores rule f
-    ∙ ap literal_of (forest_node rule tree level at f.whole (found_level f) (omega (arith, eqb-true (kind_at tree at) LITERAL (found_kind f))))
-    ∙ rw (found_kind f, literal_of))
+    go : (r : List ℕ) → rows_from (of_kind LITERAL) level (drop from tree) ≡ r → content (first_text STRING_LIT (children_at rule r 0)) ≡ literal_of (forest rule level r)
+    go [] e = short [] (omega arith)
+    go (k ∷ []) e = short (k ∷ []) (omega arith)
+    go (k ∷ m ∷ []) e = short (k ∷ m ∷ []) (omega arith)
+    go (k ∷ m ∷ a ∷ []) e = short (k ∷ m ∷ a ∷ []) (omega arith)
+    go (k ∷ m ∷ a ∷ b ∷ more) e =
+        let p = found_passes (of_kind LITERAL) level (drop from tree) k m a b more e in
+        ap (λ (l : ℕ). content (first_text STRING_LIT (forest rule (l + 1) more))) p.level_is
+        ∙ sym (ap literal_of (forest_node rule (k ∷ m ∷ a ∷ b ∷ more) level 0 (omega arith) p.level_is (omega (arith, eqb-true k LITERAL p.kind_is))) ∙ rw (p.kind_is, literal_of))
+
+-- a node by the rows that begin with its own
+pub children_tail : (rule tree : List ℕ) (at : ℕ) → children_at rule (drop at tree) 0 ≡ children_at rule tree at
+unfolding forest_from
+children_tail rule tree at = rw (get_or-drop at tree 1 0, drop-drop ROW at tree)

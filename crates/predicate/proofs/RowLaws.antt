@@ -2,23 +2,20 @@
 use mathlib.Core.Path.{◌≡◌, refl, sym, ap, ◌∙◌}
 use mathlib.Core.Bool.{Bool, true, false, ◌&&◌}
 use mathlib.Core.List.{List, [], ◌∷◌}
-use Prim.Native.Nat.{ℕ, zero, suc, ◌+◌, ◌-◌, ◌*◌, ◌/◌, ◌≤◌, ◌<◌}
+use Prim.Native.Nat.{ℕ, zero, suc, ◌+◌, ◌*◌, ◌/◌, ◌≤◌, ◌<◌}
 use native.Mathlib.Omega.{arith}
 use lib.Dec.{ltb}
 use lib.ListN.{length, get_or, drop, length-drop}
-use Rattle.std.proofs.Common.{cond, Option, None, Some, inl, inr, Bor}
-use Rattle.std.specs.Option.{unwrap_or}
-use Rattle.std.specs.Slice.{IsGetRangeResult}
-use Rattle.std.proofs.lemmas.List.{drop-drop, drop_all}
+use Rattle.std.proofs.Common.{cond}
+use Rattle.std.proofs.lemmas.List.{drop-drop}
 use Rattle.std.specs.List.{prefix_len}
 use Rattle.std.specs.Simd.{first_chunks}
-use lib.Seq.{drop-cons, take_all}
+use lib.Seq.{drop-cons}
 use borrow.Author.Tests.{lt-ltb, le-ltb, le-leb, lt-leb, eq-eqb, ne_eqb, leb-true, leb-false, ltb-true}
 use Rattle.trees.specs.Green.{nil}
 use Rattle.syntax.proofs.BoolLaws.{both}
-use Rattle.predicate.specs.Rows.{ROW, forest, kind_at, level_at, is_row, is_below, row_passes, rows_from, past_below}
-use Rattle.predicate.specs.declared.rows.Row.{Row}
-use Rattle.predicate.specs.Eval.{IsRow, FoundAt, FoundNowhere, Skips}
+use Rattle.predicate.specs.Rows.{ROW, forest, kind_at, level_at, is_row, is_below, rows_from, past_below}
+use Rattle.predicate.specs.Eval.{IsRow, FoundNowhere, Skips}
 
 -- a whole row is there, or not
 pub row_there : (tree : List ℕ) (at : ℕ) → is_row tree at ≡ true → at + ROW ≤ length tree
@@ -29,23 +26,14 @@ pub row_missing : (tree : List ℕ) (at : ℕ) → is_row tree at ≡ false → 
 unfolding is_row
 row_missing tree at h = leb-false (at + ROW) (length tree) h
 
--- a row passes a test if it is at the level and its kind does
-passes_elsewhere : (test : ℕ → Bool) (tree : List ℕ) (level at : ℕ) {m : ℕ} → m ≡ level_at tree at → (m ≡ level → ⊥) → false ≡ row_passes test tree level at
-unfolding row_passes
-passes_elsewhere test tree level at {m} e h = sym (rw (ne_eqb (level_at tree at) level (λ d. h (e ∙ d))))
-
-passes_here : (test : ℕ → Bool) (tree : List ℕ) (level at : ℕ) {m : ℕ} → m ≡ level_at tree at → m ≡ level → test (kind_at tree at) ≡ row_passes test tree level at
-unfolding row_passes
-passes_here test tree level at {m} e h = sym (rw (eq-eqb (level_at tree at) level (sym e ∙ h)))
-
 -- a row is below a level if it is there and its own level is
 pub below_none : (tree : List ℕ) (level at : ℕ) → length tree < at + ROW → false ≡ is_below tree level at
 unfolding is_below is_row
 below_none tree level at h = sym (rw (lt-leb (at + ROW) (length tree) h))
 
-pub below_there : {tree : List ℕ} (level : ℕ) {at : ℕ} {row : Row} → IsRow tree at row → ltb level row.level ≡ is_below tree level at
+pub below_there : {tree : List ℕ} (level : ℕ) {at here : ℕ} → IsRow tree at here → ltb level here ≡ is_below tree level at
 unfolding is_below is_row
-below_there {tree} level {at} i = ap (ltb level) i.level ∙ sym (ap (λ (t : Bool). t && ltb level (level_at tree at)) (le-leb (at + ROW) (length tree) i.whole))
+below_there {tree} level {at} i = ap (ltb level) i.here ∙ sym (ap (λ (t : Bool). t && ltb level (level_at tree at)) (le-leb (at + ROW) (length tree) i.whole))
 
 -- the row at a place, and the rows after it
 abbrev pub row_and : List ℕ → ℕ → List ℕ
@@ -89,57 +77,35 @@ short_passed level (k ∷ m ∷ a ∷ e ∷ rows) h = absurd (omega arith)
 pub few : (tree : List ℕ) (at : ℕ) → length tree < at + ROW → length (drop at tree) < ROW
 few tree at h = omega (arith, length-drop at tree)
 
--- how far a row was looked for
-pub record Finding (test : ℕ → Bool) (tree : List ℕ) (level from at : ℕ) : Type 0 where
-  pub later : from ≤ at
-  pub rest : rows_from test level (drop at tree) ≡ rows_from test level (drop from tree)
+-- the rows found among rows that begin with a whole one: none where it is above the level, these where it passes, and else those found
+-- among the rows after it
+module _ (test : ℕ → Bool) (level : ℕ) (rows : List ℕ) (h : ROW ≤ length rows) where
+  here : rows ≡ row_and rows 0
+  here = drop_row rows 0 h
 
-pub finding_start : {test : ℕ → Bool} {tree : List ℕ} {level from : ℕ} → Finding test tree level from from
-finding_start = record { later = omega arith; rest = refl }
+  pub found_above : level_at rows 0 < level → [] ≡ rows_from test level rows
+  unfolding rows_from
+  found_above l = sym (ap (rows_from test level) here ∙ rw (lt-ltb (level_at rows 0) level l))
 
-module _ {test : ℕ → Bool} {tree : List ℕ} {level from at : ℕ} (f : Finding test tree level from at) where
-  pub finding_end : length tree < at + ROW → FoundNowhere test tree level from
-  finding_end h = record { none = sym f.rest ∙ short_found test level (drop at tree) (few tree at h) }
+  pub found_here : {r : Bool} → level_at rows 0 ≡ level → r ≡ test (kind_at rows 0) → r ≡ true → rows ≡ rows_from test level rows
+  unfolding rows_from
+  found_here e t p =
+      here
+      ∙ sym (ap (rows_from test level) here ∙ rw (le-ltb (level_at rows 0) level (omega arith), eq-eqb (level_at rows 0) level e, sym t ∙ p))
 
-  module _ (h : at + ROW ≤ length tree) where
-    here : drop at tree ≡ row_and tree at
-    here = drop_row tree at h
+  pub found_failing : {r : Bool} → level_at rows 0 ≡ level → r ≡ test (kind_at rows 0) → r ≡ false → rows_from test level (drop ROW rows) ≡ rows_from test level rows
+  unfolding rows_from
+  found_failing e t p = sym (ap (rows_from test level) here ∙ rw (le-ltb (level_at rows 0) level (omega arith), eq-eqb (level_at rows 0) level e, sym t ∙ p))
 
-    pub finding_above : level_at tree at < level → FoundNowhere test tree level from
-    unfolding rows_from
-    finding_above l = record { none = sym f.rest ∙ ap (rows_from test level) here ∙ rw (lt-ltb (level_at tree at) level l) }
+  pub found_elsewhere : level ≤ level_at rows 0 → (level_at rows 0 ≡ level → ⊥) → rows_from test level (drop ROW rows) ≡ rows_from test level rows
+  unfolding rows_from
+  found_elsewhere l d = sym (ap (rows_from test level) here ∙ rw (le-ltb (level_at rows 0) level l, ne_eqb (level_at rows 0) level d))
 
-    pub finding_hit : level ≤ level_at tree at → row_passes test tree level at ≡ true → FoundAt test tree level from at
-    unfolding rows_from row_passes
-    finding_hit l e = record { later = f.later; whole = h; here = here ∙ sym found ∙ sym (ap (rows_from test level) here) ∙ f.rest }
-      where
-        found : rows_from test level (row_and tree at) ≡ row_and tree at
-        found = rw (le-ltb (level_at tree at) level l, e)
+pub found_none : (test : ℕ → Bool) (level : ℕ) (rows : List ℕ) → length rows < ROW → [] ≡ rows_from test level rows
+found_none test level rows h = sym (short_found test level rows h)
 
-    pub finding_on : level ≤ level_at tree at → row_passes test tree level at ≡ false → Finding test tree level from (at + ROW)
-    unfolding rows_from row_passes
-    finding_on l e =
-        record {
-          later = omega (arith, f.later);
-          rest = sym (ap (rows_from test level) here ∙ rw (le-ltb (level_at tree at) level l, e)) ∙ f.rest;
-        }
-
--- the row at the place reached is above the level, or passes, or is passed over
-module _ {test : ℕ → Bool} {tree : List ℕ} {level from at : ℕ} {row : Row} (f : Finding test tree level from at) (i : IsRow tree at row) where
-  pub found_above : row.level < level → FoundNowhere test tree level from
-  found_above l = finding_above f i.whole (omega (arith, i.level))
-
-  pub found_elsewhere : level ≤ row.level → (row.level ≡ level → ⊥) → Finding test tree level from (at + ROW)
-  found_elsewhere l d = finding_on f i.whole (omega (arith, i.level)) (sym (passes_elsewhere test tree level at i.level d))
-
-  passes : {r : Bool} → row.level ≡ level → r ≡ test row.kind → r ≡ row_passes test tree level at
-  passes e t = t ∙ ap test i.kind ∙ passes_here test tree level at i.level e
-
-  pub found_hit : {r : Bool} → row.level ≡ level → r ≡ test row.kind → r ≡ true → FoundAt test tree level from at
-  found_hit e t h = finding_hit f i.whole (omega (arith, i.level)) (sym (passes e t) ∙ h)
-
-  pub found_failing : {r : Bool} → row.level ≡ level → r ≡ test row.kind → r ≡ false → Finding test tree level from (at + ROW)
-  found_failing e t h = finding_on f i.whole (omega (arith, i.level)) (sym (passes e t) ∙ h)
+pub found_past : (test : ℕ → Bool) (tree : List ℕ) (level from : ℕ) → length tree < from → FoundNowhere test tree level from
+found_past test tree level from h = record { none = sym (found_none test level (drop from tree) (omega (arith, length-drop from tree))) }
 
 -- a row that is below a level
 pub below_row : (tree : List ℕ) (level at : ℕ) → is_below tree level at ≡ true → (is_row tree at ≡ true) × (level < level_at tree at)
@@ -198,11 +164,6 @@ chunks_passed level (suc n) (k ∷ m ∷ a ∷ e ∷ rows) h l = by (ltb level m
         let four : 4 * (1 + some) ≡ suc (suc (suc (suc (4 * some)))) = omega arith in
         ap (λ (i : ℕ). drop i (k ∷ m ∷ a ∷ e ∷ rows)) four ∙ inner
     by false inner = refl
-
--- the table from a place on, none where the place is past its end
-pub rest_read : (tree : List ℕ) (from : ℕ) (r : Option (Bor (List ℕ))) → IsGetRangeResult tree from (length tree) r → (none : Bor (List ℕ)) → none.now ≡ [] → (unwrap_or r none).now ≡ drop from tree
-rest_read tree from None h none z = z ∙ sym (drop_all from tree (elim h.0 [ inl l ↦ omega arith | inr l ↦ absurd (omega arith) ]))
-rest_read tree from (Some part) h none z = h.0.2 ∙ take_all (length tree - from) (drop from tree) (omega (arith, length-drop from tree))
 
 -- where that many are counted from a place on, the rows below the level are passed over
 pub skips : (tree : List ℕ) (level from : ℕ) {n : ℕ} → n ≡ prefix_len (row_test level) (first_chunks 4 (length (drop from tree) / 4) (drop from tree)) → Skips tree level from (from + 4 * n)

@@ -1,18 +1,16 @@
 -- What the evaluator's functions give; no public contract needs this file. Assumes nothing: these are definitions.
 use Rattle.std.specs.Prelude.{ℕ, ◌+◌, ◌≤◌, ◌<◌, ◌≡◌, Bool, true, false, List, [], length, drop, Option, None, Some}
 use Rattle.trees.specs.Green.{Forest}
-use Rattle.predicate.specs.declared.rows.Row.{Row}
 use Rattle.predicate.specs.declared.Evaluator.{Evaluator}
 use Rattle.predicate.specs.declared.Truth.{Truth}
 use Rattle.predicate.specs.declared.Operands.{Operands}
 use Rattle.predicate.specs.Truth.{sort_of, settle, truths, truth, joined}
 use Rattle.predicate.specs.Rows.{ROW, kind_at, level_at, forest_from, children_at, node_at, is_below, rows_from, past_below}
 
--- the row at a place, a whole one
-pub record IsRow (tree : List ℕ) (at : ℕ) (row : Row) : Type 0 where
+-- a whole row is at a place, and this is its level
+pub record IsRow (tree : List ℕ) (at level : ℕ) : Type 0 where
   pub whole : at + ROW ≤ length tree
-  pub kind : row.kind ≡ kind_at tree at
-  pub level : row.level ≡ level_at tree at
+  pub here : level ≡ level_at tree at
 
 -- what a test of kinds returns is what this one says
 abbrev pub Tells : (ℕ → Bool → Type 0) → (ℕ → Bool) → Type 0

@@ -12,6 +12,7 @@ use instance;
 use matching;
 use matching::search;
 use syntax::kind::Kind;
+use syntax::text;
 
 // A member of a collection: a component, a component's feature, or a diagnostic, by their indexes on the board.
 #[derive(Clone, Copy)]
@@ -42,6 +43,7 @@ impl<'a> Evaluator<'a> {
     }
 
     // The text that an atom compares with.
+    #[inline(always)]
     fn value(&self, at: usize) -> &'a [u8]
         ensures { result.now ≡ literal_of (children_at self.now.rule.now self.now.tree.now at) }
     {
@@ -118,33 +120,33 @@ fn has_property_of(image: &[u8], component: u32, value: &[u8]) -> bool
 }
 
 // `field == '..'` of a feature.
-#[tactic(auto, using(matching::proofs::WordLaws::pointwise_same), unfolding(crate::specs::Truth::compares))]
+#[tactic(auto, unfolding(crate::specs::Truth::compares))]
 fn feature_compares(image: &[u8], component: u32, feature: u32, field: &[u8], value: &[u8]) -> bool
     ensures { result ≡ compares image.now (Member.Feature component feature) field.now value.now }
 {
-    if field == b"kind".as_slice() {
+    if text::same(field, b"kind") {
         return matching::feature_kind_matches(image::feature_kind(image, feature), value);
     }
-    if field == b"direction".as_slice() {
+    if text::same(field, b"direction") {
         return matching::direction_matches(image::direction(image, feature), value);
     }
     category_is(image, component, field, value)
 }
 
 // The same of a component.
-#[tactic(auto, using(matching::proofs::WordLaws::pointwise_same), unfolding(crate::specs::Truth::compares))]
+#[tactic(auto, unfolding(crate::specs::Truth::compares))]
 fn category_is(image: &[u8], component: u32, field: &[u8], value: &[u8]) -> bool
     ensures { result ≡ compares image.now (Member.Component component) field.now value.now }
 {
-    field == b"category".as_slice()
+    text::same(field, b"category")
         && matching::category_matches(image::category(image, component), value)
 }
 
-// The same of a diagnostic. Each is one expression, and one function for both would take the field's two functions.
-#[tactic(auto, using(matching::proofs::WordLaws::pointwise_same), unfolding(crate::specs::Truth::compares))]
+// The same of a diagnostic.
+#[tactic(auto, unfolding(crate::specs::Truth::compares))]
 fn severity_is(image: &[u8], diagnostic: u32, field: &[u8], value: &[u8]) -> bool
     ensures { result ≡ compares image.now (Member.Diagnostic diagnostic) field.now value.now }
 {
-    field == b"severity".as_slice()
+    text::same(field, b"severity")
         && matching::severity_matches(image::severity(image, diagnostic), value)
 }

@@ -12,7 +12,6 @@ ghost use Rattle.predicate.specs.Rows.{ROW, children_at, node_at};
 ghost use Rattle.predicate.specs.Eval.{truth_at, Evaluated, Inner, Operand, Joins, Joined};
 
 use atom::Member;
-use rows::Row;
 use syntax::kind::Kind;
 
 // What evaluates the nodes of a rule's tree: the rule, its tree, and the member of a board that they are asked of.
@@ -49,7 +48,7 @@ pub fn eval_predicate(rule: &[u8], image: &[u8], tree: &[u32], member: Member, a
         tree,
         member,
     };
-    match Row::at(tree, at) {
+    match rows::row_level(tree, at) {
         Some(_) => evaluator.eval_node(at).value,
         None => false,
     }

@@ -10,6 +10,7 @@ use board::image;
 use instance;
 use predicate::atom::Member;
 use syntax::kind::Kind;
+use syntax::text;
 
 // The first profiles of features and of diagnostics, after those of components, and how many there are in all.
 pub const FIRST_OF_FEATURES: usize = 28;
@@ -210,9 +211,9 @@ fn asks_of_feature(held: Held, field: &[u8]) -> bool
 }
 
 // Whether a field is this one, and it is not held.
-#[tactic(auto, using(matching::proofs::WordLaws::pointwise_same), unfolding(crate::specs::Profile::asks_part))]
+#[tactic(auto, unfolding(crate::specs::Profile::asks_part))]
 fn asks_part(held: bool, field: &[u8], name: &[u8]) -> bool
     ensures { result ≡ asks_part held field.now name.now }
 {
-    !held && field == name
+    !held && text::same(field, name)
 }

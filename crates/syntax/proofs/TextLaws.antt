@@ -1,12 +1,13 @@
 -- Texts at a place, two texts with the same bytes, and a part of a text. Assumes nothing.
 use mathlib.Core.Path.{◌≡◌, refl, sym, ◌∙◌, ap}
-use mathlib.Core.Bool.{true, false, false≢true, and-false}
+use mathlib.Core.Bool.{Bool, true, false, ◌&&◌, false≢true, and-false}
 use mathlib.Core.List.{List, [], ◌∷◌}
 use Prim.Native.Nat.{ℕ, ◌+◌, ◌-◌, ◌≤◌, ◌<◌, min, suc}
 use native.Mathlib.Numerals.{add-one}
 use native.Mathlib.Omega.{arith}
-use borrow.Author.Tests.{eqb-true, leb-true, leb-false, ltb-true, ltb-false}
+use borrow.Author.Tests.{ne_eqb, eqb-true, leb-true, leb-false, ltb-true, ltb-false}
 use lib.Dec.{eqb, ltb, leb}
+use Rattle.std.specs.List.{list_all, zip}
 use lib.ListN.{length, take, drop, get_or, length-take, length-drop, drop_of_length-le}
 use lib.Seq.{take_all, take-nil, drop-cons}
 use Rattle.syntax.specs.Text.{same, bytes_between}
@@ -31,6 +32,19 @@ same_lengths [] [] h = absurd (h refl)
 same_lengths [] (b ∷ y) h = refl
 same_lengths (a ∷ x) [] h = refl
 same_lengths (a ∷ x) (b ∷ y) h = rw (same_lengths x y (λ e. h (ap suc e))) (and-false (eqb a b))
+
+-- a text is another just where it is as long and has its bytes
+pub same_none : (s word : List ℕ) → (length s ≡ length word → ⊥) → eqb (length s) (length word) ≡ same s word
+same_none s word d = ne_eqb (length s) (length word) d ∙ sym (same_lengths s word d)
+
+same_zip : (s word : List ℕ) → length s ≡ length word → list_all (λ (p : ℕ × ℕ). eqb p.0 p.1) (zip s word) ≡ same s word
+same_zip [] [] h = refl
+same_zip [] (w ∷ word) h = absurd (omega arith)
+same_zip (b ∷ s) [] h = absurd (omega arith)
+same_zip (b ∷ s) (w ∷ word) h = ap (λ (r : Bool). eqb b w && r) (same_zip s word (omega arith))
+
+pub same_all : (s word : List ℕ) {r : Bool} → length s ≡ length word → r ≡ list_all (λ (p : ℕ × ℕ). eqb p.0 p.1) (zip s word) → r ≡ same s word
+same_all s word h e = e ∙ same_zip s word h
 
 -- a part of a text, from its start and its end as far as the text goes
 module _ (text : List ℕ) (first end last from : ℕ) (l : last ≡ min end (length text)) (f : from ≡ min first last) where

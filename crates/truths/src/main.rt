@@ -152,8 +152,8 @@ fn print_features_of<W: Write>(
     component: u32,
 ) -> io::Result<()> {
     let image = predicate.image;
-    let first = image::first_feature(image, component);
-    for feature in first..instance::features_end(image, component) {
+    let (first, end) = instance::features(image, component);
+    for feature in first..end {
         predicate.print_truth(out, Member::Feature(component, feature))?;
     }
     Ok(())

@@ -5,7 +5,7 @@ use Rattle.instance.proofs.PlaceLaws.{feature_placed}
 use Rattle.instance.proofs.has_feature.Goals as goal
 
 pub loop-n-init : goal.loop-n-init
-loop-n-init c = features_start _ _ _ c.features_end-n-end.ensures c.first_feature-n.ensures
+loop-n-init c = features_start _ _ _ c.features-start.ensures.end c.features-start.ensures.first
 
 pub returns-then-feature_is : goal.returns-then-feature_is
 returns-then-feature_is c = searching_hit c.loop-n.invariant c.loop-n-test.true (sym (feature_placed _ _ c.section_offset-first.ensures _) ∙ sym c.feature_is.ensures ∙ c.if-feature_is.true)

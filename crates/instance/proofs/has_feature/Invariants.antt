@@ -4,4 +4,4 @@ use Rattle.instance.proofs.InstanceLaws.{Searching}
 use Rattle.instance.proofs.has_feature.Given as goal
 
 abbrev pub invariant-loop-n : goal.invariant-loop-n
-invariant-loop-n l = Searching (feature_is l.image l.name) l.n-end l.n (has_feature l.image l.component l.name)
+invariant-loop-n l = Searching (feature_is l.image l.name) l.end l.n (has_feature l.image l.component l.name)

@@ -4,4 +4,4 @@ use mathlib.Core.Path.{◌∙◌}
 use Rattle.eval.proofs.listed.count_features.Goals as goal
 
 pub returns : goal.returns
-returns c = c.saturating_sub.ensures ∙ features_number _ _ c.features_end-end.ensures c.first_feature-first.ensures
+returns c = c.saturating_sub.ensures ∙ features_number _ _ c.features-first.ensures.end c.features-first.ensures.first

@@ -6,7 +6,7 @@ use mathlib.Core.List.{◌∷◌, []}
 use Rattle.eval.proofs.listed.list_features.Goals as goal
 
 pub loop-feature-init : goal.loop-feature-init
-loop-feature-init c = listing_start _ _ _ (features_are _ _ c.features_end-end.ensures c.first_feature-start.ensures)
+loop-feature-init c = listing_start _ _ _ (features_are _ _ c.features-start.ensures.end c.features-start.ensures.first)
 
 pub put_member-requires : goal.put_member-requires
 put_member-requires c = listing_room c.loop-feature.invariant (Feature _ _ ∷ []) _ (made_next (Feature _) _ _ c.loop-feature-test.true) c.requires

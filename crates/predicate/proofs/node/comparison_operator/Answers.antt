@@ -5,10 +5,10 @@ use Rattle.trees.specs.Look.{is_comparison}
 use Rattle.predicate.proofs.NodeLaws.{child_first, child_missing}
 use Rattle.predicate.proofs.node.comparison_operator.Goals as goal
 
-pub returns-in_err-row : goal.returns-in_err-row
-returns-in_err-row c =
+pub returns-in_err-level : goal.returns-in_err-level
+returns-in_err-level c =
     let none : c.from_residual.result ≡ None = search rules in
-    none ∙ child_missing is_comparison _ _ _ c.in_err-row.ensures
+    none ∙ child_missing is_comparison _ _ _ c.in_err-level.ensures
 
 pub returns : goal.returns
-returns c = child_first is_comparison _ _ _ c.in_ok-row.ensures.level c.find_operator.ensures
+returns c = child_first is_comparison _ _ _ c.in_ok-level.ensures.here c.find_operator.ensures

@@ -1,11 +1,16 @@
 -- `node::find_string_literal` lends the content of the string in the first literal. Assumes nothing.
-use mathlib.Core.Path.{sym, ap, ◌∙◌}
-use Rattle.predicate.specs.Truth.{content}
-use Rattle.predicate.proofs.NodeLaws.{row_found, row_absent, literal_none, literal_found}
+use mathlib.Core.Path.{ap, ◌∙◌}
+use Rattle.syntax.specs.Kind.{STRING_LIT}
+use Rattle.predicate.specs.Truth.{content, first_text, literal_of}
+use Rattle.predicate.specs.Rows.{children_at}
+use Rattle.predicate.proofs.NodeLaws.{literal_in, children_tail}
 use Rattle.predicate.proofs.node.find_string_literal.Goals as goal
 
-pub returns-in-Some : goal.returns-in-Some
-returns-in-Some c = c.content.ensures ∙ ap content c.first_text.ensures ∙ literal_found _ (row_found (sym (rw c.into.ensures at c.child_of_kind.ensures) ∙ c.in-Some.is))
-
-pub returns-in-None : goal.returns-in-None
-returns-in-None c = literal_none _ (row_absent (sym (rw c.into.ensures at c.child_of_kind.ensures) ∙ c.in-None.is))
+pub returns : goal.returns
+returns c =
+    c.content.ensures
+    ∙ ap content c.first_text.ensures
+    ∙ ap (λ rows. content (first_text STRING_LIT (children_at c.args.rule.now rows 0))) c.child-literal.ensures
+    ∙ literal_in _ c.tail.result.now _ _
+    ∙ ap (λ rows. literal_of (children_at c.args.rule.now rows 0)) c.tail.ensures
+    ∙ ap literal_of (children_tail _ _ _)

@@ -1,20 +1,17 @@
--- `rows::find` finds the first row that passes, by the laws of `Finding`, whatever test says what the closure tells. Assumes nothing.
-use Rattle.predicate.proofs.RowLaws.{finding_end, found_above, found_elsewhere, found_hit, found_failing}
+-- `rows::find` gives the place of the rows found. Assumes nothing.
+use mathlib.Core.Path.{ap, ◌∙◌}
+use native.Mathlib.Omega.{arith}
+use Rattle.std.proofs.Common.{inl, inr}
+use Rattle.std.proofs.lemmas.List.{take_rest}
+use Rattle.predicate.specs.Rows.{rows_from}
+use Rattle.predicate.proofs.RowLaws.{found_past}
+use Rattle.predicate.proofs.NodeLaws.{found_some}
 use Rattle.predicate.proofs.rows.find.Goals as goal
-use Rattle.predicate.proofs.rows.find.Goals.{else-here-level-2-via-then-here-level-2+else-test, else-here-level-2-via-else-here-level-2}
 
-pub returns-then-here-level : goal.returns-then-here-level
-returns-then-here-level g c = λ p t. found_above (c.loop-at.invariant p t) c.in-Some.ensures c.if-here-level.true
+pub returns-in_err-get : goal.returns-in_err-get
+returns-in_err-get g c =
+    λ p t. rw c.from_residual.ensures (found_past p _ _ _ (elim c.in_err-get.ensures.lookup.0 [ inl l ↦ l | inr l ↦ absurd (omega arith) ]))
 
-pub returns-then-test : goal.returns-then-test
-returns-then-test g c = λ p t. found_hit (c.loop-at.invariant p t) c.in-Some.ensures c.if-here-level-2.true (t _ _ c.test.ensures) c.if-test.true
-
-pub loop-at-preserved : goal.loop-at-preserved
-loop-at-preserved g c =
-    λ p t. elim c.else-here-level-2.branch [
-      | else-here-level-2-via-then-here-level-2+else-test w ↦ found_failing (c.loop-at.invariant p t) c.in-Some.ensures w.if-here-level-2.true (t _ _ w.test.ensures) w.if-test.false
-      | else-here-level-2-via-else-here-level-2 w ↦ found_elsewhere (c.loop-at.invariant p t) c.in-Some.ensures c.if-here-level.false w.if-here-level-2.false
-    ]
-
-pub returns : goal.returns
-returns g c = λ p t. finding_end (c.loop-at.invariant p t) c.in_default.ensures
+pub returns-in_default : goal.returns-in_default
+returns-in_default g c =
+    λ p t. found_some _ (c.rows_from.ensures.found p t ∙ ap (rows_from p c.args.level) (c.in_ok-get.ensures.lookup.0.2 ∙ take_rest c.args.tree.now c.args.from)) (omega arith)

@@ -4,16 +4,17 @@ use Rattle.eval.proofs.FeedLaws.{stands_fed}
 use Rattle.eval.proofs.ListedLaws.{listed_room, listed_all, counted_all, tallied, is_call}
 use Rattle.meaning.specs.declared.Method.TheVariants.{Count, Features}
 use Rattle.eval.specs.Ready.{CallAt}
+use Rattle.eval.specs.Listed.{every_component}
 use mathlib.Core.Path.{subst, ◌∙◌}
 use Rattle.eval.proofs.walk.Pipeline.feed_components.Goals as goal
 
 pub list_components-requires : goal.list_components-requires
-list_components-requires c = let p = c.args.self in listed_room p.rule.now p.image.now p.tree.now p.calls.now (subst (CallAt _ _) c.in_default.is c.nth.ensures) c.requires
+list_components-requires c = let p = c.args.self in listed_room p.rule.now p.image.now p.tree.now p.calls.now (subst (CallAt _ _) c.in_default.is c.nth.ensures) (every_component p.image.now) c.requires
 
 pub returns-in_default : goal.returns-in_default
 returns-in_default c =
     let p = c.args.self in
-    stands_fed c.requires (tallied _ c.tally_of.ensures ∙ listed_all p.rule.now p.image.now p.tree.now p.calls.now (subst (CallAt _ _) c.in_default.is c.nth.ensures) c.list_components.ensures)
+    stands_fed c.requires (tallied _ c.tally_of.ensures ∙ listed_all p.rule.now p.image.now p.tree.now p.calls.now (subst (CallAt _ _) c.in_default.is c.nth.ensures) (every_component p.image.now) c.list_components.ensures)
 
 pub returns-then-eq : goal.returns-then-eq
 returns-then-eq c =

@@ -2,7 +2,7 @@
 use Rattle.std.proofs.Common.{rules}
 use Rattle.eval.proofs.FeedLaws.{turn, over}
 use Rattle.eval.proofs.ListedLaws.{features_are}
-use Rattle.eval.proofs.SentLaws.{same_calls, here, going_profile, end_takes, end_listed, kept_sending, kept_sent, dropped_sent, owned_sending, owned_sent, owned_none, passed_sending, passed_sent, arriving, step_takes, step_sent, going_start, going_first, going_on, going_stop, going_end}
+use Rattle.eval.proofs.SentLaws.{same_calls, here, going_profile, end_takes, end_listed, kept_sending, kept_sent, dropped_sent, owned_sending, owned_sent, owned_none, passed_sending, passed_sent, arriving, told_step, step_takes, step_sent, going_start, going_first, going_on, going_stop, going_end}
 use Rattle.predicate.specs.declared.atom.Member.TheVariants.{Feature}
 use Rattle.profile.proofs.ProfileLaws.{feature_owned}
 use native.Mathlib.Omega.{arith}
@@ -46,7 +46,7 @@ pub feed_feature-send-requires : goal.feed_feature-send-requires
 feed_feature-send-requires t c = (omega (arith, c.decreases), (c.requires.0, feature_owned _ _ _ _ c.requires.1 c.owned_profile-profile.ensures))
 
 pub feed_features-loop-feature-init : goal.feed_features-loop-feature-init
-feed_features-loop-feature-init t c = going_start c.requires (features_are _ _ c.features_end-end.ensures c.first_feature-first.ensures)
+feed_features-loop-feature-init t c = going_start c.requires (features_are _ _ c.features-first.ensures.end c.features-first.ensures.first)
 
 pub feed_features-feed_feature-requires : goal.feed_features-feed_feature-requires
 feed_features-feed_feature-requires t c = (omega (arith, c.decreases, same_calls c.loop-feature.invariant.same), (going_first c.loop-feature.invariant (turn _ _ (Feature c.args.component) _ _ c.loop-feature-test.true), going_profile c.loop-feature.invariant _ c.component_profile-owner.ensures))
@@ -61,7 +61,7 @@ pub feed_features-returns : goal.feed_features-returns
 feed_features-returns t c = going_end c.loop-feature.invariant (over _ _ (Feature c.args.component) _ _ (omega arith))
 
 pub send-take-requires : goal.send-take-requires
-send-take-requires t c = step_takes c.requires.0 (sym c.place_of.ensures.is ∙ c.in-Some.is) c.step_of.ensures c.in-Some-step_of.is
+send-take-requires t c = step_takes c.requires.0 (told_step c.requires.0 (sym c.place_of.ensures.is ∙ c.in-Some.is) c.step_of.ensures c.in-Some-step_of.is)
 
 pub send-returns-in-Some-step_of : goal.send-returns-in-Some-step_of
-send-returns-in-Some-step_of t c = step_sent c.requires.0 (sym c.place_of.ensures.is ∙ c.in-Some.is) c.step_of.ensures c.in-Some-step_of.is c.take.ensures
+send-returns-in-Some-step_of t c = step_sent c.requires.0 (told_step c.requires.0 (sym c.place_of.ensures.is ∙ c.in-Some.is) c.step_of.ensures c.in-Some-step_of.is) c.take.ensures

@@ -5,6 +5,7 @@ use Rattle.meaning.specs.Calls.{kept}
 use Rattle.meaning.specs.Pipeline.{is_of_analysis}
 use Rattle.meaning.proofs.WalkLaws.{up_to}
 use Rattle.eval.specs.Analysis.{Known}
+use Rattle.eval.specs.Found.{FoundSo}
 use Rattle.eval.specs.Walk.{every_of_analysis}
 use Rattle.eval.proofs.SentLaws.{Going}
 use Rattle.eval.proofs.walk.Walk.feed_each_diagnostic.Given as goal
@@ -12,4 +13,4 @@ use Rattle.eval.proofs.walk.Walk.feed_each_diagnostic.Given as goal
 abbrev pub invariant-loop-diagnostic : goal.invariant-loop-diagnostic
 invariant-loop-diagnostic l =
     let image = l.initial.self.pipeline.image.now in
-    Known image l.name l.known × Going l.initial.self 0 (every_of_analysis image l.name) (kept (is_of_analysis image l.name) (map Diagnostic (up_to l.diagnostic l.count))) l.self
+    Known image l.name l.known × FoundSo l.self 0 l.profiles.found × Going l.initial.self 0 (every_of_analysis image l.name) (kept (is_of_analysis image l.name) (map Diagnostic (up_to l.diagnostic l.count))) l.self

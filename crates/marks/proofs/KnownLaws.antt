@@ -1,0 +1,67 @@
+-- What is known of strings at first, and of features where names are looked up by their strings. Assumes nothing.
+use mathlib.Core.Path.{◌≡◌, refl, sym, ap, ◌∙◌}
+use mathlib.Core.Bool.{Bool, true, false}
+use mathlib.Core.List.{List}
+use Prim.Native.Nat.{ℕ, zero, suc, ◌+◌, ◌-◌, ◌*◌, ◌≤◌, ◌<◌}
+use native.Mathlib.Omega.{arith}
+use lib.ListN.{replicate, length-replicate, get_or-replicate}
+use Rattle.syntax.specs.Text.{same}
+use Rattle.std.proofs.lemmas.Bool.{cases_eq}
+use Rattle.std.proofs.Common.{inl, inr}
+use Rattle.syntax.proofs.BoolLaws.{neither}
+use Rattle.board.specs.declared.image.Section.TheVariants.{Features}
+use Rattle.board.specs.Image.{word, section_offset, text, feature_count, property_set, property_name}
+use Rattle.instance.specs.Instance.{some, features_end, feature_is, has_feature}
+use Rattle.instance.specs.Places.{RECORD_SIZE, feature_is_at}
+use Rattle.instance.proofs.PlaceLaws.{feature_placed}
+use Rattle.marks.specs.declared.Compared.{Compared}
+use Rattle.marks.specs.Marks.{is_named}
+use Rattle.marks.specs.Known.{KNOWN, Known}
+
+-- one string is known
+pub known_first : {image bytes : List ℕ} {r : Bool} → r ≡ same (text image 0) bytes → Known image bytes (replicate KNOWN (record { string = 0; equal = r }))
+known_first {image} {bytes} {r} e =
+    record {
+      so = λ i none h.
+          let it : Compared = record { string = 0; equal = r } in
+          let here = get_or-replicate KNOWN i it none (omega (arith, length-replicate KNOWN it)) in
+          ap (λ (c : Compared). same (text image c.string) bytes) here ∙ sym e ∙ sym (ap (λ (c : Compared). c.equal) here);
+    }
+
+-- a feature by the string that was read at its place
+pub feature_known : (image name : List ℕ) (feature : ℕ) {first string : ℕ} {r : Bool} → first ≡ section_offset image Features → string ≡ word image (first + RECORD_SIZE * feature)
+    → r ≡ same (text image string) name → feature_is image name feature ≡ r
+unfolding feature_is_at
+feature_known image name feature f e h = sym (feature_placed image name f feature) ∙ ap (λ (s : ℕ). same (text image s) name) (sym e) ∙ sym h
+
+-- a property by the strings of its set and its name
+module _ (image set name : List ℕ) (property : ℕ) {set_string : ℕ} {r : Bool} (e : set_string ≡ property_set image property) (h : r ≡ same (text image set_string) set) where
+  set_known : same (text image (property_set image property)) set ≡ r
+  set_known = ap (λ (s : ℕ). same (text image s) set) (sym e) ∙ sym h
+
+  pub other_set : r ≡ false → r ≡ is_named image set name property
+  unfolding is_named
+  other_set f = rw (set_known, f)
+
+  pub name_known : {name_string : ℕ} {q : Bool} → r ≡ true → name_string ≡ property_name image property → q ≡ same (text image name_string) name → q ≡ is_named image set name property
+  unfolding is_named
+  name_known t g k = rw (set_known, t, ← g) k
+
+-- ---- where no feature has the name, none of a component's has
+
+some_none_at : (p : ℕ → Bool) (n m k : ℕ) → some p n m ≡ false → n ≤ k → k < n + m → p k ≡ false
+unfolding some
+some_none_at p n zero k e h l = absurd (omega arith)
+some_none_at p n (suc m) k e h l =
+    let t = neither (p n) (some p (suc n) m) e in
+    elim (cases_eq k n) [ inl here ↦ ap p here ∙ t.0 | inr past ↦ some_none_at p (suc n) m k t.1 (omega arith) (omega arith) ]
+
+some_none_of : (p : ℕ → Bool) (n m : ℕ) → ((k : ℕ) → n ≤ k → k < n + m → p k ≡ false) → some p n m ≡ false
+unfolding some
+some_none_of p n zero f = refl
+some_none_of p n (suc m) f = rw (f n (omega arith) (omega arith)) (some_none_of p (suc n) m (λ k h l. f k (omega arith) (omega arith)))
+
+pub none_has : (image name : List ℕ) {count : ℕ} → count ≡ feature_count image → some (feature_is image name) 0 (count - 0) ≡ false → (c : ℕ) → has_feature image c name ≡ false
+unfolding has_feature features_end
+none_has image name {count} e h c =
+    some_none_of (feature_is image name) _ _ (λ k g l. some_none_at (feature_is image name) 0 (count - 0) k h (omega arith) (omega arith))

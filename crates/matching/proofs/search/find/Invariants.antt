@@ -1,6 +1,0 @@
--- `search::find` gives the first place of a part, by the laws of a part searched for place by place. Assumes nothing.
-use Rattle.matching.proofs.SearchLaws.{Seeking}
-use Rattle.matching.proofs.search.find.Given as goal
-
-abbrev pub invariant-loop-at : goal.invariant-loop-at
-invariant-loop-at l = Seeking l.part l.text l.at
