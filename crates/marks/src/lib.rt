@@ -14,8 +14,8 @@ use board::image::Section;
 use instance;
 use matching::search;
 
-// The mark of a component that has the property, and of one that has the feature alone; 0 is no mark. Marks are bytes, as the memory is that a caller lends
-// for them.
+// The mark of a component that has the property, and of one that has the feature alone; 0 is no mark. Marks are bytes, as the memory is that
+// a caller lends for them.
 const OF_PROPERTY: u8 = 1;
 
 const OF_FEATURE: u8 = 2;
