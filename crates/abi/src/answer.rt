@@ -68,6 +68,7 @@ pub(crate) fn row_numbers(reading: Reading) -> [u32; PART]
 }
 
 // Writes the two parts at the front of an answer.
+#[tactic(auto, using(crate::proofs::AnswerLaws::parts_written))]
 pub(crate) fn write(answer: &mut [u32], first: [u32; PART], second: [u32; PART])
     requires { meant.ANSWER ≤ length answer.old }
     ensures { answer.new ≡ with_rows (first ++ second) answer.old }

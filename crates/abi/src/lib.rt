@@ -14,6 +14,7 @@ use message::ErrorRow;
 
 // Reads a rule into any three tables. It gives 1, and the eight numbers of the reading at the front of `answer`; or 0, with all tables as
 // they were, where `answer` has fewer than eight numbers.
+#[tactic(auto, using(crate::proofs::AnswerLaws::read_short, crate::proofs::AnswerLaws::read_answer))]
 pub fn spar_read(
     rule: &[u8],
     tokens: &mut [u32],
@@ -34,6 +35,7 @@ pub fn spar_read(
 
 // Runs a rule on a board image with any four tables. It gives 1, and the eight numbers of what the rule comes to at the front of `answer`;
 // or 0, with all tables as they were, where `answer` has fewer than eight numbers.
+#[tactic(auto, using(crate::proofs::AnswerLaws::run_short, crate::proofs::AnswerLaws::run_answer))]
 pub fn spar_run(
     rule: &[u8],
     image: &[u8],
@@ -56,6 +58,7 @@ pub fn spar_run(
 
 // Reads a rule's tokens into a table. `tree` and `errors` are the lengths of the other two tables. It gives 0, and the number of
 // tokens in `count`; or the number of a refusal from 1 to 4, with table and count as they were.
+#[tactic(auto, using(lexer::proofs::ReadLaws::tokens_few))]
 pub fn assertion_read_tokens(
     rule: &[u8],
     tokens: &mut [u32],
@@ -76,6 +79,7 @@ pub fn assertion_read_tokens(
 
 // Reads a rule into three tables. It gives 0, and the numbers of token, tree and error rows in their places; or the number of a
 // refusal from 1 to 4, with tables and places as they were.
+#[tactic(auto, using(trees::proofs::ReadLaws::rows_few))]
 pub fn assertion_parse_expr(
     rule: &[u8],
     tokens: &mut [u32],

@@ -5,6 +5,7 @@ use mathlib.Core.List.{List}
 use Prim.Native.Nat.{ℕ, zero, suc, ◌+◌, ◌-◌, ◌*◌, ◌/◌, ◌%◌, ◌≤◌, ◌<◌}
 use native.Mathlib.Decide.{dec_lt}
 use native.Mathlib.Nat.{mul-suc, mul-le-mul_left}
+use native.Mathlib.Numerals.{add-one}
 use native.Mathlib.Omega.{arith}
 use lib.Dec.{eqb, ltb, leb}
 use lib.ListN.{length, take, drop, length-drop}
@@ -19,7 +20,7 @@ use Rattle.syntax.specs.declared.refusal.Refusal.{Refusal}
 use Rattle.syntax.specs.declared.refusal.Refusal.TheVariants.{ImageBadSections, ImageBadStrings, ImageBadRecords, CollectionTooShort}
 use Rattle.board.specs.declared.image.Section.{Section}
 use Rattle.board.specs.declared.image.Section.TheVariants.{Letters, Strings, Components, Features, Connections, Properties, Diagnostics}
-use Rattle.board.specs.Image.{NUMBER_SIZE, little_endian, word, SECTIONS, section_number, pair_offset, pair_length, section_offset, section_length, record_size, record_count, field, text, text_offset, string_count, string_offset, string_length, component_count, category, parent, first_feature, features_of, wired, feature_count, feature_name, feature_kind, direction, connection_count, owner, source, target, property_count, property_component, property_set, property_name, diagnostic_count, analysis, severity, message}
+use Rattle.board.specs.Image.{NUMBER_SIZE, little_endian, word, SECTIONS, section_number, pair_offset, pair_length, section_offset, section_length, record_size, record_count, field, text, text_offset, string_count, string_offset, string_length, component_count, category, parent, first_feature, owned_features, wired, feature_count, feature_name, feature_kind, direction, connection_count, owner, source, target, property_count, property_component, property_set, property_name, diagnostic_count, analysis, severity, message}
 use Rattle.board.specs.Check.{laid, each, PAIRS_SIZE, MAX_IMAGE, CATEGORIES, WIRED_MARKS, FEATURE_KINDS, DIRECTIONS, SEVERITIES, COLLECTION_ROW, whole_records, all_whole_records, sections_laid, sections_fit, strings_laid, strings_utf8, strings_fit, component_fits, features_laid, components_fit, feature_fits, features_fit, connection_fits, connections_fit, property_fits, properties_fit, diagnostic_fits, diagnostics_fit, records_fit, collection_short, check_image}
 use Rattle.board.specs.WellFormed.{total, EndToEnd, letters, WellFormed, Room}
 
@@ -30,20 +31,21 @@ three p q r h =
     let b = both q r a.1 in
     (a.0, b.0, b.1)
 
--- what each of m records from n on passes, one of them passes
-each_step : (passes : ℕ → Bool) (n m k : ℕ) → passes n ≡ true → ((j : ℕ) → suc n ≤ j → j < suc n + m → passes j ≡ true) → n ≤ k → k < n + suc m → Dec (n < k) → passes k ≡ true
-each_step passes n m k here rest a b (yes l) = rest k l (omega arith)
-each_step passes n m k here rest a b (no l) = subst (λ (j : ℕ). passes j ≡ true) same here
+-- what holds at a number and at each after it holds from it on
+from_on : (P : ℕ → Type 0) {n k : ℕ} → n ≤ k → P n → (n < k → P k) → P k
+from_on P {n} {k} a here later = go (dec_lt n k)
   where
-    same : n ≡ k
-    same = omega arith
+    go : Dec (n < k) → P k
+    go (yes l) = later l
+    go (no l) = let same : n ≡ k = omega arith in subst P same here
 
+-- what each of m records from n on passes, one of them passes
 each_at : (passes : ℕ → Bool) (n m : ℕ) → each passes n m ≡ true → (k : ℕ) → n ≤ k → k < n + m → passes k ≡ true
 unfolding each
 each_at passes n zero h k a b = absurd (omega arith)
 each_at passes n (suc m) h k a b =
     let parts = both (passes n) (each passes (suc n) m) h in
-    each_step passes n m k parts.0 (each_at passes (suc n) m parts.1) a b (dec_lt n k)
+    from_on (λ j. passes j ≡ true) a parts.0 (λ l. each_at passes (suc n) m parts.1 k l (omega arith))
 
 passes_at : (passes : ℕ → Bool) (count : ℕ) → each passes 0 count ≡ true → (n : ℕ) → n < count → passes n ≡ true
 passes_at passes count h n l = each_at passes 0 count h n (omega arith) (omega arith)
@@ -54,105 +56,72 @@ unfolding each
 each_all passes n zero h = refl
 each_all passes n (suc m) h = rw (h n (omega arith) (omega arith)) (each_all passes (suc n) m (λ k a b. h k (omega arith) (omega arith)))
 
--- m pairs from n on, end to end from `at`
-record Onward (offset long : ℕ → ℕ) (n m at end : ℕ) : Type 0 where
-  whole : at ≤ end
-  first : 0 < m → offset n ≡ at
-  next : (k : ℕ) → n ≤ k → k + 1 < n + m → offset (k + 1) ≡ offset k + long k
-  last : (k : ℕ) → n ≤ k → k + 1 ≡ n + m → offset k + long k ≡ end
-  empty : m ≡ 0 → at ≡ end
-  within : (k : ℕ) → n ≤ k → k < n + m → offset k + long k ≤ end
+module _ (offset long : ℕ → ℕ) where
+  -- m pairs from n on, end to end from `at`
+  record Onward (n m at end : ℕ) : Type 0 where
+    first : 0 < m → offset n ≡ at
+    next : (k : ℕ) → n ≤ k → k + 1 < n + m → offset (k + 1) ≡ offset k + long k
+    last : (k : ℕ) → n ≤ k → k + 1 ≡ n + m → offset k + long k ≡ end
+    empty : m ≡ 0 → at ≡ end
+    within : (k : ℕ) → n ≤ k → k < n + m → offset k + long k ≤ end
+    whole : at + total long n m ≡ end
 
-onward_none : (offset long : ℕ → ℕ) (n at end : ℕ) → at ≡ end → Onward offset long n 0 at end
-onward_none offset long n at end e =
-    record {
-      whole = omega arith;
-      first = λ l. absurd (omega arith);
-      next = λ k a b. absurd (omega arith);
-      last = λ k a b. absurd (omega arith);
-      empty = λ z. e;
-      within = λ k a b. absurd (omega arith);
-    }
+  onward_none : (n at end : ℕ) → at ≡ end → Onward n 0 at end
+  unfolding total
+  onward_none n at end e =
+      record {
+        first = λ l. absurd (omega arith);
+        next = λ k a b. absurd (omega arith);
+        last = λ k a b. absurd (omega arith);
+        empty = λ z. e;
+        within = λ k a b. absurd (omega arith);
+        whole = omega arith;
+      }
 
-onward_one : (offset long : ℕ → ℕ) (n m at end : ℕ) → offset n ≡ at → Onward offset long (suc n) m (at + long n) end → Onward offset long n (suc m) at end
-onward_one offset long n m at end here rest =
-    record {
-      whole = omega (arith, rest.whole);
-      first = λ l. here;
-      next = λ k a b. next_at_lem k a b (dec_lt n k);
-      last = λ k a b. last_at k a b (dec_lt n k);
-      empty = λ e. absurd (omega arith);
-      within = λ k a b. within_at k a b (dec_lt n k);
-    }
-  where
-    next_at_lem : (k : ℕ) → n ≤ k → k + 1 < n + suc m → Dec (n < k) → offset (k + 1) ≡ offset k + long k
-    next_at_lem k a b (yes l) = rest.next k l (omega arith)
-    next_at_lem k a b (no l) =
-        subst (λ (j : ℕ). offset (j + 1) ≡ offset j + long j) same
-        (ap offset more ∙ rest.first (omega arith) ∙ ap (λ (x : ℕ). x + long n) (sym here))
-      where
-        same : n ≡ k
-        same = omega arith
+  onward_one : (n m at end : ℕ) → offset n ≡ at → Onward (suc n) m (at + long n) end → Onward n (suc m) at end
+  unfolding total
+  onward_one n m at end here rest =
+      record {
+        first = λ l. here;
+        next =
+            λ k a.
+            from_on (λ j. j + 1 < n + suc m → offset (j + 1) ≡ offset j + long j) a (λ b. rw (here, add-one) (rest.first (omega arith)))
+            (λ l b. rest.next k l (omega arith));
+        last = λ k a. from_on (λ j. j + 1 ≡ n + suc m → offset j + long j ≡ end) a (λ b. rw here (rest.empty (omega arith))) (λ l b. rest.last k l (omega arith));
+        empty = λ e. absurd (omega arith);
+        within = λ k a. from_on (λ j. j < n + suc m → offset j + long j ≤ end) a (λ b. omega (arith, rest.whole, here)) (λ l b. rest.within k l (omega arith));
+        whole = omega (arith, rest.whole);
+      }
 
-        more : n + 1 ≡ suc n
-        more = omega arith
+  onward : (n m at end : ℕ) → laid offset long n m at end ≡ true → Onward n m at end
+  unfolding laid
+  onward n zero at end h = onward_none n at end (eqb-true at end h)
+  onward n (suc m) at end h =
+      let parts = both (eqb (offset n) at) (laid offset long (suc n) m (at + long n) end) h in
+      onward_one n m at end (eqb-true (offset n) at parts.0) (onward (suc n) m (at + long n) end parts.1)
 
-    last_at : (k : ℕ) → n ≤ k → k + 1 ≡ n + suc m → Dec (n < k) → offset k + long k ≡ end
-    last_at k a b (yes l) = rest.last k l (omega arith)
-    last_at k a b (no l) =
-        subst (λ (j : ℕ). offset j + long j ≡ end) same (ap (λ (x : ℕ). x + long n) here ∙ rest.empty (omega arith))
-      where
-        same : n ≡ k
-        same = omega arith
-
-    within_at : (k : ℕ) → n ≤ k → k < n + suc m → Dec (n < k) → offset k + long k ≤ end
-    within_at k a b (yes l) = rest.within k l (omega arith)
-    within_at k a b (no l) = subst (λ (j : ℕ). offset j + long j ≤ end) same (omega (arith, rest.whole, here))
-      where
-        same : n ≡ k
-        same = omega arith
-
-onward : (offset long : ℕ → ℕ) (n m at end : ℕ) → laid offset long n m at end ≡ true → Onward offset long n m at end
-unfolding laid
-onward offset long n zero at end h = onward_none offset long n at end (eqb-true at end h)
-onward offset long n (suc m) at end h =
-    let parts = both (eqb (offset n) at) (laid offset long (suc n) m (at + long n) end) h in
-    onward_one offset long n m at end (eqb-true (offset n) at parts.0) (onward offset long (suc n) m (at + long n) end parts.1)
-
-laid_total : (offset long : ℕ → ℕ) (n m at end : ℕ) → laid offset long n m at end ≡ true → at + total long n m ≡ end
-unfolding laid total
-laid_total offset long n zero at end h = omega (arith, eqb-true at end h)
-laid_total offset long n (suc m) at end h =
-    omega (arith, laid_total offset long (suc n) m (at + long n) end (both (eqb (offset n) at) (laid offset long (suc n) m (at + long n) end) h).1)
-
-pub laid_end_to_end : (offset long : ℕ → ℕ) (count from end : ℕ) → laid offset long 0 count from end ≡ true → EndToEnd offset long count from end
-laid_end_to_end offset long count from end h =
-    record {
-      first = all.first;
-      next = λ n l. all.next n (omega arith) (omega arith);
-      last = λ n e. all.last n (omega arith) (omega arith);
-      empty = all.empty;
-      within = λ n l. all.within n (omega arith) (omega arith);
-      whole = laid_total offset long 0 count from end h;
-    }
-  where
-    all : Onward offset long 0 count from end
-    all = onward offset long 0 count from end h
+  pub laid_end_to_end : (count from end : ℕ) → laid offset long 0 count from end ≡ true → EndToEnd offset long count from end
+  laid_end_to_end count from end h =
+      let all = onward 0 count from end h in
+      record {
+        first = all.first;
+        next = λ n l. all.next n (omega arith) (omega arith);
+        last = λ n e. all.last n (omega arith) (omega arith);
+        empty = all.empty;
+        within = λ n l. all.within n (omega arith) (omega arith);
+        whole = all.whole;
+      }
 
 -- a part of a part is a part of the whole
 part_of_part : (xs : List ℕ) (o size s n : ℕ) → s + n ≤ size → o + s ≤ length xs → take n (drop s (take size (drop o xs))) ≡ take n (drop (o + s) xs)
 part_of_part xs o size s n h l =
+    let split : size ≡ s + (size - s) = omega arith in
+    let room : s ≤ length (drop o xs) = omega (arith, length-drop o xs) in
     ap (λ (m : ℕ). take n (drop s (take m (drop o xs)))) split
     ∙ ap (λ (ys : List ℕ). take n (drop s ys)) (take-add s (size - s) (drop o xs))
     ∙ ap (take n) (drop_at (take s (drop o xs)) (take (size - s) (drop s (drop o xs))) s (length-take-le s (drop o xs) room))
     ∙ take-take n (size - s) (drop s (drop o xs)) (omega arith)
     ∙ ap (take n) (drop-drop s o xs)
-  where
-    split : size ≡ s + (size - s)
-    split = omega arith
-
-    room : s ≤ length (drop o xs)
-    room = omega (arith, length-drop o xs)
 
 section_number_lem : (s : Section) → section_number s < SECTIONS
 section_number_lem Letters = omega arith
@@ -178,16 +147,15 @@ whole_at image h s =
     let c = both (whole_records image Features) _ b.1 in
     let d = both (whole_records image Connections) _ c.1 in
     let e = both (whole_records image Properties) (whole_records image Diagnostics) d.1 in
-    pick a.0 b.0 c.0 d.0 e.0 e.1 s
-  where
-    pick : whole_records image Strings ≡ true → whole_records image Components ≡ true → whole_records image Features ≡ true → whole_records image Connections ≡ true → whole_records image Properties ≡ true → whole_records image Diagnostics ≡ true → (s : Section) → whole_records image s ≡ true
-    pick a b c d e f Letters = eq-eqb (section_length image Letters % 1) 0 (omega arith)
-    pick a b c d e f Strings = a
-    pick a b c d e f Components = b
-    pick a b c d e f Features = c
-    pick a b c d e f Connections = d
-    pick a b c d e f Properties = e
-    pick a b c d e f Diagnostics = f
+    elim s as (λ (k : Section). whole_records image k ≡ true) [
+      | Letters ↦ eq-eqb (section_length image Letters % 1) 0 (omega arith)
+      | Strings ↦ a.0
+      | Components ↦ b.0
+      | Features ↦ c.0
+      | Connections ↦ d.0
+      | Properties ↦ e.0
+      | Diagnostics ↦ e.1
+    ]
 
 sections_of : (image : List ℕ) → sections_fit image ≡ true → Sections image
 unfolding sections_fit sections_laid
@@ -272,12 +240,18 @@ ascii_strings image h l a = each_all (λ n. utf8 (text image n)) 0 (string_count
 
 -- refusal 7 does not come
 record Records (image : List ℕ) : Type 0 where
-  features : EndToEnd (first_feature image) (features_of image) (component_count image) 0 (feature_count image)
-  component : (n : ℕ) → n < component_count image → component_fits image n ≡ true
-  feature : (n : ℕ) → n < feature_count image → feature_fits image n ≡ true
-  connection : (n : ℕ) → n < connection_count image → connection_fits image n ≡ true
-  property : (n : ℕ) → n < property_count image → property_fits image n ≡ true
-  diagnostic : (n : ℕ) → n < diagnostic_count image → diagnostic_fits image n ≡ true
+  features : EndToEnd (first_feature image) (owned_features image) (component_count image) 0 (feature_count image)
+  component : (n : ℕ) → n < component_count image → (category image n < CATEGORIES) × (parent image n < component_count image + 1) × (wired image n < WIRED_MARKS)
+  feature : (n : ℕ) → n < feature_count image → (feature_name image n < string_count image) × (feature_kind image n < FEATURE_KINDS) × (direction image n < DIRECTIONS)
+  connection : (n : ℕ) → n < connection_count image → (owner image n < component_count image) × (source image n < string_count image + 1) × (target image n < string_count image + 1)
+  property : (n : ℕ) → n < property_count image → (property_component image n < component_count image) × (property_set image n < string_count image) × (property_name image n < string_count image)
+  diagnostic : (n : ℕ) → n < diagnostic_count image → (analysis image n < string_count image) × (severity image n < SEVERITIES) × (message image n < string_count image)
+
+-- three tests of numbers below limits
+limits : (x a y b z c : ℕ) → (ltb x a && (ltb y b && ltb z c)) ≡ true → (x < a) × (y < b) × (z < c)
+limits x a y b z c h =
+    let t = three (ltb x a) (ltb y b) (ltb z c) h in
+    (ltb-true x a t.0, ltb-true y b t.1, ltb-true z c t.2)
 
 records_of : (image : List ℕ) → records_fit image ≡ true → Records image
 unfolding records_fit components_fit features_laid features_fit connections_fit properties_fit diagnostics_fit
@@ -287,22 +261,19 @@ records_of image h =
     let c = three (connections_fit image) (properties_fit image) (diagnostics_fit image) b.1 in
     let d = both (features_laid image) (each (component_fits image) 0 (component_count image)) a.0 in
     record {
-      features = laid_end_to_end (first_feature image) (features_of image) (component_count image) 0 (feature_count image) d.0;
-      component = passes_at (component_fits image) (component_count image) d.1;
-      feature = passes_at (feature_fits image) (feature_count image) b.0;
-      connection = passes_at (connection_fits image) (connection_count image) c.0;
-      property = passes_at (property_fits image) (property_count image) c.1;
-      diagnostic = passes_at (diagnostic_fits image) (diagnostic_count image) c.2;
+      features = laid_end_to_end (first_feature image) (owned_features image) (component_count image) 0 (feature_count image) d.0;
+      component = λ n l. limits _ _ _ _ _ _ (passes_at (component_fits image) (component_count image) d.1 n l);
+      feature = λ n l. limits _ _ _ _ _ _ (passes_at (feature_fits image) (feature_count image) b.0 n l);
+      connection = λ n l. limits _ _ _ _ _ _ (passes_at (connection_fits image) (connection_count image) c.0 n l);
+      property = λ n l. limits _ _ _ _ _ _ (passes_at (property_fits image) (property_count image) c.1 n l);
+      diagnostic = λ n l. limits _ _ _ _ _ _ (passes_at (diagnostic_fits image) (diagnostic_count image) c.2 n l);
     }
-
--- three tests of numbers below limits
-limits : (x a y b z c : ℕ) → (ltb x a && (ltb y b && ltb z c)) ≡ true → (x < a) × (y < b) × (z < c)
-limits x a y b z c h =
-    let t = three (ltb x a) (ltb y b) (ltb z c) h in
-    (ltb-true x a t.0, ltb-true y b t.1, ltb-true z c t.2)
 
 well_formed : (image : List ℕ) → sections_fit image ≡ true → strings_fit image ≡ true → records_fit image ≡ true → WellFormed image
 well_formed image h5 h6 h7 =
+    let s = sections_of image h5 in
+    let t = strings_laid_lem image h6 in
+    let r = records_of image h7 in
     record {
       least = s.least;
       most = s.most;
@@ -315,46 +286,22 @@ well_formed image h5 h6 h7 =
       text_lengths = λ n l. text_length image n (text_within image h5 t n l);
       texts_utf8 = texts_of image h6;
       features = r.features;
-      categories = λ n l. (component n l).0;
-      parents = λ n l. omega (arith, (component n l).1);
-      wired_marks = λ n l. (component n l).2;
-      feature_names = λ n l. (feature n l).0;
-      feature_kinds = λ n l. (feature n l).1;
-      directions = λ n l. (feature n l).2;
-      owners = λ n l. (connection n l).0;
-      sources = λ n l. omega (arith, (connection n l).1);
-      targets = λ n l. omega (arith, (connection n l).2);
-      property_components = λ n l. (property n l).0;
-      property_sets = λ n l. (property n l).1;
-      property_names = λ n l. (property n l).2;
-      analyses = λ n l. (diagnostic n l).0;
-      severities = λ n l. (diagnostic n l).1;
-      messages = λ n l. (diagnostic n l).2;
+      categories = λ n l. (r.component n l).0;
+      parents = λ n l. omega (arith, (r.component n l).1);
+      wired_marks = λ n l. (r.component n l).2;
+      feature_names = λ n l. (r.feature n l).0;
+      feature_kinds = λ n l. (r.feature n l).1;
+      directions = λ n l. (r.feature n l).2;
+      owners = λ n l. (r.connection n l).0;
+      sources = λ n l. omega (arith, (r.connection n l).1);
+      targets = λ n l. omega (arith, (r.connection n l).2);
+      property_components = λ n l. (r.property n l).0;
+      property_sets = λ n l. (r.property n l).1;
+      property_names = λ n l. (r.property n l).2;
+      analyses = λ n l. (r.diagnostic n l).0;
+      severities = λ n l. (r.diagnostic n l).1;
+      messages = λ n l. (r.diagnostic n l).2;
     }
-  where
-    s : Sections image
-    s = sections_of image h5
-
-    t : strings_laid image ≡ true
-    t = strings_laid_lem image h6
-
-    r : Records image
-    r = records_of image h7
-
-    component : (n : ℕ) → n < component_count image → (category image n < CATEGORIES) × (parent image n < component_count image + 1) × (wired image n < WIRED_MARKS)
-    component n l = limits (category image n) CATEGORIES (parent image n) (component_count image + 1) (wired image n) WIRED_MARKS (r.component n l)
-
-    feature : (n : ℕ) → n < feature_count image → (feature_name image n < string_count image) × (feature_kind image n < FEATURE_KINDS) × (direction image n < DIRECTIONS)
-    feature n l = limits (feature_name image n) (string_count image) (feature_kind image n) FEATURE_KINDS (direction image n) DIRECTIONS (r.feature n l)
-
-    connection : (n : ℕ) → n < connection_count image → (owner image n < component_count image) × (source image n < string_count image + 1) × (target image n < string_count image + 1)
-    connection n l = limits (owner image n) (component_count image) (source image n) (string_count image + 1) (target image n) (string_count image + 1) (r.connection n l)
-
-    property : (n : ℕ) → n < property_count image → (property_component image n < component_count image) × (property_set image n < string_count image) × (property_name image n < string_count image)
-    property n l = limits (property_component image n) (component_count image) (property_set image n) (string_count image) (property_name image n) (string_count image) (r.property n l)
-
-    diagnostic : (n : ℕ) → n < diagnostic_count image → (analysis image n < string_count image) × (severity image n < SEVERITIES) × (message image n < string_count image)
-    diagnostic n l = limits (analysis image n) (string_count image) (severity image n) SEVERITIES (message image n) (string_count image) (r.diagnostic n l)
 
 -- no refusal comes
 record Passes (a b c d : Bool) : Type 0 where
@@ -375,15 +322,24 @@ passes true true false d e = absurd (never e)
 passes true false c d e = absurd (never e)
 passes false b c d e = absurd (never e)
 
-passes_of : (image : List ℕ) (collection : ℕ) → check_image image collection ≡ Ok tt → Passes (sections_fit image) (strings_fit image) (records_fit image) (collection_short image collection)
-unfolding check_image
-passes_of image collection = passes (sections_fit image) (strings_fit image) (records_fit image) (collection_short image collection)
+module _ (image : List ℕ) (collection : ℕ) (e : check_image image collection ≡ Ok tt) where
+  passed : Passes (sections_fit image) (strings_fit image) (records_fit image) (collection_short image collection)
+  unfolding check_image
+  passed = passes (sections_fit image) (strings_fit image) (records_fit image) (collection_short image collection) e
 
--- an image that is not turned away is well formed
-pub passed_well_formed : (image : List ℕ) (collection : ℕ) → check_image image collection ≡ Ok tt → WellFormed image
-passed_well_formed image collection e =
-    let p = passes_of image collection e in
-    well_formed image p.sections p.strings p.records
+  -- an image that is not turned away is well formed
+  pub passed_well_formed : WellFormed image
+  passed_well_formed = well_formed image passed.sections passed.strings passed.records
+
+  -- and the collection table has room for its members
+  pub passed_room : Room image collection
+  unfolding collection_short
+  passed_room =
+      let n = neither (ltb (collection / COLLECTION_ROW) (component_count image + feature_count image)) (ltb (collection / COLLECTION_ROW) (diagnostic_count image)) passed.collection in
+      record {
+        members = ltb-false (collection / COLLECTION_ROW) (component_count image + feature_count image) n.0;
+        diagnostics = ltb-false (collection / COLLECTION_ROW) (diagnostic_count image) n.1;
+      }
 
 -- every number of its records is four bytes of the image, and no 0 for want of them
 pub field_read : (image : List ℕ) → WellFormed image → (s : Section) (index number : ℕ) → index < record_count image s → NUMBER_SIZE * number + NUMBER_SIZE ≤ record_size s
@@ -391,13 +347,3 @@ pub field_read : (image : List ℕ) → WellFormed image → (s : Section) (inde
 unfolding field word
 field_read image w s index number l h =
     rw (le-leb (section_offset image s + record_size s * index + NUMBER_SIZE * number + NUMBER_SIZE) (length image) (omega (arith, w.record_within s index l)))
-
--- and the collection table has room for its members
-pub passed_room : (image : List ℕ) (collection : ℕ) → check_image image collection ≡ Ok tt → Room image collection
-unfolding collection_short
-passed_room image collection e =
-    let n = neither (ltb (collection / COLLECTION_ROW) (component_count image + feature_count image)) (ltb (collection / COLLECTION_ROW) (diagnostic_count image)) (passes_of image collection e).collection in
-    record {
-      members = ltb-false (collection / COLLECTION_ROW) (component_count image + feature_count image) n.0;
-      diagnostics = ltb-false (collection / COLLECTION_ROW) (diagnostic_count image) n.1;
-    }

@@ -1,10 +1,9 @@
 -- How far a loop has come through pairs that lie end to end, or through records that each pass a test: what is left decides as the
 -- whole does. Assumes nothing.
 use mathlib.Core.Path.{◌≡◌, refl, sym, ap, ◌∙◌}
-use mathlib.Core.Bool.{Bool, true, false, ◌&&◌}
+use mathlib.Core.Bool.{Bool, true, false, ◌&&◌, and-true}
 use mathlib.Core.List.{List, [], ◌∷◌}
 use Prim.Native.Nat.{ℕ, zero, suc, ◌+◌, ◌-◌, ◌≤◌, ◌<◌}
-use native.Mathlib.Nat.{sub-zero}
 use native.Mathlib.Numerals.{add-one}
 use native.Mathlib.Omega.{arith}
 use lib.Dec.{eqb}
@@ -37,17 +36,12 @@ pub record Laying (offset long : ℕ → ℕ) (count from end n at : ℕ) : Type
 module _ {offset long : ℕ → ℕ} {count from end n at : ℕ} (laying : Laying offset long count from end n at) where
   pub laying_off : {x : ℕ} → n < count → x ≡ offset n → (x ≡ at → ⊥) → false ≡ laid offset long 0 count from end
   unfolding laid
-  laying_off {x} h e d = sym off ∙ laying.rest
-    where
-      off : laid offset long n (count - n) at end ≡ false
-      off = rw (one_more n count h, ← e, ne_eqb x at d)
+  laying_off {x} h e d = sym (rw (one_more n count h, ← e, ne_eqb x at d)) ∙ laying.rest
 
   pub laying_on : {x y : ℕ} → n < count → x ≡ offset n → x ≡ at → y ≡ long n → Laying offset long count from end (n + 1) (x + y)
   unfolding laid
-  laying_on {x} {y} h e d f = record { within = omega arith; rest = sym on ∙ laying.rest }
-    where
-      on : laid offset long n (count - n) at end ≡ laid offset long (n + 1) (count - (n + 1)) (x + y) end
-      on = rw (one_more n count h, ← e, eq-eqb x at d, add-one n, ← d, ← f)
+  laying_on {x} {y} h e d f =
+      record { within = omega arith; rest = sym (rw (one_more n count h, ← e, eq-eqb x at d, add-one n, ← d, ← f)) ∙ laying.rest }
 
   pub laying_done : count ≤ n → eqb at end ≡ laid offset long 0 count from end
   unfolding laid
@@ -58,23 +52,14 @@ pub record Passing (passes : ℕ → Bool) (count n : ℕ) : Type 0 where
   pub within : n ≤ count
   pub rest : each passes n (count - n) ≡ each passes 0 count
 
-pub passing_start : {passes : ℕ → Bool} {count : ℕ} → Passing passes count 0
-passing_start {passes} {count} = record { within = omega arith; rest = ap (each passes 0) (sub-zero count) }
-
 module _ {passes : ℕ → Bool} {count n : ℕ} (passing : Passing passes count n) where
   pub passing_no : n < count → passes n ≡ false → false ≡ each passes 0 count
   unfolding each
-  passing_no h e = sym no ∙ passing.rest
-    where
-      no : each passes n (count - n) ≡ false
-      no = rw (one_more n count h, e)
+  passing_no h e = sym (rw (one_more n count h, e)) ∙ passing.rest
 
   pub passing_yes : n < count → passes n ≡ true → Passing passes count (n + 1)
   unfolding each
-  passing_yes h e = record { within = omega arith; rest = sym yes ∙ passing.rest }
-    where
-      yes : each passes n (count - n) ≡ each passes (n + 1) (count - (n + 1))
-      yes = rw (one_more n count h, e, add-one n)
+  passing_yes h e = record { within = omega arith; rest = sym (rw (one_more n count h, e, add-one n)) ∙ passing.rest }
 
   pub passing_done : count ≤ n → true ≡ each passes 0 count
   unfolding each
@@ -102,11 +87,7 @@ both_second true e = e
 both_second false e = refl
 
 pub both_done : {r p q : Bool} → r ≡ p → true ≡ q → r ≡ (p && q)
-both_done {r} {p} e f = e ∙ at_true p ∙ ap (λ (t : Bool). p && t) f
-  where
-    at_true : (t : Bool) → t ≡ (t && true)
-    at_true true = refl
-    at_true false = refl
+both_done {p = p} e f = rw (← f, and-true p) e
 
 -- the same tests at equal limits
 pub limits_same : (image : List ℕ) (section : Section) {a a' b b' c c' : ℕ} → a ≡ a' → b ≡ b' → c ≡ c'
@@ -121,10 +102,8 @@ module _ (image : List ℕ) (n : ℕ) {letters x y : ℕ} (l : letters ≡ secti
 
   pub text_inside : letters + x + y ≤ length image → take (letters + x + y - (letters + x)) (drop (letters + x) image) ≡ text image n
   unfolding text
-  text_inside h = rw (← l, ← e, ← f, le-leb (letters + x + y) (length image) h, less)
-    where
-      less : letters + x + y - (letters + x) ≡ y
-      less = omega arith
+  text_inside h =
+      let less : letters + x + y - (letters + x) ≡ y = omega arith in rw (← l, ← e, ← f, le-leb (letters + x + y) (length image) h, less)
 
   -- the part that `get` lends, or nothing where there is none
   pub text_read : (r : Option (Bor (List ℕ))) → IsGetRangeResult image (letters + x) (letters + x + y) r → (none : Bor (List ℕ)) → none.now ≡ [] → (unwrap_or r none).now ≡ text image n

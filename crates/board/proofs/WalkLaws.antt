@@ -8,9 +8,9 @@ use native.Mathlib.Omega.{arith}
 use lib.ListN.{length, take, drop}
 use Rattle.board.specs.declared.image.Section.{Section}
 use Rattle.board.specs.declared.image.Section.TheVariants.{Letters, Components}
-use Rattle.board.specs.Image.{section_offset, section_length, record_size, record_count, field}
+use Rattle.board.specs.Image.{COMPONENT_SIZE, section_offset, section_length, record_size, record_count, field}
 use Rattle.board.specs.Check.{each, sections_fit, component_fits}
-use Rattle.board.specs.CheckScan.{COMPONENT_SIZE, number_at, component_at, below_at, all_below}
+use Rattle.board.specs.CheckScan.{number_at, component_at, below_at, all_below}
 use Rattle.board.specs.WellFormed.{letters}
 use Rattle.board.proofs.BoardLaws.{section_within_lem, section_filled, record_in}
 
@@ -45,7 +45,4 @@ module _ (image : List ℕ) {from size : ℕ} (o : from ≡ section_offset image
   letters_in fit = rw (o, l) (section_within_lem image fit Letters)
 
   pub letters_here : letters image ≡ take (from + size - from) (drop from image)
-  letters_here = rw (← o, ← l, less)
-    where
-      less : from + size - from ≡ size
-      less = omega arith
+  letters_here = let less : from + size - from ≡ size = omega arith in rw (← o, ← l, less)

@@ -4,13 +4,6 @@ use Rattle.board.specs.declared.image.Section.{Section}
 use Rattle.board.specs.Image.{NUMBER_SIZE, word, field, record_count}
 use Rattle.board.specs.Check.{each, is_index_or_none, CATEGORIES, WIRED_MARKS}
 
--- the bytes of a component's record, and of a record of three numbers
-abbrev pub COMPONENT_SIZE : ℕ
-COMPONENT_SIZE = 20
-
-abbrev pub TRIPLE_SIZE : ℕ
-TRIPLE_SIZE = 12
-
 -- a number of the record that begins at a place
 abbrev pub number_at : List ℕ → ℕ → ℕ → ℕ
 number_at image at number = word image (at + NUMBER_SIZE * number)

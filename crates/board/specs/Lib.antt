@@ -3,3 +3,4 @@ pub mod Check
 pub mod CheckScan
 pub mod WellFormed
 pub mod Boards
+pub mod Compared

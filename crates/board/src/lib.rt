@@ -2,10 +2,11 @@
 // letters are not ASCII alone.
 #![tactic(auto)]
 
+pub mod compared;
 pub mod image;
 
 ghost use Rattle.std.specs.Prelude.{◌≡◌, true, ◌+◌, ◌*◌, ◌≤◌, length};
-ghost use Rattle.board.specs.Image.{record_size};
+ghost use Rattle.board.specs.Image.{COMPONENT_SIZE, TRIPLE_SIZE, record_size};
 ghost use Rattle.board.specs.Check.{each, whole_records, all_whole_records, sections_laid, sections_fit, strings_laid, strings_utf8, strings_fit, components_fit, features_fit, connections_fit, properties_fit, diagnostics_fit, records_fit, collection_short, check_image};
 ghost use Rattle.board.specs.CheckScan.{component_at, below_at, all_below};
 ghost use Rattle.board.specs.CheckScan as meant;
@@ -15,7 +16,7 @@ use syntax::refusal::Refusal;
 use syntax::utf8;
 
 // The most bytes that an image may have, how many sections it has, and the bytes of their pairs, which are the fewest.
-const MAX_IMAGE: usize = 65536;
+pub const MAX_IMAGE: usize = 65536;
 
 const SECTIONS: usize = 7;
 
@@ -32,13 +33,8 @@ pub const SEVERITIES: u32 = 3;
 
 const WIRED_MARKS: u32 = 2;
 
-// The bytes of a component's record, and of a record of three numbers.
-const COMPONENT_SIZE: usize = 20;
-
-const TRIPLE_SIZE: usize = 12;
-
 // The numbers of a row of the collection table.
-const COLLECTION_ROW: usize = 2;
+pub const COLLECTION_ROW: usize = 2;
 
 // Refusals 5 to 8, in their order, of an image and the length of the collection table.
 #[tactic(auto, unfolding(crate::specs::Check::check_image))]
@@ -63,7 +59,7 @@ pub fn check_image(image: &[u8], collection: usize) -> Result<(), Refusal>
 
 // Whether the image's length, the pairs of its sections and the sections' lengths are as they should be: refusal 5 does not come.
 #[tactic(auto, unfolding(crate::specs::Check::sections_fit))]
-pub fn sections_fit(image: &[u8]) -> bool
+fn sections_fit(image: &[u8]) -> bool
     ensures { result ≡ sections_fit image.now }
 {
     PAIRS_SIZE <= image.len()
@@ -162,8 +158,8 @@ impl<'a> Sectioned<'a> {
             && self.diagnostics_fit()
     }
 
-    // Category, parent and wired of each component, and that the components' features lie end to end over the features. It is not inlined, so
-    // that its loop has the registers for itself: beside the other sections' it takes a fifth more for a component.
+    // Category, parent and wired of each component, and that the components' features lie end to end over the features. It is not inlined,
+    // so that its loop has the registers for itself: beside the other sections' it takes a fifth more for a component.
     #[inline(never)]
     fn components_fit(self) -> bool
         ensures { result ≡ components_fit self.entry.image.now }
@@ -174,7 +170,7 @@ impl<'a> Sectioned<'a> {
         let start = image::section_offset(image, Section::Components) as usize;
         let mut next = 0;
         for n in 0..components as usize {
-            let at = start + COMPONENT_SIZE * n;
+            let at = start + image::COMPONENT_SIZE * n;
             let first = image::number_at(image, at, Component::FirstFeature as u32) as usize;
             let count = image::number_at(image, at, Component::Features as u32) as usize;
             if first != next || !component_fits(image, at, components) {
@@ -221,7 +217,7 @@ impl<'a> Sectioned<'a> {
 
     // Whether the three numbers of each record are below their limits.
     fn all_below(self, section: Section, first: u32, second: u32, third: u32) -> bool
-        requires { record_size section ≡ meant.TRIPLE_SIZE }
+        requires { record_size section ≡ TRIPLE_SIZE }
         ensures { result ≡ all_below self.entry.image.now section first second third }
     {
         let start = image::section_offset(self.image, section) as usize;
@@ -241,7 +237,7 @@ fn strings_utf8(image: &[u8]) -> bool
 
 // Category, parent and wired of the component whose record begins at a place.
 fn component_fits(image: &[u8], at: usize, components: u32) -> bool
-    requires { at + meant.COMPONENT_SIZE ≤ length image.now }
+    requires { at + COMPONENT_SIZE ≤ length image.now }
     ensures { result ≡ component_at image.now at components }
 {
     image::number_at(image, at, Component::Category as u32) < CATEGORIES
@@ -258,15 +254,15 @@ fn triples_below(
     second: u32,
     third: u32,
 ) -> bool
-    requires { start + meant.TRIPLE_SIZE * count ≤ length image.now }
-    ensures { result ≡ each (λ n. below_at image.now (start + meant.TRIPLE_SIZE * n) first second third) 0 count }
+    requires { start + TRIPLE_SIZE * count ≤ length image.now }
+    ensures { result ≡ each (λ n. below_at image.now (start + TRIPLE_SIZE * n) first second third) 0 count }
 {
-    (0..count).all(|n| is_below(image, start + TRIPLE_SIZE * n, first, second, third))
+    (0..count).all(|n| is_below(image, start + image::TRIPLE_SIZE * n, first, second, third))
 }
 
 // The same of the record that begins at a place.
 fn is_below(image: &[u8], at: usize, first: u32, second: u32, third: u32) -> bool
-    requires { at + meant.TRIPLE_SIZE ≤ length image.now }
+    requires { at + TRIPLE_SIZE ≤ length image.now }
     ensures { result ≡ below_at image.now at first second third }
 {
     image::number_at(image, at, 0) < first
@@ -276,7 +272,7 @@ fn is_below(image: &[u8], at: usize, first: u32, second: u32, third: u32) -> boo
 
 // Whether the collection table has fewer rows than a collection of this board can have members: refusal 8 comes.
 #[tactic(auto, unfolding(crate::specs::Check::collection_short))]
-pub fn collection_short(image: &[u8], collection: usize) -> bool
+fn collection_short(image: &[u8], collection: usize) -> bool
     ensures { result ≡ collection_short image.now collection }
 {
     let rows = collection / COLLECTION_ROW;

@@ -1,4 +1,3 @@
 pub mod AnswerLaws
 pub mod CompareLaws
 pub mod MethodLaws
-pub mod TableLaws

@@ -1,4 +1,3 @@
 pub mod Answer
 pub mod Integer
 pub mod Numbers
-pub mod Table

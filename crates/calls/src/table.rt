@@ -12,7 +12,7 @@ use syntax::refusal::Refusal;
 
 type Entry = Result<ValueKind, Refusal>;
 
-// The calls but `where` on a collection, of whatever members, give one kind; on others each call has its refusal.
+// The line of `all`, `any` and `none`: a boolean of any collection.
 const QUANTIFIER: [Entry; 5] = [
     Ok(Boolean),
     Ok(Boolean),

@@ -12,8 +12,8 @@ use std::io;
 use std::io::Write;
 use std::marker::PhantomData;
 
-// The number at the front of the input, and what is left past the byte that ends it. One above 9,999,999 is cut short. Its end is a byte, and
-// what is left is wanted too, so that a `while` says it.
+// The number at the front of the input, and what is left past the byte that ends it. One above 9,999,999 is cut short. Its end is a byte,
+// and what is left is wanted too, so that a `while` says it.
 pub fn number(input: &[u8]) -> (usize, &[u8])
     ensures value { result.0 ≡ number 0 input.now }
     ensures rest { result.1.now ≡ past_number 0 input.now }
@@ -117,8 +117,8 @@ pub trait Replayed<'a>: Case<'a> + Drop {
     fn run<W: Write>(self, out: &mut W) -> io::Result<()>;
 }
 
-// Runs the cases of a file from the first on, and stops at one that is not in the format. Of a file without bytes nothing is run or printed;
-// what is printed of others is for each kind of case to say.
+// Runs the cases of a file from the first on, and stops at one that is not in the format. Of a file without bytes nothing is run or
+// printed; what is printed of others is for each kind of case to say.
 pub fn replay<'a, C: Replayed<'a>, W: Write>(out: &mut W, input: &'a [u8]) -> io::Result<()>
     ensures { input.now ≡ [] → (result ≡ Ok tt) × (out.new ≡ out.old) }
 {

@@ -29,11 +29,11 @@ use Rattle.meaning.specs.declared.ValueKind.{ValueKind}
 use Rattle.meaning.specs.Value.{Sort, components, diagnostics, Outcome, collection, boolean, refused, sort_kind}
 use Rattle.meaning.specs.declared.Method.{Method}
 use Rattle.meaning.specs.declared.Method.TheVariants.{Where, All, Any, None, Count}
-use Rattle.meaning.specs.Calls.{Entry, Call, is_empty, call_gives, calls_give}
+use Rattle.meaning.specs.Calls.{Entry, Call, is_empty, call_gives, calls_give, how_many}
 use Rattle.meaning.specs.Pipeline.{all_components, is_of_analysis, diagnostics_of, source_of, calls_of, eval_pipeline}
 use Rattle.meaning.specs.Compare.{MAX_INTEGER, operator_holds, against, compared, operator_of, integer_of}
 use Rattle.meaning.specs.Outcome.{Lent, first_kind, first_inner, eval_count_compare, eval_node, outcome_of, outcome, then_check, check_run, after_check, run}
-use Rattle.meaning.specs.Walk.{plan_of, arrivals, last_method, last_test, how_many, judged, settled}
+use Rattle.meaning.specs.Walk.{plan_of, arrivals, last_method, last_test, judged, settled}
 use Rattle.meaning.proofs.WalkLaws.{calls_refused, calls_settled, components_fit_lem, diagnostics_fit_lem}
 use Rattle.calls.specs.Answer.{answer_of, boolean_of}
 use Rattle.calls.specs.Numbers.{value_amount, outcome_amount}

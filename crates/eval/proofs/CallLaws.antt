@@ -17,10 +17,17 @@ use Rattle.predicate.specs.Rows.{ROW, kind_at, level_at, text_at, forest_from, c
 use Rattle.predicate.specs.Eval.{FoundAt, FoundNowhere}
 use Rattle.predicate.proofs.ForestLaws.{forest_below, forest_token, forest_node, forest_ends, children_none, found_level, found_kind, Ignores, ignored_none, ignored_found}
 use Rattle.predicate.proofs.NodeLaws.{row_found, row_absent}
+use Rattle.predicate.proofs.RowLaws.{row_there, below_row}
 use Rattle.meaning.specs.Calls.{Call}
 use Rattle.meaning.specs.Pipeline.{method_of, args_of, call_of, calls_of}
 use Rattle.eval.specs.declared.ready.Call.{Call as PlacedCall}
 use Rattle.eval.specs.Ready.{call_in, calls_in, args_place, call_row, Holds}
+
+-- ---- a row of the tree
+
+-- one that was found below a level is whole
+pub whole_below : (tree : List ℕ) (level at : ℕ) {r : Bool} → r ≡ is_below tree level at → r ≡ true → at + ROW ≤ length tree
+whole_below tree level at e h = row_there tree at (below_row tree level at (sym e ∙ h)).0
 
 -- ---- the call that a row of the tree opens
 

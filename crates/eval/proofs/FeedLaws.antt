@@ -1,7 +1,7 @@
 -- Members sent one after the other, and what is kept of each. Assumes nothing.
 use mathlib.Core.Path.{◌≡◌, refl, sym, ap, ◌∙◌, subst}
 use mathlib.Core.Bool.{Bool, true, false, ◌&&◌, cond, false≢true}
-use mathlib.Core.List.{List, [], ◌∷◌, ◌++◌, append-nil, map}
+use mathlib.Core.List.{List, [], ◌∷◌, ◌++◌, append-nil}
 use mathlib.Core.Option.{Option, none, some}
 use Prim.Native.Nat.{ℕ, ◌+◌, ◌*◌, ◌≤◌, ◌<◌}
 use native.Mathlib.Nat.{add-zero}
@@ -11,16 +11,14 @@ use lib.Seq.{sets, length-sets}
 use borrow.Author.Tests.{ltb-true, lt-ltb}
 use Rattle.syntax.proofs.TableLaws.{sets_append}
 use Rattle.board.specs.Check.{COLLECTION_ROW}
-use Rattle.board.specs.Image.{first_feature}
-use Rattle.instance.specs.Instance.{features_end}
 use Rattle.predicate.specs.declared.atom.Member.{Member}
 use Rattle.predicate.specs.declared.atom.Member.TheVariants.{Component, Feature, Diagnostic}
 use Rattle.meaning.specs.Value.{row_of, rows_of}
 use Rattle.meaning.specs.declared.Method.{Method}
 use Rattle.meaning.specs.declared.Method.TheVariants.{Where, All, Any, None, Count, Features, Diagnostics}
-use Rattle.meaning.specs.Calls.{Call, keep, kept, up_from, true_for, features_of}
-use Rattle.meaning.specs.Walk.{is_quantifier, is_last, arrivals, last_call, test_in, how_many}
-use Rattle.meaning.proofs.WalkLaws.{up_to, arrive_end, arrive_kept, arrive_dropped, arrive_passed, arrive_component, arrive_feature, arrive_diagnostic, arrive_last, last_here, last_later, how_many_append, how_many_most, rows_append, rows_length, up_all, features_made, made_turn, made_over, kept_turn, kept_skip, kept_over}
+use Rattle.meaning.specs.Calls.{Call, keep, kept, true_for, features_of, how_many}
+use Rattle.meaning.specs.Walk.{is_quantifier, is_last, arrivals, last_call, test_in}
+use Rattle.meaning.proofs.WalkLaws.{arrive_end, arrive_kept, arrive_dropped, arrive_passed, arrive_component, arrive_feature, arrive_diagnostic, arrive_last, last_here, last_later, how_many_append, how_many_most, rows_append, rows_length, arrivals_append, arrivals_none}
 use Rattle.predicate.specs.Truth.{truth}
 use Rattle.predicate.specs.Rows.{children_at}
 use Rattle.eval.specs.declared.ready.Call.{Call as PlacedCall}
@@ -73,6 +71,17 @@ pub record Parts (image : List ℕ) (calls : List Call) (members first others : 
 -- nothing arrives of members
 pub record Lost (image : List ℕ) (calls : List Call) (members : List Member) : Type 0 where
   pub arrivals : arrivals image calls members ≡ []
+
+-- so it is of members that are the same as others, that are some and then others, or none
+module _ {image : List ℕ} {calls : List Call} {members : List Member} where
+  pub alike_are : {others : List Member} → members ≡ others → Alike image calls members calls others
+  alike_are e = record { arrivals = ap (arrivals image calls) e; last = refl }
+
+  pub parts_are : (first : List Member) {others : List Member} → members ≡ first ++ others → Parts image calls members first others
+  parts_are first {others} e = record { arrivals = ap (arrivals image calls) e ∙ arrivals_append image calls first others }
+
+  pub lost_none : members ≡ [] → Lost image calls members
+  lost_none e = record { arrivals = ap (arrivals image calls) e ∙ arrivals_none image calls }
 
 pub fed_alike : {image : List ℕ} {calls later : List Call} {members others : List Member} (s : State)
     → Alike image calls members later others → fed image later others s ≡ fed image calls members s
@@ -273,41 +282,6 @@ module _ {last : Method} {image : List ℕ} {calls : List Call} {all : List Memb
   pub feeding_end : Lost image calls rest → Stands last s (fed image calls all start)
   feeding_end l = stands_equal p.fits.fewer (fed_lost s l ∙ p.same)
 
--- the members in their turn: made of the numbers from one up to an end
-module _ (image : List ℕ) (calls : List Call) (make : ℕ → Member) (first end : ℕ) where
-  pub turn : first < end → Parts image calls (map make (up_to first end)) (make first ∷ []) (map make (up_to (first + 1) end))
-  turn h = record { arrivals = made_turn image calls make first end h }
-
-  pub over : end ≤ first → Lost image calls (map make (up_to first end))
-  over h = record { arrivals = made_over image calls make first end h }
-
--- a component's features, by their first and their end
-pub features_start : {last : Method} (image : List ℕ) (calls : List Call) (c : ℕ) (s : State) (first end : ℕ) → first ≡ first_feature image c → end ≡ features_end image c
-    → Fits last image calls (features_of image c) s → Feeding last image calls (features_of image c) s (map (Feature c) (up_to first end)) s
-features_start {last} image calls c s first end f e h =
-    subst (λ (rest : List Member). Feeding last image calls (features_of image c) s rest s) made (feeding_start h)
-  where
-    made : features_of image c ≡ map (Feature c) (up_to first end)
-    made = features_made image c ∙ λ i. map (Feature c) (up_to (sym f i) (sym e i))
-
--- and of those the ones that pass a test
-module _ (image : List ℕ) (calls : List Call) (passes : Member → Bool) (make : ℕ → Member) (first end : ℕ) where
-  pub over_kept : end ≤ first → Lost image calls (kept passes (map make (up_to first end)))
-  over_kept h = record { arrivals = kept_over image calls passes make first end h }
-
-  -- the first is one of them, or is passed over
-  pub turn_kept : passes (make first) ≡ true → first < end → Parts image calls (kept passes (map make (up_to first end))) (make first ∷ []) (kept passes (map make (up_to (first + 1) end)))
-  turn_kept t h = record { arrivals = kept_turn image calls passes make first end h t }
-
-  pub turn_skipped : passes (make first) ≡ false → first < end → Alike image calls (kept passes (map make (up_to first end))) calls (kept passes (map make (up_to (first + 1) end)))
-  turn_skipped t h = record { arrivals = kept_skip image calls passes make first end h t; last = refl }
-
--- all that are made of the numbers up to a count
-pub all_start : {last : Method} (image : List ℕ) (calls : List Call) (of : List ℕ → List Member) (s : State) (n count : ℕ) → count ≡ n
-    → Fits last image calls (of (up_from 0 n)) s → Feeding last image calls (of (up_from 0 n)) s (of (up_to 0 count)) s
-all_start {last} image calls of s n count e h =
-    subst (λ (rest : List Member). Feeding last image calls (of (up_from 0 n)) s rest s) (ap of (up_all n ∙ ap (up_to 0) (sym e))) (feeding_start h)
-
 -- ---- one member at a call of the table
 
 module _ (rule image tree : List ℕ) (rows : List PlacedCall) (i : ℕ) where
@@ -355,12 +329,9 @@ module _ (rule image tree : List ℕ) (rows : List PlacedCall) (i : ℕ) where
         here (λ cs. state (s.arrived + 1) (s.passed + cond (is_quantifier method && truth image m (children_at rule tree args)) 1 0) s.table ≡ fed image cs (m ∷ []) s)
         (fed_last image call later m s (is_quantifier method && truth image m (children_at rule tree args)) l refl)
 
-    -- it arrives, and there is room for it
+    -- it arrives
     pub here_one : (m : Member) → is_last method ≡ true → arrivals image calls (m ∷ []) ≡ m ∷ []
     here_one m l = here (λ cs. arrivals image cs (m ∷ []) ≡ m ∷ []) (arrive_last image call later m l)
-
-    pub here_room : {last : Method} (m : Member) (s : State) → is_last method ≡ true → Fits last image calls (m ∷ []) s → COLLECTION_ROW * (s.arrived + 1) ≤ length s.table
-    here_room m s l f = fits_one (here_one m l) f
 
   -- no call is left
   module _ (h : length rows ≤ i) where

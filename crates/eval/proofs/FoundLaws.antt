@@ -1,9 +1,10 @@
 -- What was found of profiles: nothing at first, then what the notes tell. Assumes nothing.
-use mathlib.Core.Path.{◌≡◌, refl, sym, ap, ◌∙◌, subst}
+use mathlib.Core.Path.{◌≡◌, refl, sym, ap, ◌∙◌}
 use mathlib.Core.List.{List}
-use Prim.Native.Nat.{ℕ, zero, suc, ◌<◌}
+use Prim.Native.Nat.{ℕ, ◌<◌}
+use native.Mathlib.Omega.{arith}
 use lib.Dec.{eqb}
-use lib.ListN.{length, get_or, set, replicate}
+use lib.ListN.{length, get_or, set, replicate, length-replicate, get_or-replicate, get_or-eq_default}
 use lib.Seq.{get_or-set_same, get_or-set_other}
 use borrow.Author.Tests.{eqb-true, eqb-false}
 use Rattle.std.specs.Prelude.{Option, Some, None}
@@ -13,21 +14,17 @@ use Rattle.profile.specs.Profile.{PROFILES, profile_of}
 use Rattle.eval.specs.declared.found.Found.{Found}
 use Rattle.eval.specs.declared.found.Found.TheVariants.{Nothing, Asked, Told}
 use Rattle.eval.specs.declared.step.Step.{Step}
-use Rattle.eval.specs.declared.walk.Pipeline.{Pipeline}
 use Rattle.eval.specs.declared.walk.Walk.{Walk}
 use Rattle.eval.specs.Found.{step_of, step_by, FoundSo}
 use Rattle.eval.specs.Step.{StepIs, Steps}
-use Rattle.eval.specs.Walk.{calls_at, SoundOf, SameWalk}
+use Rattle.eval.specs.Walk.{calls_at, SoundOf}
 use Rattle.eval.proofs.MemoLaws.{placed_plain}
-
-nothing : (n i : ℕ) → get_or (replicate n Nothing) i Nothing ≡ Nothing
-nothing zero i = refl
-nothing (suc n) zero = refl
-nothing (suc n) (suc i) = nothing n i
 
 nothing_by : (n : ℕ) (p : Option ℕ) → step_by (replicate n Nothing) p ≡ None
 nothing_by n None = refl
-nothing_by n (Some k) = ap step_of (nothing n k)
+nothing_by n (Some k) =
+    let nothing : get_or (replicate n Nothing) k Nothing ≡ Nothing = grind (arith, get_or-replicate, get_or-eq_default, length-replicate) in
+    ap step_of nothing
 
 pub found_none : (w : Walk) (i : ℕ) → FoundSo w i (replicate PROFILES Nothing)
 found_none w i =
@@ -35,15 +32,6 @@ found_none w i =
       so = λ m step e.
           let none = nothing_by PROFILES (profile_of w.pipeline.image.now w.sorts.held m) in
           absurd cc;
-    }
-
--- it is so of a walk with the same before it
-pub found_same : {w v : Walk} {i : ℕ} {found : List Found} → SameWalk w v → FoundSo w i found → FoundSo v i found
-found_same {w} {v} {i} {found} s f =
-    record {
-      so = λ m step e.
-          subst (λ (p : Pipeline). StepIs p.image.now (calls_at p i) m step) (sym s.pipeline)
-          (f.so m step ((λ j. step_by found (profile_of (sym s.pipeline j).image.now (sym s.sorts j).held m)) ∙ e));
     }
 
 -- the step of a member

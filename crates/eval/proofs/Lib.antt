@@ -11,7 +11,6 @@ pub mod RunLaws
 pub mod AmountLaws
 pub mod MarkedLaws
 pub mod MemoLaws
-pub mod AnalysisLaws
 pub mod StepLaws
 pub mod FoundLaws
 pub mod SentLaws

@@ -2,24 +2,25 @@
 use mathlib.Core.Path.{◌≡◌, refl, sym, ap, ◌∙◌, subst}
 use mathlib.Core.Bool.{Bool, true, false}
 use mathlib.Core.List.{List, [], ◌∷◌, ◌++◌, map, append-nil}
-use Prim.Native.Nat.{ℕ, zero, suc, ◌+◌, ◌-◌, ◌*◌, ◌≤◌, ◌<◌}
+use Prim.Native.Nat.{ℕ, ◌+◌, ◌-◌, ◌*◌, ◌≤◌, ◌<◌}
 use native.Mathlib.Nat.{zero-add}
 use native.Mathlib.Omega.{arith}
 use lib.ListN.{length, length-append}
 use lib.Seq.{sets, length-sets}
+use Rattle.syntax.specs.Text.{same}
 use Rattle.syntax.proofs.TableLaws.{sets_append}
 use Rattle.board.specs.Check.{COLLECTION_ROW}
-use Rattle.board.specs.Image.{component_count, diagnostic_count, first_feature}
+use Rattle.board.specs.Image.{text, component_count, diagnostic_count, first_feature, analysis}
 use Rattle.instance.specs.Instance.{features_end}
 use Rattle.predicate.specs.declared.atom.Member.{Member}
 use Rattle.predicate.specs.declared.atom.Member.TheVariants.{Component, Feature, Diagnostic}
 use Rattle.meaning.specs.Value.{row_of, rows_of}
 use Rattle.meaning.specs.declared.Method.{Method}
 use Rattle.meaning.specs.declared.Method.TheVariants.{Count, Features}
-use Rattle.meaning.specs.Calls.{Call, kept, up_from, features_of, fan_out}
+use Rattle.meaning.specs.Calls.{Call, kept, features_of, fan_out, how_many}
 use Rattle.meaning.specs.Pipeline.{is_of_analysis}
-use Rattle.meaning.specs.Walk.{arrivals, arrive_by, last_call, how_many}
-use Rattle.meaning.proofs.WalkLaws.{up_to, up_turn, up_over, up_all, features_made, rows_append, rows_length}
+use Rattle.meaning.specs.Walk.{arrivals, arrive_by, last_call}
+use Rattle.meaning.proofs.WalkLaws.{up_to, made_length, up_all, made_next, made_none, kept_next, kept_past, kept_none, features_made, rows_append, rows_length}
 use Rattle.eval.specs.declared.ready.Call.{Call as PlacedCall}
 use Rattle.eval.specs.declared.walk.Tally.{Tally}
 use Rattle.std.specs.Prelude.{Option, Some}
@@ -84,32 +85,6 @@ lists_one m row before e = record { row = refl; table = e ∙ ap (sets before (C
 
 -- ---- members in their turn
 
-module _ (make : ℕ → Member) (first end : ℕ) where
-  pub made_next : first < end → map make (up_to first end) ≡ make first ∷ map make (up_to (first + 1) end)
-  made_next h = ap (map make) (up_turn first end h)
-
-  pub made_none : end ≤ first → map make (up_to first end) ≡ []
-  made_none h = ap (map make) (up_over first end h)
-
--- those of them that pass a test
-module _ (passes : Member → Bool) (make : ℕ → Member) (first end : ℕ) where
-  pub kept_first : passes (make first) ≡ true → first < end → kept passes (map make (up_to first end)) ≡ make first ∷ kept passes (map make (up_to (first + 1) end))
-  unfolding kept
-  kept_first t h = rw (up_turn first end h, t)
-
-  pub kept_others : passes (make first) ≡ false → first < end → kept passes (map make (up_to first end)) ≡ kept passes (map make (up_to (first + 1) end))
-  unfolding kept
-  kept_others t h = rw (up_turn first end h, t)
-
-  pub kept_nobody : end ≤ first → kept passes (map make (up_to first end)) ≡ []
-  unfolding kept
-  kept_nobody h = ap (kept passes) (made_none make first end h)
-
-made_number : (make : ℕ → Member) (first n : ℕ) → length (map make (up_from first n)) ≡ n
-unfolding up_from
-made_number make first zero = refl
-made_number make first (suc n) = ap suc (made_number make (suc first) n)
-
 pub every_made : (image : List ℕ) {count : ℕ} → count ≡ component_count image → every_component image ≡ map Component (up_to 0 count)
 every_made image e = ap (map Component) (up_all (component_count image) ∙ ap (up_to 0) (sym e))
 
@@ -123,9 +98,22 @@ diagnostics_from image name diagnostic count = kept (is_of_analysis image name) 
 pub diagnostics_made : (image name : List ℕ) {count : ℕ} → count ≡ diagnostic_count image → every_of_analysis image name ≡ diagnostics_from image name 0 count
 diagnostics_made image name e = ap (λ (ns : List ℕ). kept (is_of_analysis image name) (map Diagnostic ns)) (up_all (diagnostic_count image) ∙ ap (up_to 0) (sym e))
 
+-- the first of them is of the analysis by its text, or is not; or there is none
+module _ (image name : List ℕ) (diagnostic count : ℕ) where
+  pub diagnostic_next : same (text image (analysis image diagnostic)) name ≡ true → diagnostic < count → diagnostics_from image name diagnostic count ≡ Diagnostic diagnostic ∷ diagnostics_from image name (diagnostic + 1) count
+  unfolding is_of_analysis
+  diagnostic_next = kept_next (is_of_analysis image name) Diagnostic diagnostic count
+
+  pub diagnostic_past : same (text image (analysis image diagnostic)) name ≡ false → diagnostic < count → diagnostics_from image name diagnostic count ≡ diagnostics_from image name (diagnostic + 1) count
+  unfolding is_of_analysis
+  diagnostic_past = kept_past (is_of_analysis image name) Diagnostic diagnostic count
+
+  pub diagnostics_none : count ≤ diagnostic → diagnostics_from image name diagnostic count ≡ []
+  diagnostics_none = kept_none (is_of_analysis image name) Diagnostic diagnostic count
+
 -- how many a component has
 pub features_number : (image : List ℕ) (c : ℕ) {first end : ℕ} → end ≡ features_end image c → first ≡ first_feature image c → end - first ≡ length (features_of image c)
-features_number image c {first} {end} e f = sym (ap length (features_are image c e f) ∙ made_number (Feature c) first (end - first))
+features_number image c {first} {end} e f = sym (ap length (features_are image c e f) ∙ made_length (Feature c) first (end - first))
 
 -- the features of all from a component on
 abbrev pub features_from : List ℕ → ℕ → ℕ → List Member
@@ -250,7 +238,7 @@ module _ (rule image tree : List ℕ) (rows : List PlacedCall) where
       ∙ ap (λ (calls : List Call). fed image calls ms (begin table)) (sym (calls_at rule tree rows 0 c.there))
 
   pub counted_all : {n : ℕ} (table : List ℕ) → IsCall rows 0 Count → n ≡ component_count image → state n 0 table ≡ fed image (from 0) (every_component image) (begin table)
-  counted_all table c e = counted_these (every_component image) table c (e ∙ sym (made_number Component 0 (component_count image)))
+  counted_all table c e = counted_these (every_component image) table c (e ∙ sym (made_length Component 0 (component_count image)))
 
   -- `features` first
   module _ (f : IsCall rows 0 Features) where

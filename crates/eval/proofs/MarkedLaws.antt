@@ -5,7 +5,7 @@ use mathlib.Core.Bool.{Bool, true, false, not, ◌&&◌, ◌||◌, cond, true≢
 use mathlib.Core.List.{List, [], ◌∷◌}
 use Prim.Native.Nat.{ℕ, zero, suc, ◌+◌, ◌*◌, ◌≤◌, ◌<◌}
 use native.Mathlib.Omega.{arith}
-use Rattle.std.specs.Prelude.{Option, Some, None}
+use Rattle.std.specs.Prelude.{Some, None}
 use lib.Dec.{ltb}
 use lib.ListN.{length, get_or, take, drop, set}
 use lib.Seq.{length-take-le, get_or-take, get_or-set_same, get_or-set_other}
@@ -92,9 +92,6 @@ bits_small image marked (Diagnostic d) {bits} e =
 pub bits_there : (image : List ℕ) (marked : List Marked) (m : Member) → 0 < length marked → bits_by image marked m ≡ bits_of image marked m
 bits_there image [] m h = absurd (omega arith)
 bits_there image (row ∷ rows) m h = refl
-
-pub bits_of_lem : (image : List ℕ) (marked : List Marked) {m o : Member} {r : Option ℕ} → 0 < length marked → m ≡ o → r ≡ bits_by image marked o → r ≡ bits_of image marked m
-bits_of_lem image marked {m} h e f = f ∙ sym (ap (bits_by image marked) e) ∙ bits_there image marked m h
 
 -- where all bits are the same each is
 bit_same : (marked : List Marked) (most c d : ℕ) → four marked most c ≡ four marked most d → (j : ℕ) → j < HASES → bit_at marked most c j ≡ bit_at marked most d j

@@ -3,12 +3,12 @@ use mathlib.Core.Path.{◌≡◌, refl, sym, ap, ap₂, ◌∙◌, subst}
 use mathlib.Core.Bool.{Bool, true, false, false≢true}
 use mathlib.Core.List.{List, [], ◌∷◌, ◌++◌}
 use mathlib.Core.Option.{Option, none, some}
-use Rattle.std.specs.Prelude.{unwrap_or, Ok, Err}
+use Rattle.std.specs.Prelude.{unwrap_or, Result, Ok, Err}
 use Rattle.std.specs.Prelude as std
 use Prim.Native.Nat.{ℕ, ◌+◌, ◌≤◌, ◌<◌}
 use native.Mathlib.Omega.{arith}
 use lib.Dec.{eqb}
-use lib.ListN.{length, take, set, replicate, length-take, length-replicate, length-set}
+use lib.ListN.{length, take, set, replicate, length-replicate}
 use borrow.Author.Tests.{eq-eqb, ne_eqb, ltb-true}
 use Rattle.syntax.specs.Kind.{INT_LIT, DOT_CALL, COUNT_COMPARE_EXPR}
 use Rattle.syntax.specs.Kinds.{number}
@@ -22,17 +22,17 @@ use Rattle.predicate.specs.declared.atom.Member.{Member}
 use Rattle.predicate.specs.declared.atom.Member.TheVariants.{Component}
 use Rattle.predicate.specs.Truth.{first_text}
 use Rattle.predicate.specs.Rows.{ROW, kind_at as tree_kind, level_at, children_at, of_node, first_row}
-use Rattle.predicate.specs.Eval.{FoundAt, FoundNowhere}
-use Rattle.predicate.proofs.NodeLaws.{row_absent}
+use Rattle.predicate.specs.Eval.{FoundNowhere}
+use Rattle.predicate.proofs.NodeLaws.{row_found, row_absent}
 use Rattle.meaning.specs.declared.ValueKind.{ValueKind}
 use Rattle.meaning.specs.Value.{Outcome, boolean, refused, sort_kind, collection_table, with_members}
 use Rattle.meaning.specs.declared.Method.{Method}
 use Rattle.meaning.specs.declared.Method.TheVariants.{Where, All, Any, None, Count, Features, Diagnostics}
-use Rattle.meaning.specs.Calls.{Call, calls_give, true_for}
+use Rattle.meaning.specs.Calls.{Call, calls_give, true_for, how_many}
 use Rattle.meaning.specs.Pipeline.{calls_of, source_of, eval_pipeline}
 use Rattle.meaning.specs.Compare.{operator_holds, against, compared, operator_of, integer_of}
 use Rattle.meaning.specs.Outcome.{first_kind, first_inner, eval_count_compare, eval_node}
-use Rattle.meaning.specs.Walk.{is_last, is_quantifier, plan_of, arrivals, arrive_by, last_call, method_in, last_method, last_test, how_many, judged, settled}
+use Rattle.meaning.specs.Walk.{is_last, is_quantifier, plan_of, arrivals, arrive_by, last_call, method_in, last_method, last_test, judged, settled}
 use Rattle.meaning.proofs.WalkLaws.{Ends, calls_settled, plan_ends, how_many_most}
 use Rattle.calls.specs.declared.value.Value.{Value}
 use Rattle.calls.specs.Answer.{Outcome as Answer, answer_of}
@@ -41,11 +41,11 @@ use Rattle.calls.proofs.CompareLaws.{against_for, against_integer}
 use Rattle.eval.specs.declared.walk.Tally.{Tally}
 use Rattle.eval.specs.declared.ready.Call.{Call as PlacedCall}
 use Rattle.eval.specs.declared.ready.Plan.{Plan}
-use Rattle.eval.specs.Ready.{call_in, calls_in, source_sort, source_members, LastMethod, Ready, Refuses}
+use Rattle.eval.specs.Ready.{call_in, calls_in, source_sort, source_members, LastMethod, Ready, Plans}
 use Rattle.eval.specs.Feed.{State, state_of, listed, decided, Decides, Stands, walked}
 use Rattle.eval.specs.Pipeline.{CALLS, FewCalls, Evaluates, Counts, OperatorAt, Gives}
 use Rattle.eval.proofs.CallLaws.{calls_set}
-use Rattle.eval.proofs.PlanLaws.{node_first, node_none, source_found}
+use Rattle.eval.proofs.PlanLaws.{node_first, node_none, source_found, plan_ready}
 use Rattle.eval.proofs.ValueLaws.{operator_or_neq}
 
 -- ---- the calls of a tree are few
@@ -58,8 +58,13 @@ calls_fewer (node k s f) =
     let h = calls_fewer f in
     whether (eqb k DOT_CALL) (λ q. rw (q, calls_of) (omega arith)) (λ q. rw (q, calls_of) (omega arith))
 
-pub calls_room : (rule tree : List ℕ) (rows : List PlacedCall) (at : ℕ) → FewCalls rule tree at → CALLS ≤ length rows → length (calls_of (children_at rule tree at)) < length rows
-calls_room rule tree rows at h r = omega (arith, calls_fewer (children_at rule tree at), h.few)
+pub calls_room : {rule tree : List ℕ} {at room : ℕ} → FewCalls rule tree at → CALLS ≤ room → length (calls_of (children_at rule tree at)) < room
+calls_room {rule} {tree} {at} h r = omega (arith, calls_fewer (children_at rule tree at), h.few)
+
+-- and as many are planned
+pub planned_room : {rule tree : List ℕ} {at room : ℕ} (rows : List PlacedCall) {given : Result Plan Refusal} {plan : Plan} → FewCalls rule tree at → CALLS ≤ room
+    → Plans rule tree at rows given → given ≡ Ok plan → plan.calls < room
+planned_room rows h r p e = omega (arith, calls_room h r, (plan_ready p e).holds.number)
 
 -- so are those of the first node in it
 pub inner_fewer : (f : Forest) → dot_calls (first_inner f) ≤ dot_calls f
@@ -68,10 +73,11 @@ inner_fewer nil = omega arith
 inner_fewer (leaf t f) = inner_fewer f
 inner_fewer (node k s f) = omega arith
 
-pub inner_few : {rule tree : List ℕ} {at inner : ℕ} → FewCalls rule tree at → FoundAt of_node tree (level_at tree at + 1) (at + ROW) inner → FewCalls rule tree inner
+pub inner_few : {rule tree : List ℕ} {at inner : ℕ} {found : std.Option ℕ} → FewCalls rule tree at → found ≡ first_row of_node tree (level_at tree at + 1) (at + ROW) → found ≡ std.Some inner
+    → FewCalls rule tree inner
 unfolding first_inner
-inner_few {rule} {tree} {at} h f =
-    record { few = omega (arith, h.few, inner_fewer (children_at rule tree at), ap dot_calls (node_first first_inner (λ t g. refl) rule f)) }
+inner_few {rule} {tree} {at} h e s =
+    record { few = omega (arith, h.few, inner_fewer (children_at rule tree at), ap dot_calls (node_first first_inner (λ t g. refl) rule (row_found (sym e ∙ s)))) }
 
 -- ---- a pipeline
 
@@ -144,10 +150,11 @@ judged_decided Features arrived passed h d = refl
 judged_decided Diagnostics arrived passed h d = refl
 
 -- a pipeline that is refused
-pub refuses : (image : List ℕ) {rule tree : List ℕ} {at : ℕ} {table : List ℕ} {r : Refusal} → Refuses rule tree at r
-    → Evaluates (eval_pipeline image (children_at rule tree at)) table table (Err r)
-refuses image {table = table} {r = r} f =
-    record { outcome = ap answer_of (sym (f.refused image)); table = ap (λ (o : Outcome). collection_table o table) (sym (f.refused image)) }
+pub pipeline_refused : (rule image tree : List ℕ) (at : ℕ) (rows : List PlacedCall) {given : Result Plan Refusal} {table : List ℕ} {r : Refusal} {answer : Answer}
+    → Plans rule tree at rows given → given ≡ Err r → answer ≡ Err r → Evaluates (eval_pipeline image (children_at rule tree at)) table table answer
+pipeline_refused rule image tree at rows {table = table} p e is =
+    let f = subst (Plans rule tree at rows) e p in
+    record { outcome = is ∙ ap answer_of (sym (f.refused image)); table = ap (λ (o : Outcome). collection_table o table) (sym (f.refused image)) }
 
 -- one that is ready, and the members that arrive
 module _ (rule image tree : List ℕ) (at : ℕ) {rows : List PlacedCall} {plan : Plan} (p : Ready rule tree at rows plan) where
@@ -240,9 +247,6 @@ module _ (rule image tree : List ℕ) (plan : Plan) (rows : List PlacedCall) (h 
   abbrev counted : List PlacedCall
   counted = set rows plan.calls count_call
 
-  pub counted_part : plan.calls + 1 ≡ length (take (plan.calls + 1) counted)
-  counted_part = sym (length-take (plan.calls + 1) counted ∙ omega (arith, length-set rows plan.calls count_call, h))
-
   pub counts : {t : Tally} {table after : List ℕ}
       → Stands Count (state_of t after) (walked image (calls_in rule tree (take (plan.calls + 1) counted)) (source_members image (tree_kind tree plan.source) (children_at rule tree plan.source)) table)
       → Counts rule image tree plan rows table after t.arrived
@@ -295,22 +299,22 @@ module _ (rule image tree : List ℕ) (at : ℕ) where
   abbrev comparison : Outcome
   comparison = eval_count_compare image (children_at rule tree at)
 
-  as_refused : {table : List ℕ} (r : Refusal) → comparison ≡ refused r → Evaluates comparison table table (Err r)
-  as_refused {table} r e = record { outcome = ap answer_of (sym e); table = ap (λ (o : Outcome). collection_table o table) (sym e) }
+  as_refused : {table : List ℕ} {answer : Answer} (r : Refusal) → answer ≡ Err r → comparison ≡ refused r → Evaluates comparison table table answer
+  as_refused {table} r is e = record { outcome = is ∙ ap answer_of (sym e); table = ap (λ (o : Outcome). collection_table o table) (sym e) }
 
   -- no node stands in the comparison
   pub compare_none : {found : std.Option ℕ} {table : List ℕ} → found ≡ first_row of_node tree (level_at tree at + 1) (at + ROW) → found ≡ std.None → Evaluates comparison table table (Err ParseErrors)
   unfolding eval_count_compare eval_pipeline first_inner calls_of calls_give source_of compared
   compare_none e h =
-      as_refused ParseErrors
+      as_refused ParseErrors refl
       (ap (λ (f : Forest). compared (operator_of (children_at rule tree at)) (integer_of (children_at rule tree at)) (eval_pipeline image f))
       (node_none first_inner (λ t f. refl) rule (row_absent (sym e ∙ h))))
 
   -- the pipeline in it
-  module _ {pipeline : ℕ} (f : FoundAt of_node tree (level_at tree at + 1) (at + ROW) pipeline) where
+  module _ {found : std.Option ℕ} {pipeline : ℕ} (f : found ≡ first_row of_node tree (level_at tree at + 1) (at + ROW)) (s : found ≡ std.Some pipeline) where
     inner_is : first_inner (children_at rule tree at) ≡ children_at rule tree pipeline
     unfolding first_inner
-    inner_is = node_first first_inner (λ t g. refl) rule f
+    inner_is = node_first first_inner (λ t g. refl) rule (row_found (sym f ∙ s))
 
     abbrev compared_with : Outcome → Outcome
     compared_with o = compared (operator_of (children_at rule tree at)) (integer_of (children_at rule tree at)) o
@@ -319,53 +323,59 @@ module _ (rule image tree : List ℕ) (at : ℕ) where
     unfolding eval_count_compare
     by_pipeline e = ap compared_with (ap (eval_pipeline image) inner_is ∙ e)
 
-    pub compare_refused : {r : Refusal} {table : List ℕ} → Refuses rule tree pipeline r → Evaluates comparison table table (Err r)
-    unfolding compared
-    compare_refused {r} q = as_refused r (by_pipeline (q.refused image))
+    module _ (rows : List PlacedCall) {given : Result Plan Refusal} (p : Plans rule tree pipeline rows given) where
+      pub compare_refused : {r : Refusal} {table : List ℕ} {answer : Answer} → given ≡ Err r → answer ≡ Err r → Evaluates comparison table table answer
+      unfolding compared
+      compare_refused {r} e is =
+          let q = subst (Plans rule tree pipeline rows) e p in
+          as_refused r is (by_pipeline (q.refused image))
 
-    module _ {rows : List PlacedCall} {plan : Plan} (p : Ready rule tree pipeline rows plan) where
-      pub compare_boolean : {table : List ℕ} → plan.kind ≡ ValueKind.Boolean → Evaluates comparison table table (Err ComparisonNotCountable)
-      unfolding settled
-      compare_boolean e =
-          as_refused ComparisonNotCountable
-          (by_pipeline (pipeline_settled rule image tree pipeline p ∙ ap (λ (k : ValueKind). settled k method (length ms) passed ms) e)
-          ∙ boolean_compared (operator_of (children_at rule tree at)) (integer_of (children_at rule tree at)) method (length ms) passed)
-        where
-          ms : List Member
-          ms = came rule image tree pipeline p
+      module _ {plan : Plan} (g : given ≡ Ok plan) where
+        ready : Ready rule tree pipeline rows plan
+        ready = plan_ready p g
 
-          method : Method
-          method = last_method (calls rule image tree pipeline p)
-
-          passed : ℕ
-          passed = how_many (last_test image (calls rule image tree pipeline p)) (came rule image tree pipeline p)
-
-      -- what else is countable
-      module _ (h : plan.kind ≡ ValueKind.Boolean → ⊥) {digits : List ℕ} {integer : std.Option ℕ} (d : digits ≡ first_text INT_LIT (children_at rule tree at)) (n : integer ≡ integer_for digits) where
-        against_is : comparison ≡ against_for (operator_of (children_at rule tree at)) (length (came rule image tree pipeline p)) integer
-        unfolding integer_of
-        against_is =
-            by_pipeline (pipeline_settled rule image tree pipeline p)
-            ∙ settled_compared (operator_of (children_at rule tree at)) (integer_of (children_at rule tree at)) plan.kind _ _ (came rule image tree pipeline p) h
-            ∙ against_integer (operator_of (children_at rule tree at)) (length (came rule image tree pipeline p)) (first_text INT_LIT (children_at rule tree at))
-            ∙ ap (against_for (operator_of (children_at rule tree at)) (length (came rule image tree pipeline p))) (sym (n ∙ ap integer_for d))
-
-        pub compare_large : {table : List ℕ} → integer ≡ std.None → Evaluates comparison table table (Err IntegerTooLarge)
-        compare_large e = as_refused IntegerTooLarge (against_is ∙ ap (against_for (operator_of (children_at rule tree at)) (length (came rule image tree pipeline p))) e)
-
-        pub compare_given : {right left : ℕ} {operator : std.Option Kind} {table after : List ℕ} {b : Bool} → integer ≡ std.Some right → OperatorAt tree at operator
-            → Counts rule image tree plan rows table after left → b ≡ operator_holds (number (unwrap_or operator Neq)) left right
-            → Evaluates comparison table after (Ok (Value.Bool b))
-        compare_given {right} {left} {operator} {table} e o c b =
-            record {
-              outcome =
-                  ap (λ (v : Bool). Ok (Value.Bool v)) (b ∙ operator_or_neq operator left right ∙ λ i. operator_holds (o.operator rule i) (c.members i) right)
-                  ∙ ap answer_of (sym is);
-              table = c.table ∙ ap (λ (o : Outcome). collection_table o table) (sym is);
-            }
+        pub compare_boolean : {table : List ℕ} → plan.kind ≡ ValueKind.Boolean → Evaluates comparison table table (Err ComparisonNotCountable)
+        unfolding settled
+        compare_boolean e =
+            as_refused ComparisonNotCountable refl
+            (by_pipeline (pipeline_settled rule image tree pipeline ready ∙ ap (λ (k : ValueKind). settled k method (length ms) passed ms) e)
+            ∙ boolean_compared (operator_of (children_at rule tree at)) (integer_of (children_at rule tree at)) method (length ms) passed)
           where
-            is : comparison ≡ boolean (operator_holds (operator_of (children_at rule tree at)) (length (came rule image tree pipeline p)) right) false
-            is = against_is ∙ ap (against_for (operator_of (children_at rule tree at)) (length (came rule image tree pipeline p))) e
+            ms : List Member
+            ms = came rule image tree pipeline ready
+
+            method : Method
+            method = last_method (calls rule image tree pipeline ready)
+
+            passed : ℕ
+            passed = how_many (last_test image (calls rule image tree pipeline ready)) (came rule image tree pipeline ready)
+
+        -- what else is countable
+        module _ (h : plan.kind ≡ ValueKind.Boolean → ⊥) {digits : List ℕ} {integer : std.Option ℕ} (d : digits ≡ first_text INT_LIT (children_at rule tree at)) (n : integer ≡ integer_for digits) where
+          against_is : comparison ≡ against_for (operator_of (children_at rule tree at)) (length (came rule image tree pipeline ready)) integer
+          unfolding integer_of
+          against_is =
+              by_pipeline (pipeline_settled rule image tree pipeline ready)
+              ∙ settled_compared (operator_of (children_at rule tree at)) (integer_of (children_at rule tree at)) plan.kind _ _ (came rule image tree pipeline ready) h
+              ∙ against_integer (operator_of (children_at rule tree at)) (length (came rule image tree pipeline ready)) (first_text INT_LIT (children_at rule tree at))
+              ∙ ap (against_for (operator_of (children_at rule tree at)) (length (came rule image tree pipeline ready))) (sym (n ∙ ap integer_for d))
+
+          pub compare_large : {table : List ℕ} → integer ≡ std.None → Evaluates comparison table table (Err IntegerTooLarge)
+          compare_large e = as_refused IntegerTooLarge refl (against_is ∙ ap (against_for (operator_of (children_at rule tree at)) (length (came rule image tree pipeline ready))) e)
+
+          pub compare_given : {right left : ℕ} {operator : std.Option Kind} {table after : List ℕ} {b : Bool} → integer ≡ std.Some right → OperatorAt tree at operator
+              → Counts rule image tree plan rows table after left → b ≡ operator_holds (number (unwrap_or operator Neq)) left right
+              → Evaluates comparison table after (Ok (Value.Bool b))
+          compare_given {right} {left} {operator} {table} e o c b =
+              record {
+                outcome =
+                    ap (λ (v : Bool). Ok (Value.Bool v)) (b ∙ operator_or_neq operator left right ∙ λ i. operator_holds (o.operator rule i) (c.members i) right)
+                    ∙ ap answer_of (sym is);
+                table = c.table ∙ ap (λ (o : Outcome). collection_table o table) (sym is);
+              }
+            where
+              is : comparison ≡ boolean (operator_holds (operator_of (children_at rule tree at)) (length (came rule image tree pipeline ready)) right) false
+              is = against_is ∙ ap (against_for (operator_of (children_at rule tree at)) (length (came rule image tree pipeline ready))) e
 
 -- ---- `eval_node`
 
@@ -381,14 +391,14 @@ module _ (rule image tree : List ℕ) where
       is : eval_node image (children_at rule tree 0) ≡ refused ParseErrors
       is = rw (node_none first_kind (λ t f. refl) rule nowhere, node_none first_inner (λ t f. refl) rule nowhere) refl
 
-  module _ {at : ℕ} (f : FoundAt of_node tree (level_at tree 0 + 1) ROW at) where
+  module _ {found : std.Option ℕ} {at : ℕ} (f : found ≡ first_row of_node tree (level_at tree 0 + 1) ROW) (s : found ≡ std.Some at) where
     kind_is : first_kind (children_at rule tree 0) ≡ tree_kind tree at
     unfolding first_kind
-    kind_is = node_first first_kind (λ t g. refl) rule f
+    kind_is = node_first first_kind (λ t g. refl) rule (row_found (sym f ∙ s))
 
     children_are : first_inner (children_at rule tree 0) ≡ children_at rule tree at
     unfolding first_inner
-    children_are = node_first first_inner (λ t g. refl) rule f
+    children_are = node_first first_inner (λ t g. refl) rule (row_found (sym f ∙ s))
 
     pub node_compare : {table after : List ℕ} {r : Answer} → tree_kind tree at ≡ COUNT_COMPARE_EXPR → Evaluates (eval_count_compare image (children_at rule tree at)) table after r
         → Evaluates (eval_node image (children_at rule tree 0)) table after r

@@ -23,7 +23,8 @@ use Rattle.meaning.specs.Calls.{Call, call_gives, calls_give}
 use Rattle.meaning.specs.Pipeline.{all_components, diagnostics_of, source_of, calls_of, eval_pipeline}
 use Rattle.meaning.proofs.WalkLaws.{calls_refused}
 use Rattle.eval.specs.declared.ready.Call.{Call as PlacedCall}
-use Rattle.eval.specs.Ready.{source_sort, source_members, KindAfter, Holds, Ready, Refuses}
+use Rattle.eval.specs.declared.ready.Plan.{Plan}
+use Rattle.eval.specs.Ready.{source_sort, source_members, KindAfter, Holds, Ready, Refuses, Plans}
 use Rattle.eval.proofs.ReadyLaws.{planned}
 
 -- ---- the first node of a forest
@@ -72,6 +73,10 @@ refusal_stays image (call ∷ calls) r = refusal_stays image calls r
 
 -- ---- what is known of a pipeline
 
+-- it is planned
+pub plan_ready : {rule tree : List ℕ} {at : ℕ} {rows : List PlacedCall} {given : Result Plan Refusal} {plan : Plan} → Plans rule tree at rows given → given ≡ Ok plan → Ready rule tree at rows plan
+plan_ready {rule} {tree} {at} {rows} p e = subst (Plans rule tree at rows) e p
+
 module _ (rule tree : List ℕ) (at : ℕ) where
   -- there is no source
   pub no_source : {found : Option ℕ} → found ≡ first_row of_node tree (level_at tree at + 1) (at + ROW) → found ≡ None → Refuses rule tree at ParseErrors
@@ -84,35 +89,32 @@ module _ (rule tree : List ℕ) (at : ℕ) where
       }
 
   -- there is one
-  pub source_at : {found : Option ℕ} {source : ℕ} → found ≡ first_row of_node tree (level_at tree at + 1) (at + ROW) → found ≡ Some source
-      → FoundAt of_node tree (level_at tree at + 1) (at + ROW) source
-  source_at e h = row_found (sym e ∙ h)
+  module _ {found : Option ℕ} {source : ℕ} (e : found ≡ first_row of_node tree (level_at tree at + 1) (at + ROW)) (s : found ≡ Some source) where
+    pub pipeline_calls : calls_of (children_at rule tree at) ≡ calls_of (forest_from rule tree (level_at tree at + 1) source)
+    unfolding calls_of
+    pipeline_calls = node_from calls_of (λ t g. refl) rule (row_found (sym e ∙ s))
 
-  pub pipeline_calls : {source : ℕ} → FoundAt of_node tree (level_at tree at + 1) (at + ROW) source
-      → calls_of (children_at rule tree at) ≡ calls_of (forest_from rule tree (level_at tree at + 1) source)
-  unfolding calls_of
-  pipeline_calls f = node_from calls_of (λ t g. refl) rule f
+    module _ {rows : List PlacedCall} {count : ℕ} (h : Holds rule tree (calls_of (forest_from rule tree (level_at tree at + 1) source)) rows count)
+        {number : ValueKind} {given : Result ValueKind Refusal} (n : number ≡ sort_kind (source_sort (kind_at tree source))) (a : KindAfter (take count rows) number given) where
+      -- the calls from the source on are all
+      holds : Holds rule tree (calls_of (children_at rule tree at)) rows count
+      holds = subst (λ (cs : List Call). Holds rule tree cs rows count) (sym pipeline_calls) h
 
-  module _ {rows : List PlacedCall} {source count : ℕ} (f : FoundAt of_node tree (level_at tree at + 1) (at + ROW) source) (h : Holds rule tree (calls_of (forest_from rule tree (level_at tree at + 1) source)) rows count)
-      {number : ValueKind} {given : Result ValueKind Refusal} (n : number ≡ sort_kind (source_sort (kind_at tree source))) (a : KindAfter (take count rows) number given) where
-    -- the calls from the source on are all
-    holds : Holds rule tree (calls_of (children_at rule tree at)) rows count
-    holds = subst (λ (cs : List Call). Holds rule tree cs rows count) (sym (pipeline_calls f)) h
+      pub planned_refused : {r : Refusal} {plan : Result Plan Refusal} → given ≡ Err r → plan ≡ Err r → Plans rule tree at rows plan
+      unfolding eval_pipeline
+      planned_refused {r} g is =
+          subst (Plans rule tree at rows) (sym is)
+          (record {
+            refused = λ image.
+                ap (calls_give image (calls_of (children_at rule tree at))) (source_found rule image tree at (row_found (sym e ∙ s)))
+                ∙ calls_refused image (calls_of (children_at rule tree at)) (source_sort (kind_at tree source)) (source_members image (kind_at tree source) (children_at rule tree source)) r
+                (sym (planned rule tree (sort_kind (source_sort (kind_at tree source))) (calls_of (children_at rule tree at)) a n holds.calls) ∙ g);
+          })
 
-    pub planned_refused : {r : Refusal} → given ≡ Err r → Refuses rule tree at r
-    unfolding eval_pipeline
-    planned_refused {r} e =
-        record {
-          refused = λ image.
-              ap (calls_give image (calls_of (children_at rule tree at))) (source_found rule image tree at f)
-              ∙ calls_refused image (calls_of (children_at rule tree at)) (source_sort (kind_at tree source)) (source_members image (kind_at tree source) (children_at rule tree source)) r
-              (sym (planned rule tree (sort_kind (source_sort (kind_at tree source))) (calls_of (children_at rule tree at)) a n holds.calls) ∙ e);
-        }
-
-    pub planned_ready : {kind : ValueKind} → given ≡ Ok kind → Ready rule tree at rows (record { source = source; calls = count; kind = kind })
-    planned_ready e =
-        record {
-          found = f;
-          holds = holds;
-          comes = sym (planned rule tree (sort_kind (source_sort (kind_at tree source))) (calls_of (children_at rule tree at)) a n holds.calls) ∙ e;
-        }
+      pub planned_ready : {kind : ValueKind} → given ≡ Ok kind → Ready rule tree at rows (record { source = source; calls = count; kind = kind })
+      planned_ready g =
+          record {
+            found = row_found (sym e ∙ s);
+            holds = holds;
+            comes = sym (planned rule tree (sort_kind (source_sort (kind_at tree source))) (calls_of (children_at rule tree at)) a n holds.calls) ∙ g;
+          }

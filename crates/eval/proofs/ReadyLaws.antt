@@ -51,17 +51,21 @@ module _ {rows : List PlacedCall} {source kind : ValueKind} {i : ℕ} (k : Kinds
     step : (rule tree : List ℕ) → entries_after (calls_from rule tree rows (i + 1)) given ≡ plan_of source (calls_in rule tree rows)
     step rule tree = ap (entries_after (calls_from rule tree rows (i + 1))) g ∙ sym (ap (plan_of kind) (calls_at rule tree rows i h)) ∙ k.rest rule tree
 
-    pub kinds_refused : {r : Refusal} → given ≡ Err r → (rule tree : List ℕ) → Err r ≡ plan_of source (calls_in rule tree rows)
-    kinds_refused {r} e rule tree =
-        sym (refusal_stays (calls_from rule tree rows (i + 1)) r)
-        ∙ ap (entries_after (calls_from rule tree rows (i + 1))) (sym e)
-        ∙ step rule tree
+    pub kinds_refused : {r : Refusal} {after : Entry} → given ≡ Err r → after ≡ Err r → KindAfter rows source after
+    kinds_refused {r} e is =
+        record {
+          next = λ rule tree.
+              is
+              ∙ sym (refusal_stays (calls_from rule tree rows (i + 1)) r)
+              ∙ ap (entries_after (calls_from rule tree rows (i + 1))) (sym e)
+              ∙ step rule tree;
+        }
 
     pub kinds_on : {n : ValueKind} → given ≡ Ok n → Kinds rows source n (i + 1)
     kinds_on e = record { rest = λ rule tree. ap (entries_after (calls_from rule tree rows (i + 1))) (sym e) ∙ step rule tree }
 
-  pub kinds_end : length rows ≤ i → (rule tree : List ℕ) → Ok kind ≡ plan_of source (calls_in rule tree rows)
-  kinds_end h rule tree = ap (plan_of kind) (sym (calls_over rule tree rows i h)) ∙ k.rest rule tree
+  pub kinds_end : length rows ≤ i → KindAfter rows source (Ok kind)
+  kinds_end h = record { next = λ rule tree. ap (plan_of kind) (sym (calls_over rule tree rows i h)) ∙ k.rest rule tree }
 
 -- what it says of the plan of calls that are read back
 pub planned : (rule tree : List ℕ) {rows : List PlacedCall} {source : ValueKind} {given : Entry} (kind : ValueKind) (calls : List Call)

@@ -3,7 +3,7 @@ use mathlib.Core.Path.{◌≡◌, refl, sym, ap, ◌∙◌, subst}
 use mathlib.Core.Bool.{Bool, true, false, ◌&&◌, cond}
 use lib.ListN.{length}
 use Rattle.std.specs.Prelude.{Option, Some, None}
-use mathlib.Core.List.{List, [], ◌∷◌}
+use mathlib.Core.List.{List, [], ◌∷◌, map}
 use Prim.Native.Nat.{ℕ, ◌+◌, ◌≤◌, ◌<◌}
 use Rattle.predicate.specs.declared.atom.Member.{Member}
 use Rattle.predicate.specs.Truth.{truth}
@@ -13,6 +13,7 @@ use Rattle.meaning.specs.declared.Method.{Method}
 use Rattle.meaning.specs.declared.Method.TheVariants.{Where, Count, Features, Diagnostics}
 use Rattle.meaning.specs.Calls.{features_of}
 use Rattle.meaning.specs.Walk.{is_last, is_quantifier}
+use Rattle.meaning.proofs.WalkLaws.{up_to, made_next, made_none}
 use Rattle.profile.specs.Profile.{profile_of}
 use Rattle.eval.specs.declared.marked.Sorts.{Sorts}
 use Rattle.eval.specs.declared.memo.Note.{Note}
@@ -20,7 +21,7 @@ use Rattle.eval.specs.declared.ready.Call.{Call as PlacedCall}
 use Rattle.eval.specs.declared.step.Step.{Step}
 use Rattle.eval.specs.declared.step.Step.TheVariants.{Listed}
 use Rattle.eval.specs.declared.walk.Tally.{Tally}
-use Rattle.eval.specs.declared.walk.Pipeline.{Pipeline}
+use Rattle.eval.specs.declared.context.Pipeline.{Pipeline}
 use Rattle.eval.specs.declared.walk.Walk.{Walk}
 use Rattle.eval.specs.Ready.{nth, CallAt, IsCall}
 use Rattle.eval.specs.declared.memo.Note.TheVariants.{NotKnown}
@@ -32,7 +33,7 @@ use Rattle.eval.specs.Step.{after, StepIs, Steps}
 use Rattle.eval.proofs.StepLaws.{step_room}
 use Rattle.eval.proofs.ReadyLaws.{quantifier_of}
 use Rattle.eval.proofs.MemoLaws.{room, sound_noted}
-use Rattle.eval.proofs.FeedLaws.{state, Alike, Parts, Lost, fed_lost, fits_first, fits_alike, stands_fed, stands_alike, here_kept, here_dropped, here_passed, here_features, here_feature, here_diagnostic, here_arrives, end_room, end_put, Feeding, feeding_start, feeding_on, feeding_stop, feeding_skip, feeding_end}
+use Rattle.eval.proofs.FeedLaws.{state, Alike, Parts, Lost, parts_are, lost_none, fed_lost, fits_first, fits_alike, stands_fed, stands_alike, here_kept, here_dropped, here_passed, here_features, here_feature, here_diagnostic, here_arrives, end_room, end_put, Feeding, feeding_start, feeding_on, feeding_stop, feeding_skip, feeding_end}
 
 same_walk : (w : Walk) → SameWalk w w
 same_walk w = record { pipeline = refl; collection_name = refl; sorts = refl; notes_name = refl }
@@ -245,6 +246,33 @@ module _ {start w : Walk} {i : ℕ} {all rest : List Member} (g : Going start i 
   -- none is left
   pub going_end : Lost start.pipeline.image.now (calls_at start.pipeline i) rest → Sent start i all w
   going_end l = record { same = g.same; stands = feeding_end g.feeding l; sound = g.sound }
+
+-- ---- the same where those left are made of the numbers from the next up to an end
+
+pub record GoingUp (start : Walk) (i : ℕ) (all : List Member) (make : ℕ → Member) (next end : ℕ) (w : Walk) : Type 0 where
+  pub going : Going start i all (map make (up_to next end)) w
+
+pub up_start : {w : Walk} {i : ℕ} {all : List Member} {make : ℕ → Member} {first end : ℕ} → Sending w i all → all ≡ map make (up_to first end) → GoingUp w i all make first end w
+up_start p e = record { going = going_start p e }
+
+module _ {start w : Walk} {i : ℕ} {all : List Member} {make : ℕ → Member} {next end : ℕ} (g : GoingUp start i all make next end w) where
+  module _ (h : next < end) where
+    parts : Parts start.pipeline.image.now (calls_at start.pipeline i) (map make (up_to next end)) (make next ∷ []) (map make (up_to (next + 1) end))
+    parts = parts_are (make next ∷ []) (made_next make next end h)
+
+    -- the next may be sent, and is
+    pub up_next : Sending w i (make next ∷ [])
+    up_next = going_first g.going parts
+
+    module _ {v : Walk} (t : Sent w i (make next ∷ []) v) {b : Bool} (e : b ≡ decided_in (last_of v.pipeline) v.tally) where
+      pub up_on : b ≡ false → GoingUp start i all make (next + 1) end v
+      up_on d = record { going = going_on g.going parts t e d }
+
+      pub up_stop : b ≡ true → Sent start i all v
+      up_stop d = going_stop g.going parts t e d
+
+  pub up_end : end ≤ next → Sent start i all w
+  up_end h = going_end g.going (lost_none (made_none make next end h))
 
 -- ---- a walk from its beginning
 

@@ -17,9 +17,9 @@ use Rattle.predicate.specs.declared.atom.Member.TheVariants.{Component, Diagnost
 use Rattle.predicate.specs.Truth.{literal_of}
 use Rattle.meaning.specs.Value.{rows_of, whole_rows, with_members}
 use Rattle.meaning.specs.declared.Method.{Method}
-use Rattle.meaning.specs.Calls.{Call, kept, up_from}
+use Rattle.meaning.specs.Calls.{Call, kept, up_from, how_many}
 use Rattle.meaning.specs.Pipeline.{is_of_analysis}
-use Rattle.meaning.specs.Walk.{arrivals, last_call, test_in, how_many}
+use Rattle.meaning.specs.Walk.{arrivals, last_call, test_in}
 use Rattle.meaning.proofs.WalkLaws.{components_rows, diagnostics_rows, rows_length, whole_within}
 use Rattle.eval.specs.declared.ready.Call.{Call as PlacedCall}
 use Rattle.eval.specs.Ready.{calls_in, calls_from, source_members}

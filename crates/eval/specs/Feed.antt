@@ -8,8 +8,8 @@ use Rattle.predicate.specs.declared.atom.Member.{Member}
 use Rattle.meaning.specs.Value.{rows_of, with_members}
 use Rattle.meaning.specs.declared.Method.{Method}
 use Rattle.meaning.specs.declared.Method.TheVariants.{Where, All, Any, None, Count, Features, Diagnostics}
-use Rattle.meaning.specs.Calls.{Call}
-use Rattle.meaning.specs.Walk.{is_quantifier, arrivals, last_call, test_in, how_many}
+use Rattle.meaning.specs.Calls.{Call, how_many}
+use Rattle.meaning.specs.Walk.{is_quantifier, arrivals, last_call, test_in}
 use Rattle.eval.specs.declared.walk.Tally.{Tally}
 
 -- how far members were sent: how many arrived, how many of those passed, and the collection table

@@ -8,4 +8,3 @@ pub mod Memo
 pub mod Step
 pub mod Listed
 pub mod Walk
-pub mod Analysis

@@ -1,5 +1,5 @@
--- Which `has` of a tree are true of a member, known by marks that were made before: for each of some CALL_EXPR rows its place in the tree and
--- a mark for each component. Assumes nothing: these are definitions.
+-- Which `has` of a tree are true of a member, known by marks that were made before: for each of some CALL_EXPR rows its place in the tree
+-- and a mark for each component. Assumes nothing: these are definitions.
 use Rattle.std.specs.Prelude.{ℕ, ◌+◌, ◌*◌, ◌≤◌, ◌<◌, Bool, true, false, not, ◌&&◌, cond, List, [], ◌∷◌, ◌≡◌, eqb, ltb, leb, length, get_or, drop, Option, Some}
 use Rattle.syntax.specs.Kind.{CALL_EXPR, COMPARE_EXPR}
 use Rattle.trees.specs.Green.{Forest}

@@ -15,7 +15,7 @@ use Rattle.meaning.specs.Walk.{is_last}
 use Rattle.eval.specs.declared.ready.Call.{Call as PlacedCall}
 use Rattle.eval.specs.declared.step.Step.{Step}
 use Rattle.eval.specs.declared.walk.Tally.{Tally}
-use Rattle.eval.specs.declared.walk.Pipeline.{Pipeline}
+use Rattle.eval.specs.declared.context.Pipeline.{Pipeline}
 use Rattle.eval.specs.declared.walk.Walk.{Walk}
 use Rattle.eval.specs.declared.marked.Sorts.{Sorts}
 use Rattle.eval.specs.declared.memo.Note.{Note}

@@ -1,5 +1,5 @@
-// What becomes of the members of each profile, as far as it was found: a loop over members keeps it, so that most members cost a look at the
-// board and one here. Where something is marked nothing is found, as members with one profile are then not all alike.
+// What becomes of the members of each profile, as far as it was found: a loop over members keeps it, so that most members cost a look at
+// the board and one here. Where something is marked nothing is found, as members with one profile are then not all alike.
 ghost use Rattle.std.specs.Prelude.{◌≡◌, [], ◌∷◌};
 ghost use Rattle.profile.specs.Profile.{profile_of};
 ghost use Rattle.eval.specs.Found.{step_of, step_by, FoundSo};

@@ -1,11 +1,11 @@
-// What profiles are to hold: as much as the rule asks for and no more, so that many members are alike. It is a choice that saves work: but for
-// the wiring of features, anything would do.
+// What profiles are to hold: as much as the rule asks for and no more, so that many members are alike. It is a choice that saves work: but
+// for the wiring of features, anything would do.
 ghost use Rattle.std.specs.Prelude.{◌≡◌, true, ◌<◌, length};
 ghost use Rattle.instance.specs.Instance.{owners_wired};
 
+use crate::context::Pipeline;
 use crate::marked;
 use crate::ready::Call;
-use crate::walk::Pipeline;
 use instance;
 use meaning::Method;
 use predicate::{node, rows};

@@ -2,17 +2,17 @@
 // refusals 9 to 16 are settled, and only then the collection table is written.
 #![tactic(auto)]
 
-pub mod analysis;
-pub mod found;
-pub mod held;
-pub mod listed;
-pub mod marked;
-pub mod memo;
-pub mod pipeline;
-pub mod ready;
-pub mod source;
-pub mod step;
-pub mod walk;
+mod context;
+mod found;
+mod held;
+mod listed;
+mod marked;
+mod memo;
+mod pipeline;
+mod ready;
+mod source;
+mod step;
+mod walk;
 
 ghost use Rattle.std.specs.Prelude.{◌≡◌, Ok};
 ghost use Rattle.meaning.specs.Outcome.{outcome, check_run};
@@ -21,11 +21,9 @@ ghost use Rattle.eval.specs.Run.{lent, Answers, Runs, ReadRule};
 
 use calls::value::{Outcome, Verdict};
 use calls::verdict;
+use lexer::limits::TREE_ROW;
 use syntax::refusal::Refusal;
 use trees::{Reading, Rows};
-
-// The numbers of a row of the tree table.
-const TREE_ROW: usize = 4;
 
 // What running a rule gives: its outcome, the verdict on it, and, once refusals 1 to 8 are passed, the numbers of token, tree and error
 // rows; before that `reading` has the refusal.

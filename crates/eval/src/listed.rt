@@ -5,12 +5,16 @@ ghost use Rattle.meaning.specs.Calls.{features_of};
 ghost use Rattle.eval.specs.Listed.{every_component, every_feature, Lists};
 ghost use Rattle.eval.specs.Walk.{every_of_analysis};
 
-use crate::analysis::KNOWN;
-use crate::{analysis, walk};
+use crate::walk;
+use board::compared::Compared;
 use board::image;
 use board::image::Section;
 use instance;
 use predicate::atom::Member;
+
+// The name of an analysis compared with those of a board's, of which this many are known: many diagnostics are asked, and few analyses made
+// them.
+pub(crate) type Names<'a> = Compared<'a, 8>;
 
 // Writes the rows of all components, and gives their number.
 pub(crate) fn list_components(image: &[u8], collection: &mut [u32]) -> usize
@@ -77,10 +81,10 @@ pub(crate) fn list_diagnostics(image: &[u8], name: &[u8], collection: &mut [u32]
     ensures { Lists (every_of_analysis image.now name.now) 0 collection.old collection.new result }
 {
     let count = image::record_count(image, Section::Diagnostics);
-    let mut known = [None; KNOWN];
+    let mut names = Names::new(image, name);
     let mut row = 0;
     for diagnostic in 0..count {
-        if analysis::is_of_analysis(image, name, diagnostic, &mut known) {
+        if names.is(image::analysis(image, diagnostic)) {
             walk::put_member(collection, row, Member::Diagnostic(diagnostic));
             row += 1;
         }
@@ -93,10 +97,10 @@ pub(crate) fn count_diagnostics(image: &[u8], name: &[u8]) -> usize
     ensures { result ≡ length (every_of_analysis image.now name.now) }
 {
     let count = image::record_count(image, Section::Diagnostics);
-    let mut known = [None; KNOWN];
+    let mut names = Names::new(image, name);
     let mut diagnostics = 0;
     for diagnostic in 0..count {
-        if analysis::is_of_analysis(image, name, diagnostic, &mut known) {
+        if names.is(image::analysis(image, diagnostic)) {
             diagnostics += 1;
         }
     }

@@ -1,11 +1,10 @@
 // What is known of `has` before members are sent: for the first CALL_EXPR rows of a tree the components that have what they name, as a
 // mark for each. Which of these `has` are true of a member is a number, its bits.
-ghost use Rattle.std.specs.Prelude.{◌≡◌, ◌+◌, ◌*◌, ◌≤◌, ◌<◌, length, IfSome};
-ghost use Rattle.predicate.specs.Rows.{ROW};
+ghost use Rattle.std.specs.Prelude.{◌≡◌, ◌<◌, IfSome};
 ghost use Rattle.eval.specs.Marked.{counts, bit_at, bits_at, bits_by, RowTold, TellsBelow, HasRow, MarksOf, Made};
 ghost use Rattle.eval.specs.Marked as meant;
 
-use crate::walk::Pipeline;
+use crate::context::Pipeline;
 use board::image;
 use board::image::Section;
 use marks;

@@ -1,16 +1,17 @@
 // What is known of the calls' predicates. A predicate that asks for no more than a member's profile and its bits is asked of the first
 // member of each profile and bits, and its answer noted: a note for each call, profile and bits. Where nothing is marked the bits are 0.
-ghost use Rattle.std.specs.Prelude.{◌≡◌, ◌+◌, ◌*◌, ◌<◌, length, set, IfSome};
+ghost use Rattle.std.specs.Prelude.{◌≡◌, ◌+◌, ◌*◌, ◌<◌, length, IfSome};
 ghost use Rattle.predicate.specs.Truth.{truth};
 ghost use Rattle.predicate.specs.Rows.{children_at};
 ghost use Rattle.profile.specs.Profile.{PROFILES, profile_of};
 ghost use Rattle.eval.specs.Memo.{NOTED_CALLS, NOTES, told, note_for, place_of, note_in};
 ghost use Rattle.eval.specs.Walk.{Asking, AskedOf, Stays, NotesIt};
 
+use crate::context::Pipeline;
 use crate::marked;
 use crate::marked::Sorts;
-use crate::walk::{Pipeline, Walk};
-use predicate;
+use crate::walk::Walk;
+use predicate::Predicate;
 use predicate::atom::Member;
 use profile;
 
@@ -142,7 +143,11 @@ impl<'a> Walk<'a> {
             tree,
             ..
         } = self.pipeline;
-        predicate::eval_args(rule, image, tree, member, args)
+        let first = self.pipeline.first;
+        if first.at == args {
+            return first.is_true(image, member);
+        }
+        Predicate::new(rule, tree, args).is_true(image, member)
     }
 
     // Notes the answer of the predicate of call i at a place of which nothing is known, if it is that of every member with the same profile

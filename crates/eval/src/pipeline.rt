@@ -1,16 +1,17 @@
 // eval.rs, "Pipeline evaluation": what the tree of a rule without parse errors comes to on a board. All refusals are settled before a row
 // of the collection table is written.
-ghost use Rattle.std.specs.Prelude.{◌≡◌, ◌+◌, ◌≤◌, ◌<◌, length};
-ghost use Rattle.predicate.specs.Rows.{ROW, children_at};
+ghost use Rattle.std.specs.Prelude.{◌≡◌, ◌≤◌, ◌<◌, length};
+ghost use Rattle.predicate.specs.Rows.{children_at};
 ghost use Rattle.meaning.specs.Pipeline.{eval_pipeline};
 ghost use Rattle.meaning.specs.Outcome.{eval_count_compare, eval_node};
 ghost use Rattle.calls.specs.Answer.{boolean_of};
 ghost use Rattle.eval.specs.Pipeline.{FewCalls, Lent, Evaluates, Counts, OperatorAt, Gives, Judges};
 ghost use Rattle.eval.specs.Pipeline as meant;
 
-use crate::ready;
+use crate::context::Pipeline;
 use crate::ready::{Call, Plan};
-use crate::walk::{Pipeline, Tally};
+use crate::walk::Tally;
+use crate::{context, ready};
 use calls::compare;
 use calls::value::{Outcome, Value};
 use lexer::limits::MAX_RULE;
@@ -67,13 +68,14 @@ impl Evaluator<'_> {
             tree: self.tree,
             calls,
             last,
+            first: &context::first_predicate(self.rule, self.tree, calls),
         };
         let tally = pipeline.walk(plan.source, collection);
         Ok(value(plan.kind, last, tally))
     }
 
-    // `eval_count_compare`, of the COUNT_COMPARE_EXPR whose row is at a place: the left side is judged before the integer. Where there is no
-    // operator it is as with `!=`.
+    // `eval_count_compare`, of the COUNT_COMPARE_EXPR whose row is at a place: the left side is judged before the integer. Where there is
+    // no operator it is as with `!=`.
     fn eval_count_compare(&self, at: usize, calls: &mut [Call], collection: &mut [u32]) -> Outcome
         requires { (meant.CALLS ≤ length calls.old) × Lent self.now.image.now collection.old × FewCalls self.now.rule.now self.now.tree.now at }
         ensures { Evaluates (eval_count_compare self.now.image.now (children_at self.now.rule.now self.now.tree.now at)) collection.old collection.new result }
@@ -102,12 +104,14 @@ impl Evaluator<'_> {
             method: Method::Count,
             args: 0,
         };
+        let calls = &calls[..plan.calls + 1];
         let pipeline = Pipeline {
             rule: self.rule,
             image: self.image,
             tree: self.tree,
-            calls: &calls[..plan.calls + 1],
+            calls,
             last: Method::Count,
+            first: &context::first_predicate(self.rule, self.tree, calls),
         };
         pipeline.walk(plan.source, collection).arrived
     }

@@ -28,8 +28,8 @@ pub(crate) fn nth(calls: &[Call], i: usize) -> Option<Call>
     calls.get(i).copied()
 }
 
-// What is known of a pipeline before any member is looked at: the place of its source's row, the number of its calls and the kind that they come
-// to.
+// What is known of a pipeline before any member is looked at: the place of its source's row, the number of its calls and the kind that they
+// come to.
 #[derive(Clone, Copy)]
 pub(crate) struct Plan {
     pub source: usize,
@@ -107,8 +107,8 @@ fn call_at(rule: &[u8], tree: &[u32], row: usize) -> Call
     }
 }
 
-// The place of the CALL_ARGS of the DOT_CALL whose row is at a place; where there is none, past all rows. An `Option` would make `Call` half
-// as large again.
+// The place of the CALL_ARGS of the DOT_CALL whose row is at a place; where there is none, past all rows. An `Option` would make `Call`
+// half as large again.
 fn args_place(tree: &[u32], row: usize) -> usize
     ensures { result ≡ args_place tree.now row }
 {

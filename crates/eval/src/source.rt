@@ -1,5 +1,6 @@
-// `eval_source`: the members of a source, each sent through the calls: as was found of its profile (`found`) where nothing is marked, as the
-// notes tell (`walk`) where something is, and by asking where there are few. Diagnostics are sent if their analysis has the name asked for.
+// `eval_source`: the members of a source, each sent through the calls: as was found of its profile (`found`) where nothing is marked, as
+// the notes tell (`walk`) where something is, and by asking where there are few. Diagnostics are sent if their analysis has the name asked
+// for.
 ghost use Rattle.std.specs.Prelude.{◌≡◌, true, [], ◌∷◌};
 ghost use Rattle.meaning.specs.declared.Method.TheVariants.{Features};
 ghost use Rattle.eval.specs.Ready.{IsCall};
@@ -8,13 +9,14 @@ ghost use Rattle.eval.specs.Found.{FoundSo};
 ghost use Rattle.meaning.specs.Calls.{features_of};
 ghost use Rattle.eval.specs.Walk.{every_of_analysis, SendsAll, SentAll, Sending, Sent};
 
-use crate::analysis::KNOWN;
+use crate::context::Pipeline;
 use crate::found::Profiles;
+use crate::listed::Names;
 use crate::marked::{Marked, Sorts};
 use crate::memo::Note;
 use crate::ready::Call;
-use crate::walk::{Pipeline, Tally, Walk};
-use crate::{analysis, held, listed, marked, memo, ready};
+use crate::walk::{Tally, Walk};
+use crate::{held, listed, marked, memo, ready};
 use board::image;
 use board::image::Section;
 use instance;
@@ -24,15 +26,15 @@ use profile;
 use profile::Held;
 use syntax::kind::Kind;
 
-// On a board with fewer components nothing is noted of them where their category is compared; on one with fewer than the second nothing
-// where a `has` is asked, which needs marks.
+// On a board with fewer components nothing is noted of them where their category is compared.
 const NOTED_BOARD: u32 = 14;
 
+// On a board with fewer nothing is noted of them where a `has` is asked, which needs marks.
 const MARKED_BOARD: u32 = 32;
 
 impl<'a> Pipeline<'a> {
-    // `components`: every component of the board. Where there is no call all have rows, and a first call `count` gives their number; so it is
-    // with their features, where `features` comes first.
+    // `components`: every component of the board. Where there is no call all have rows, and a first call `count` gives their number; so it
+    // is with their features, where `features` comes first.
     pub(crate) fn feed_components(self, collection: &mut [u32]) -> Tally
         requires { SendsAll self (every_component self.image.now) collection.old }
         ensures { SentAll self.entry (every_component self.entry.image.now) collection.old collection.new result }
@@ -131,8 +133,8 @@ impl<'a> Pipeline<'a> {
         walk.tally
     }
 
-    // `analysis('name')`: the diagnostics of the analysis with this name. Where there is no call all have rows, and a first call `count` gives
-    // their number.
+    // `analysis('name')`: the diagnostics of the analysis with this name. Where there is no call all have rows, and a first call `count`
+    // gives their number.
     pub(crate) fn feed_diagnostics(self, name: &[u8], collection: &mut [u32]) -> Tally
         requires { SendsAll self (every_of_analysis self.image.now name.now) collection.old }
         ensures { SentAll self.entry (every_of_analysis self.entry.image.now name.now) collection.old collection.new result }
@@ -146,7 +148,8 @@ impl<'a> Pipeline<'a> {
         self.feed_noted_diagnostics(name, collection)
     }
 
-    // Sends every diagnostic of the analysis through the calls, with notes. It is not inlined, so that its loop has the registers for itself.
+    // Sends every diagnostic of the analysis through the calls, with notes. It is not inlined, so that its loop has the registers for
+    // itself.
     #[inline(never)]
     fn feed_noted_diagnostics(self, name: &[u8], collection: &mut [u32]) -> Tally
         requires { SendsAll self (every_of_analysis self.image.now name.now) collection.old }
@@ -267,10 +270,10 @@ impl<'a> Walk<'a> {
     {
         let image = self.pipeline.image;
         let count = image::record_count(image, Section::Diagnostics);
-        let mut known = [None; KNOWN];
+        let mut names = Names::new(image, name);
         let mut profiles = Profiles::NONE;
         for diagnostic in 0..count {
-            if !analysis::is_of_analysis(image, name, diagnostic, &mut known) {
+            if !names.is(image::analysis(image, diagnostic)) {
                 continue;
             }
             let profile = profile::diagnostic_profile(image, diagnostic);

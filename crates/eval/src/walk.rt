@@ -1,6 +1,6 @@
 // Members sent through the calls of a pipeline, one source member at a time: as the notes tell, or by asking each `where`, then its
 // features, each further `where`. No collection but the last is kept, and no member is sent after one that decides a quantifier.
-ghost use Rattle.std.specs.Prelude.{◌≡◌, true, [], ◌∷◌, ◌++◌, ◌+◌, ◌*◌, ◌^◌, ◌≤◌, ◌<◌, length, drop, replicate};
+ghost use Rattle.std.specs.Prelude.{◌≡◌, [], ◌∷◌, ◌++◌, ◌+◌, ◌*◌, ◌^◌, ◌≤◌, ◌<◌, length, drop, replicate};
 ghost use Rattle.std.proofs.lemmas.List.Edits.{sets};
 ghost use Rattle.board.specs.Check as meant;
 ghost use Rattle.profile.specs.Profile.{profile_of};
@@ -10,21 +10,19 @@ ghost use Rattle.eval.specs.Feed.{counted, decided_in};
 ghost use Rattle.eval.specs.Step.{after};
 ghost use Rattle.eval.specs.Walk.{state_in, Begins, Walks, Walked, Sending, Sent, Arriving, Takes, Moved};
 
+use crate::context::Pipeline;
 use crate::marked::Sorts;
 use crate::memo::Note;
 use crate::ready;
 use crate::ready::Call;
 use crate::step::Step;
-use board::image;
+use board::{COLLECTION_ROW, image};
 use instance;
 use meaning::Method;
 use predicate::atom::Member;
 use predicate::{node, rows};
 use profile;
 use syntax::kind::Kind;
-
-// The numbers of a row of the collection table.
-const COLLECTION_ROW: usize = 2;
 
 // How many members arrived where the result is settled, and of how many of them the last call's predicate is true.
 #[derive(Clone, Copy)]
@@ -52,17 +50,6 @@ impl Tally {
     }
 }
 
-// What is looked at: a rule and the rows of its tree, a board image, the calls of a pipeline in that tree, and the method of the call that
-// may decide early, the last.
-#[derive(Clone, Copy)]
-pub(crate) struct Pipeline<'a> {
-    pub rule: &'a [u8],
-    pub image: &'a [u8],
-    pub tree: &'a [u32],
-    pub calls: &'a [Call],
-    pub last: Method,
-}
-
 impl<'a> Pipeline<'a> {
     // Sends the members of the source whose row is at a place through the calls, into a collection table whose rows become 0 first: all of
     // them, or as many as decide the quantifier that is the last call.
@@ -81,8 +68,9 @@ impl<'a> Pipeline<'a> {
     }
 }
 
-// A walk through the calls: what is looked at, the collection table, what members are told apart by, what is noted of the calls' predicates,
-// and who arrived. Notes are none where nothing is to be noted; those of bits 0 where nothing is marked, and else those of all bits.
+// A walk through the calls: what is looked at, the collection table, what members are told apart by, what is noted of the calls'
+// predicates, and who arrived. Notes are none where nothing is to be noted; those of bits 0 where nothing is marked, and else those of all
+// bits.
 #[derive(Drop)]
 pub(crate) struct Walk<'a> {
     pub pipeline: Pipeline<'a>,

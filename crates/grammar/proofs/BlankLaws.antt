@@ -1,5 +1,5 @@
 -- Blanks never matter to the parser: without them it does the same, without them. By its combinators. Assumes nothing.
-use mathlib.Core.Path.{◌≡◌, refl, sym}
+use mathlib.Core.Path.{◌≡◌, refl, sym, ap, ◌∙◌}
 use mathlib.Core.Logic.{◌↔◌}
 use mathlib.Core.List.{List, [], ◌∷◌, ◌++◌}
 use mathlib.Core.Bool.{Bool, true, false, ◌&&◌, ◌||◌}
@@ -24,60 +24,43 @@ use Rattle.grammar.specs.Blanks.{no_blanks, solid_errors, strip}
 pub solid_append : (xs ys : List Token) → solid (xs ++ ys) ≡ solid xs ++ solid ys
 unfolding solid
 solid_append [] ys = refl
-solid_append (x ∷ xs) ys =
-    let ih = solid_append xs ys in
-    whether (is_blank x) (λ e. rw (e, solid) ih) (λ e. rw (e, solid, ih))
+solid_append (x ∷ xs) ys = whether (is_blank x) (λ e. rw (e, solid, solid_append xs ys)) (λ e. rw (e, solid, solid_append xs ys))
 
 solid_length : (ts : List Token) → length (solid ts) ≤ length ts
 unfolding solid
 solid_length [] = omega arith
 solid_length (t ∷ ts) =
-    let ih = solid_length ts in
-    whether (is_blank t) (λ e. rw (e, solid) (omega arith)) (λ e. rw (e, solid) (omega arith))
+    whether (is_blank t) (λ e. rw (e, solid) (omega (arith, solid_length ts))) (λ e. rw (e, solid) (omega (arith, solid_length ts)))
 
--- the first token that is no blank, and what follows it
-solid_skip : (ts : List Token) → solid (skip_ws ts) ≡ solid ts
-unfolding solid skip_ws
-solid_skip [] = refl
-solid_skip (t ∷ ts) =
-    let ih = solid_skip ts in
-    whether (is_blank t) (λ e. rw (e, skip_ws, solid) ih) (λ e. rw (e, skip_ws))
+-- a look at the tokens without blanks is another at the tokens past blanks, if they see the same at a first token that is no blank
+module _ {A : Type 0} (look other : List Token → A) (none : look [] ≡ other [])
+    (same : (t : Token) (ts : List Token) → is_blank t ≡ false → look (t ∷ solid ts) ≡ other (t ∷ ts)) where
+  look_solid : (ts : List Token) → look (solid ts) ≡ other (skip_ws ts)
+  unfolding solid skip_ws
+  look_solid [] = none
+  look_solid (t ∷ ts) = whether (is_blank t) (λ e. rw (e, solid, skip_ws) (look_solid ts)) (λ e. rw (e, solid, skip_ws) (same t ts e))
+
+pub solid_skip : (ts : List Token) → solid (skip_ws ts) ≡ solid ts
+unfolding solid
+solid_skip ts = sym (look_solid (λ us. us) solid refl (λ t us e. rw (e, solid)) ts)
 
 skip_solid : (ts : List Token) → skip_ws (solid ts) ≡ solid ts
 unfolding solid skip_ws
-skip_solid [] = refl
-skip_solid (t ∷ ts) =
-    let ih = skip_solid ts in
-    whether (is_blank t) (λ e. rw (e, solid) ih) (λ e. rw (e, solid, e, skip_ws))
+skip_solid ts = look_solid skip_ws solid refl (λ t us e. rw (e, skip_ws, solid)) ts ∙ solid_skip ts
 
 eat_solid : (ts : List Token) → eat_ws (solid ts) ≡ done (solid ts)
 unfolding solid eat_ws done
-eat_solid [] = refl
-eat_solid (t ∷ ts) =
-    let ih = eat_solid ts in
-    whether (is_blank t) (λ e. rw (e, solid) ih) (λ e. rw (e, solid, e, eat_ws))
-
--- a look at the first token, past blanks and without them
-module _ {A : Type 0} (look : List Token → A) (same : (t : Token) (ts : List Token) → look (t ∷ solid ts) ≡ look (t ∷ ts)) where
-  look_solid : (ts : List Token) → look (solid ts) ≡ look (skip_ws ts)
-  unfolding solid skip_ws
-  look_solid [] = refl
-  look_solid (t ∷ ts) =
-      let ih = look_solid ts in
-      whether (is_blank t) (λ e. rw (e, solid, skip_ws) ih) (λ e. rw (e, solid, skip_ws) (same t ts))
+eat_solid ts = look_solid eat_ws (λ us. done (solid us)) refl (λ t us e. rw (e, eat_ws, solid)) ts ∙ ap done (solid_skip ts)
 
 kind_solid : (ts : List Token) → head_kind (solid ts) ≡ head_kind (skip_ws ts)
-kind_solid = look_solid head_kind (λ t ts. refl)
+kind_solid = look_solid head_kind head_kind refl (λ t ts e. refl)
 
 text_solid : (ts : List Token) → head_text (solid ts) ≡ head_text (skip_ws ts)
-text_solid = look_solid head_text (λ t ts. refl)
+text_solid = look_solid head_text head_text refl (λ t ts e. refl)
 
 tail_solid : (ts : List Token) → tail_of (solid ts) ≡ solid (tail_of (skip_ws ts))
-unfolding solid skip_ws
-tail_solid [] = refl
-tail_solid (t ∷ ts) =
-    let ih = tail_solid ts in
-    whether (is_blank t) (λ e. rw (e, solid, skip_ws) ih) (λ e. rw (e, solid, skip_ws))
+unfolding solid
+tail_solid = look_solid tail_of (λ us. solid (tail_of us)) refl (λ t ts e. refl)
 
 -- ---- looks
 
@@ -129,9 +112,8 @@ ends_solid : (second last : ℕ) (ts : List Token) → ends_in_comparison second
 unfolding ends_in_comparison solid
 ends_solid second last [] = refl
 ends_solid second last (t ∷ ts) =
-    let blank = ends_solid second last ts in
-    let other = ends_solid last t.kind ts in
-    whether (is_blank t) (λ e. rw (e, solid, ends_in_comparison) blank) (λ e. rw (e, solid, ends_in_comparison, e, ends_in_comparison) other)
+    whether (is_blank t) (λ e. rw (e, solid, ends_in_comparison) (ends_solid second last ts))
+    (λ e. rw (e, solid, ends_in_comparison, e, ends_in_comparison) (ends_solid last t.kind ts))
 
 even_compare : Even has_count_compare_ahead
 unfolding has_count_compare_ahead
@@ -146,15 +128,11 @@ op_solid : (op depth : ℕ) (found : Bool) (ts : List Token) → op_ahead op dep
 unfolding op_ahead solid
 op_solid op depth found [] = refl
 op_solid op depth found (t ∷ ts) =
-    let blank = op_solid op depth found ts in
-    let opens = op_solid op (depth + 1) true ts in
-    let closes = op_solid op (depth - 1) found ts in
-    let other = op_solid op depth true ts in
-    whether (is_blank t) (λ e. rw (e, solid, op_ahead) blank)
+    whether (is_blank t) (λ e. rw (e, solid, op_ahead) (op_solid op depth found ts))
     (λ e. rw (e, solid, op_ahead, e, op_ahead)
-    (either (eqb t.kind L_PAREN) opens
-    (either (eqb t.kind R_PAREN) (either (eqb depth 0) refl closes)
-    (either (eqb t.kind op && (eqb depth 0 && found)) refl other))))
+    (either (eqb t.kind L_PAREN) (op_solid op (depth + 1) true ts)
+    (either (eqb t.kind R_PAREN) (either (eqb depth 0) refl (op_solid op (depth - 1) found ts))
+    (either (eqb t.kind op && (eqb depth 0 && found)) refl (op_solid op depth true ts)))))
 
 even_op : (op : ℕ) → Even (has_binary_op_at_level op)
 unfolding has_binary_op_at_level
@@ -165,9 +143,7 @@ even_op op = record { even = op_solid op 0 false }
 no_blanks-⊹ : (f g : Forest) → no_blanks (f ⊹ g) ≡ no_blanks f ⊹ no_blanks g
 unfolding no_blanks ◌⊹◌
 no_blanks-⊹ nil g = refl
-no_blanks-⊹ (leaf t f) g =
-    let ih = no_blanks-⊹ f g in
-    whether (is_blank t) (λ e. rw (e, no_blanks) ih) (λ e. rw (e, no_blanks, ih))
+no_blanks-⊹ (leaf t f) g = whether (is_blank t) (λ e. rw (e, no_blanks, no_blanks-⊹ f g)) (λ e. rw (e, no_blanks, no_blanks-⊹ f g))
 no_blanks-⊹ (node k s f) g = rw (no_blanks-⊹ f g)
 
 errors_append : (es fs : List Error) → solid_errors (es ++ fs) ≡ solid_errors es ++ solid_errors fs
@@ -225,8 +201,7 @@ eat_strip : (ts : List Token) → strip (eat_ws ts) ≡ done (solid ts)
 unfolding eat_ws strip no_blanks solid_errors solid done join next
 eat_strip [] = refl
 eat_strip (t ∷ ts) =
-    let ih = eat_strip ts in
-    whether (is_blank t) (λ e. rw (e, eat_ws, e, no_blanks, solid) ih) (λ e. rw (e, eat_ws, e, solid))
+    whether (is_blank t) (λ e. rw (e, eat_ws, e, no_blanks, solid) (eat_strip ts)) (λ e. rw (e, eat_ws, e, solid))
 
 -- past blanks
 blind_eat : Blind eat_ws
@@ -246,13 +221,7 @@ ahead_choose {p} {q} test e a b = record { ahead = λ ts. choice (p (skip_ws ts)
 
 ahead_next : Ahead next
 unfolding next strip no_blanks solid_errors solid skip_ws
-ahead_next = record { ahead = go }
-  where
-    go : (ts : List Token) → next (solid ts) ≡ strip (next (skip_ws ts))
-    go [] = refl
-    go (t ∷ ts) =
-        let ih = go ts in
-        whether (is_blank t) (λ e. rw (e, solid, skip_ws) ih) (λ e. rw (e, solid, skip_ws, e, no_blanks))
+ahead_next = record { ahead = look_solid next (λ us. strip (next us)) refl (λ t us e. rw (e, no_blanks)) }
 
 ahead_fails : (form k : ℕ) → Ahead (fails form k)
 unfolding fails strip no_blanks solid_errors
@@ -264,11 +233,11 @@ blind_bump = blind_past ahead_next
 
 blind_expect : (k : ℕ) → Blind (expect k)
 unfolding expect next_is
-blind_expect k = blind_past (ahead_choose (next_is k) (look_solid (next_is k) (λ t ts. refl)) ahead_next (ahead_fails _ k))
+blind_expect k = blind_past (ahead_choose (next_is k) (look_solid (next_is k) (next_is k) refl (λ t ts e. refl)) ahead_next (ahead_fails _ k))
 
 blind_expect_ident : (w : List ℕ) → Blind (expect_ident w)
 unfolding expect_ident next_is_ident
-blind_expect_ident w = blind_past (ahead_choose (next_is_ident w) (look_solid (next_is_ident w) (λ t ts. refl)) ahead_next (ahead_fails _ 0))
+blind_expect_ident w = blind_past (ahead_choose (next_is_ident w) (look_solid (next_is_ident w) (next_is_ident w) refl (λ t ts e. refl)) ahead_next (ahead_fails _ 0))
 
 -- all tokens left
 blind_remaining : Blind remaining
@@ -277,9 +246,7 @@ blind_remaining = record { blind = go }
   where
     go : (ts : List Token) → remaining (solid ts) ≡ strip (remaining ts)
     go [] = refl
-    go (t ∷ ts) =
-        let ih = go ts in
-        whether (is_blank t) (λ e. rw (e, solid, no_blanks) ih) (λ e. rw (e, solid, no_blanks, ih))
+    go (t ∷ ts) = whether (is_blank t) (λ e. rw (e, solid, no_blanks, go ts)) (λ e. rw (e, solid, no_blanks, go ts))
 
 -- the laws by which this is found along a parser's definition
 ruleset evenly = (even_kind, even_text, even_ident, even_message, even_field, even_predicate, even_plain, even_compare, even_op)

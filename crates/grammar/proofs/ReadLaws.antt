@@ -1,4 +1,5 @@
--- The parser reads the grammar: of the tokens of a predicate, of calls and of a pipeline it makes their trees, with no error. Assumes nothing.
+-- The parser reads the grammar: of the tokens of a predicate, of calls and of a pipeline it makes their trees, with no error. Assumes
+-- nothing.
 use mathlib.Core.Path.{◌≡◌, refl, sym, ◌∙◌}
 use mathlib.Core.List.{List, [], ◌∷◌, ◌++◌, append_assoc}
 use mathlib.Core.Bool.{Bool, true, false, ◌&&◌, ◌||◌, and-true, and-false, or-true, or-false, true≢false}
@@ -120,7 +121,7 @@ unfolding ◌⊹◌
 ⊹-nil (leaf t f) = rw (⊹-nil f)
 ⊹-nil (node k s f) = rw (⊹-nil f)
 
-⊹-assoc : (f g h : Forest) → (f ⊹ g) ⊹ h ≡ f ⊹ (g ⊹ h)
+pub ⊹-assoc : (f g h : Forest) → (f ⊹ g) ⊹ h ≡ f ⊹ (g ⊹ h)
 unfolding ◌⊹◌
 ⊹-assoc nil g h = refl
 ⊹-assoc (leaf t f) g h = rw (⊹-assoc f g h)

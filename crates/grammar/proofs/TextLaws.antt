@@ -73,8 +73,7 @@ pub closed_solid : (ts : List Token) → closed (solid ts) ≡ closed ts
 unfolding closed solid
 closed_solid [] = refl
 closed_solid (t ∷ ts) =
-    let ih = closed_solid ts in
-    whether (is_blank t) (λ e. rw (e, solid, eqb-true t.kind WHITESPACE e) ih) (λ e. rw (e, solid, ih))
+    whether (is_blank t) (λ e. rw (e, solid, eqb-true t.kind WHITESPACE e) (closed_solid ts)) (λ e. rw (e, solid, closed_solid ts))
 
 -- so are those of a text that is read whole
 whole_closed : {p : List ℕ} → ReadWhole p → T (closed (lex p))

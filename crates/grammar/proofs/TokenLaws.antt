@@ -1,4 +1,5 @@
--- What the lexer's tokens are: the text of a symbol or a keyword by its kind, the kind by the text, and a string's content. Assumes nothing.
+-- What the lexer's tokens are: the text of a symbol or a keyword by its kind, the kind by the text, and a string's content. Assumes
+-- nothing.
 use mathlib.Core.Path.{◌≡◌, refl, sym, ap, subst}
 use mathlib.Core.List.{List, [], ◌∷◌, ◌++◌, cons≢nil}
 use mathlib.Core.Bool.{Bool, true, false, cond, true≢false}
@@ -181,13 +182,13 @@ pub lexed_right : (xs ys : List Token) → Lexed (xs ++ ys) → Lexed ys
 lexed_right [] ys l = l
 lexed_right (x ∷ xs) ys (some r b c l) = lexed_right xs ys l
 
+pub nil_both : {A : Type 0} (xs ys : List A) → xs ++ ys ≡ [] → (xs ≡ []) × (ys ≡ [])
+nil_both [] ys e = (refl, e)
+nil_both (x ∷ xs) ys e = absurd (cons≢nil e)
+
 -- the tokens before a token are closed
 pub lexed_closed : (xs : List Token) (t : Token) (ys : List Token) → Lexed (xs ++ (t ∷ ys)) → T (closed xs)
 unfolding closed
 lexed_closed [] t ys l = tt
 lexed_closed (x ∷ xs) t ys (some r b c l) =
-    rw (T→true (is_closed x) (c (λ e. cons≢nil (nil_right xs e)))) (lexed_closed xs t ys l)
-  where
-    nil_right : (xs : List Token) → xs ++ (t ∷ ys) ≡ [] → t ∷ ys ≡ []
-    nil_right [] e = e
-    nil_right (x ∷ xs) e = absurd (cons≢nil e)
+    rw (T→true (is_closed x) (c (λ e. cons≢nil (nil_both xs (t ∷ ys) e).1))) (lexed_closed xs t ys l)

@@ -29,7 +29,7 @@ use Rattle.grammar.specs.Texts.{Method, where_method, all_method, any_method, no
 use Rattle.grammar.proofs.BlankLaws.{parse_solid, pipeline_solid, strip_errors}
 use Rattle.grammar.proofs.ReadLaws.{ended, predicate_read, pipeline_read}
 use Rattle.grammar.proofs.TextLaws.{closed_solid, method_call, method_tokens}
-use Rattle.grammar.proofs.TokenLaws.{kind_from, right_text, Content, Real, Lexed, none, some, lexed_right, lexed_closed, lexed_lex}
+use Rattle.grammar.proofs.TokenLaws.{nil_both, kind_from, right_text, Content, Real, Lexed, none, some, lexed_right, lexed_closed, lexed_lex}
 
 -- ---- languages of tokens
 
@@ -62,10 +62,6 @@ record Eats (test : List Token → Bool) (p : Parser) (L : List Token → Type 0
   eats : (ts : List Token) → Lexed ts → test ts ≡ true → (p ts).errors ≡ [] → Ate L ts (p ts)
 
 -- ---- along the combinators
-
-nil_both : {A : Type 0} (xs ys : List A) → xs ++ ys ≡ [] → (xs ≡ []) × (ys ≡ [])
-nil_both [] ys e = (refl, e)
-nil_both (x ∷ xs) ys e = absurd (cons≢nil e)
 
 infixl 60 ◌then◌
 ◌then◌ : {test : List Token → Bool} {p q : Parser} {L M : List Token → Type 0} → Eats test p L → Eats always q M → Eats test (p ▹ q) (L · M)
@@ -135,10 +131,6 @@ eats_fails_ahead form = record { eats = λ ts l t e. absurd (cons≢nil e) }
 token_eq : {t u : Token} → t.kind ≡ u.kind → t.text ≡ u.text → t ≡ u
 token_eq p q = λ i. record { kind = p i; text = q i }
 
--- a token of the kind of a symbol or a keyword is that one
-symbol_eq : (t : Token) → ((w : List ℕ) → right_text t.kind w ≡ same w t.text) → {u : Token} → Real u → u.kind ≡ t.kind → u ≡ t
-symbol_eq t f {u} r e = token_eq e (same_eq u.text t.text (sym (f u.text) ∙ rw e at r.right))
-
 -- a token with the text of a word is that word
 word_eq : (w : String) → kind_from (ascii w) ≡ IDENT → {u : Token} → Real u → same u.text (ascii w) ≡ true → u ≡ word w
 word_eq w k {u} r e = let q = same_eq u.text (ascii w) e in token_eq (r.kinded ∙ ap kind_from q ∙ k) q
@@ -184,8 +176,17 @@ eats_expect k n f =
 one_of : {t u : Token} → u ≡ t → One t (u ∷ [])
 one_of {t} e = subst (λ (v : Token). One t (v ∷ [])) (sym e) one
 
-eats_symbol : (t : Token) → (t.kind ≡ NONE → ⊥) → ((w : List ℕ) → right_text t.kind w ≡ same w t.text) → Eats always (expect t.kind) (One t)
-eats_symbol t n f = eats_expect t.kind n (λ u r e. one_of (symbol_eq t f r e))
+-- a token of the kind of a symbol or a keyword is that one; so is the next token, where it is expected or a look told its kind
+module _ (t : Token) (n : t.kind ≡ NONE → ⊥) (f : (w : List ℕ) → right_text t.kind w ≡ same w t.text) where
+  symbol_eq : {u : Token} → Real u → u.kind ≡ t.kind → u ≡ t
+  symbol_eq {u} r e = token_eq e (same_eq u.text t.text (sym (f u.text) ∙ rw e at r.right))
+
+  eats_symbol : Eats always (expect t.kind) (One t)
+  eats_symbol = eats_expect t.kind n (λ u r e. one_of (symbol_eq r e))
+
+  kind_bump : Eats (at_kind t.kind) bump (One t)
+  unfolding at_kind
+  kind_bump = eats_bump (λ e. n (sym (eqb-true NONE t.kind e))) (λ u us r b e. one_of (symbol_eq r (eqb-true _ _ (rw (b, skip_ws) at e))))
 
 eats_dot : Eats always (expect DOT) (One dot)
 unfolding right_text
@@ -214,11 +215,6 @@ eats_contains =
     (eats_fails EXPECT_IDENT 0))
 
 -- the next token, where a look told which it is
-kind_bump : (t : Token) → (t.kind ≡ NONE → ⊥) → ((w : List ℕ) → right_text t.kind w ≡ same w t.text) → Eats (at_kind t.kind) bump (One t)
-unfolding at_kind
-kind_bump t n f =
-    eats_bump (λ e. n (sym (eqb-true NONE t.kind e))) (λ u us r b e. one_of (symbol_eq t f r (eqb-true _ _ (rw (b, skip_ws) at e))))
-
 ident_bump : (w : String) → Eats (at_ident (ascii w)) bump (One (word w))
 unfolding at_ident
 ident_bump w = eats_bump (λ e. false≢true e) (λ u us r b e. one_of (ident_eq w (rw (b, skip_ws) at e)))
@@ -266,16 +262,15 @@ field_of f e = subst (λ (v : Token). FieldName (v ∷ [])) (sym e) (field_name_
 
 field_bump : Eats at_field bump FieldName
 unfolding at_field
-field_bump = eats_bump (λ e. false≢true e) go
-  where
-    go : (u : Token) (us : List Token) → Real u → is_blank u ≡ false → at_field (u ∷ us) ≡ true → FieldName (u ∷ [])
-    go u us r b e =
-        let known : String → Bool = λ w. eqb u.kind IDENT && same u.text (ascii w) in
-        whether (known "category") (λ t. field_of category (ident_eq "category" t))
-        (λ t₁. whether (known "kind") (λ t. field_of kind (ident_eq "kind" t))
-        (λ t₂. whether (known "direction") (λ t. field_of direction (ident_eq "direction" t))
-        (λ t₃. whether (known "severity") (λ t. field_of severity (ident_eq "severity" t))
-        (λ t₄. field_of message (ident_eq "message" (rw (b, skip_ws, t₁, t₂, t₃, t₄) at e))))))
+field_bump =
+    eats_bump (λ e. false≢true e)
+    (λ u us r b e.
+    let known : String → Bool = λ w. eqb u.kind IDENT && same u.text (ascii w) in
+    whether (known "category") (λ t. field_of category (ident_eq "category" t))
+    (λ t₁. whether (known "kind") (λ t. field_of kind (ident_eq "kind" t))
+    (λ t₂. whether (known "direction") (λ t. field_of direction (ident_eq "direction" t))
+    (λ t₃. whether (known "severity") (λ t. field_of severity (ident_eq "severity" t))
+    (λ t₄. field_of message (ident_eq "message" (rw (b, skip_ws, t₁, t₂, t₃, t₄) at e)))))))
 
 -- the atoms that hold no other
 eats_has : Eats (at_ident (ascii "has")) call_expr (Raw Atom)
@@ -343,24 +338,22 @@ method_of_lem m e = subst (λ (v : Token). MethodWord (v ∷ [])) (sym e) (metho
 
 method_bump : Eats at_predicate_method bump MethodWord
 unfolding at_predicate_method kind_from
-method_bump = eats_bump (λ e. false≢true e) go
-  where
-    go : (u : Token) (us : List Token) → Real u → is_blank u ≡ false → at_predicate_method (u ∷ us) ≡ true → MethodWord (u ∷ [])
-    go u us r b e =
-        whether (same u.text (ascii "where")) (λ t. method_of_lem where_method (word_eq "where" refl r t))
-        (λ t₁. whether (same u.text (ascii "all")) (λ t. method_of_lem all_method (word_eq "all" refl r t))
-        (λ t₂. whether (same u.text (ascii "any")) (λ t. method_of_lem any_method (word_eq "any" refl r t))
-        (λ t₃. method_of_lem none_method (word_eq "none" refl r (rw (b, skip_ws, t₁, t₂, t₃) at e)))))
+method_bump =
+    eats_bump (λ e. false≢true e)
+    (λ u us r b e.
+    whether (same u.text (ascii "where")) (λ t. method_of_lem where_method (word_eq "where" refl r t))
+    (λ t₁. whether (same u.text (ascii "all")) (λ t. method_of_lem all_method (word_eq "all" refl r t))
+    (λ t₂. whether (same u.text (ascii "any")) (λ t. method_of_lem any_method (word_eq "any" refl r t))
+    (λ t₃. method_of_lem none_method (word_eq "none" refl r (rw (b, skip_ws, t₁, t₂, t₃) at e))))))
 
 plain_bump : Eats at_plain_method bump PlainWord
 unfolding at_plain_method kind_from
-plain_bump = eats_bump (λ e. false≢true e) go
-  where
-    go : (u : Token) (us : List Token) → Real u → is_blank u ≡ false → at_plain_method (u ∷ us) ≡ true → PlainWord (u ∷ [])
-    go u us r b e =
-        whether (same u.text (ascii "features"))
-        (λ t. subst (λ (v : Token). PlainWord (v ∷ [])) (sym (word_eq "features" refl r t)) features_word)
-        (λ t. subst (λ (v : Token). PlainWord (v ∷ [])) (sym (word_eq "diagnostics" refl r (rw (b, skip_ws, t) at e))) diagnostics_word)
+plain_bump =
+    eats_bump (λ e. false≢true e)
+    (λ u us r b e.
+    whether (same u.text (ascii "features"))
+    (λ t. subst (λ (v : Token). PlainWord (v ∷ [])) (sym (word_eq "features" refl r t)) features_word)
+    (λ t. subst (λ (v : Token). PlainWord (v ∷ [])) (sym (word_eq "diagnostics" refl r (rw (b, skip_ws, t) at e))) diagnostics_word))
 
 count_bump : Eats (at_text (ascii "count")) bump (One (word "count"))
 unfolding at_text kind_from

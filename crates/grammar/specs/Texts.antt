@@ -1,4 +1,5 @@
--- Texts made of texts: a call behind a pipeline, and `and`, `or` and `not` of predicates in brackets. Assumes nothing: these are definitions.
+-- Texts made of texts: a call behind a pipeline, and `and`, `or` and `not` of predicates in brackets. Assumes nothing: these are
+-- definitions.
 use Rattle.std.specs.Prelude.{ℕ, List, ◌++◌}
 use Prim.Native.String.{String}
 use Rattle.syntax.specs.Text.{ascii}

@@ -1,6 +1,6 @@
 -- What the numbers and texts read from an image say of its parts, and how far a loop has come in search of a record that passes a
 -- test: what is left decides as the whole does. Assumes nothing.
-use mathlib.Core.Path.{◌≡◌, refl, sym, ap, ◌∙◌}
+use mathlib.Core.Path.{◌≡◌, refl, sym, ◌∙◌}
 use mathlib.Core.Bool.{Bool, true, false, not, or-true, true≢false}
 use mathlib.Core.List.{List}
 use Prim.Native.Nat.{ℕ, zero, suc, ◌+◌, ◌-◌, ◌≤◌, ◌<◌}
@@ -9,7 +9,6 @@ use native.Mathlib.Numerals.{add-one}
 use native.Mathlib.Omega.{arith}
 use borrow.Author.Tests.{ne_eqb, eqb-true, not-true, not-false}
 use lib.Dec.{eqb}
-use Rattle.syntax.specs.Text.{same}
 use Rattle.syntax.proofs.BoolLaws.{whether, neither}
 use Rattle.board.specs.Image.{text, parent, first_feature, feature_name, connection_count, owner}
 use Rattle.instance.specs.Instance.{some, is_wired, component_connected, joins, feature_connected, owner_unwired, owners_wired, features_end, feature_is, has_feature}
@@ -29,18 +28,11 @@ module _ {passes : ℕ → Bool} {end n : ℕ} {whole : Bool} (s : Searching pas
 
   pub searching_miss : n < end → passes n ≡ false → Searching passes end (n + 1) whole
   unfolding some
-  searching_miss h e = record { rest = sym miss ∙ s.rest }
-    where
-      miss : some passes n (end - n) ≡ some passes (n + 1) (end - (n + 1))
-      miss = rw (one_more h, e, add-one n)
+  searching_miss h e = record { rest = sym (rw (one_more h, e, add-one n)) ∙ s.rest }
 
   pub searching_done : end ≤ n → false ≡ whole
   unfolding some
   searching_done h = let none : end - n ≡ 0 = omega arith in sym (rw none) ∙ s.rest
-
--- the text of a string whose number was read, compared with a name
-pub text_same : {r : Bool} {t : List ℕ} {n m : ℕ} (image name : List ℕ) → n ≡ m → t ≡ text image n → r ≡ same t name → r ≡ same (text image m) name
-text_same image name d e f = f ∙ ap (λ (t : List ℕ). same t name) (e ∙ ap (text image) d)
 
 -- the connections are searched where the component is not connected
 module _ (image : List ℕ) (component feature : ℕ) where

@@ -11,11 +11,11 @@ use borrow.Author.Tests.{eq-eqb, ne_eqb, le-leb}
 use lib.Dec.{eqb, eqb-suc-zero, eqb-suc-suc}
 use lib.ListN.{length, take, length-take}
 use lib.Seq.{get_or-take}
-use Rattle.board.specs.Image.{NUMBER_SIZE, little_endian, word, field, section_offset, record_count, connection_count, property_count, wired, owner}
+use Rattle.board.specs.Image.{NUMBER_SIZE, COMPONENT_SIZE, TRIPLE_SIZE, little_endian, word, field, section_offset, record_count, connection_count, property_count, wired, owner}
 use Rattle.board.specs.declared.image.Section.{Section}
 use Rattle.board.specs.declared.image.Section.TheVariants.{Components, Connections, Features, Properties}
 use Rattle.instance.specs.Instance.{some, joins, owner_unwired, is_property, has_property, feature_is}
-use Rattle.instance.specs.Places.{RECORD_SIZE, COMPONENT_SIZE, FIFTH, other_owner, joins_at, is_property_at, feature_is_at, Skipped, IsOwned, record_passes}
+use Rattle.instance.specs.Places.{FIFTH, other_owner, joins_at, is_property_at, feature_is_at, Skipped, IsOwned, record_passes}
 use Rattle.instance.proofs.InstanceLaws.{Searching, searching_hit, searching_miss, searching_done}
 
 -- a number that lies in an image's front is the image's
@@ -45,12 +45,12 @@ owners owner component (suc p) =
 connection_placed : (image : List ℕ) (component : ℕ) {other : ℕ} (name : List ℕ) → other ≡ other_owner image component
     → (n : ℕ) → joins image component name n ≡ record_passes (joins_at image component other name) image Connections n
 unfolding joins joins_at other_owner field
-connection_placed image component name f n = rw (f, add-zero (section_offset image Connections + RECORD_SIZE * n), owners)
+connection_placed image component name f n = rw (f, add-zero (section_offset image Connections + TRIPLE_SIZE * n), owners)
 
 property_placed : (image : List ℕ) (component : ℕ) (set name : List ℕ)
     → (n : ℕ) → is_property image component set name n ≡ record_passes (is_property_at image component set name) image Properties n
 unfolding is_property is_property_at field
-property_placed image component set name n = rw (add-zero (section_offset image Properties + RECORD_SIZE * n))
+property_placed image component set name n = rw (add-zero (section_offset image Properties + TRIPLE_SIZE * n))
 
 -- so what is said of the places is said of the records
 pub connections_placed : (image : List ℕ) (component : ℕ) {other : ℕ} (name : List ℕ) {r : Bool} → other ≡ other_owner image component
@@ -68,16 +68,16 @@ properties_whole image component set name e =
 
 module _ (image : List ℕ) {first : ℕ} where
   pub feature_placed : (name : List ℕ) → first ≡ section_offset image Features
-      → (n : ℕ) → feature_is_at image name (first + RECORD_SIZE * n) ≡ feature_is image name n
+      → (n : ℕ) → feature_is_at image name (first + TRIPLE_SIZE * n) ≡ feature_is image name n
   unfolding feature_is feature_is_at field
-  feature_placed name e n = rw (e, add-zero (section_offset image Features + RECORD_SIZE * n))
+  feature_placed name e n = rw (e, add-zero (section_offset image Features + TRIPLE_SIZE * n))
 
 -- the owner of a connection, whose mark was read at its place
 module _ (image : List ℕ) {connections components : ℕ} (e : connections ≡ section_offset image Connections) (f : components ≡ section_offset image Components) (n : ℕ)
-    {o w : ℕ} (g : o ≡ word image (connections + RECORD_SIZE * n)) (k : w ≡ word image (components + COMPONENT_SIZE * o + FIFTH)) where
+    {o w : ℕ} (g : o ≡ word image (connections + TRIPLE_SIZE * n)) (k : w ≡ word image (components + COMPONENT_SIZE * o + FIFTH)) where
   owner_mark : w ≡ wired image (owner image n)
   unfolding field
-  owner_mark = k ∙ rw (g, f, e, add-zero (section_offset image Connections + RECORD_SIZE * n))
+  owner_mark = k ∙ rw (g, f, e, add-zero (section_offset image Connections + TRIPLE_SIZE * n))
 
   pub owner_wired : w ≡ 1 → owner_unwired image n ≡ false
   owner_wired h = rw (← owner_mark, eq-eqb w 1 h)
@@ -99,8 +99,8 @@ module _ (image : List ℕ) (component : ℕ) (set name : List ℕ) (at : ℕ) {
 -- the records of a section are passed over up to the one at a place
 pub record Walking (passes : ℕ → Bool) (first count at : ℕ) (whole : Bool) : Type 0 where
   pub n : ℕ
-  pub place : at ≡ first + RECORD_SIZE * n
-  pub rest : Searching (λ n. passes (first + RECORD_SIZE * n)) count n whole
+  pub place : at ≡ first + TRIPLE_SIZE * n
+  pub rest : Searching (λ n. passes (first + TRIPLE_SIZE * n)) count n whole
 
 pub walking_start : (p : ℕ → Bool) (image : List ℕ) (section : Section) {first count : ℕ} → first ≡ section_offset image section
     → count ≡ record_count image section → Walking p first count first (some (record_passes p image section) 0 (record_count image section))
@@ -109,13 +109,13 @@ walking_start p image section {first} {count} e f =
 
 module _ {passes : ℕ → Bool} {first count at : ℕ} {whole : Bool} (w : Walking passes first count at whole) where
   -- the record at a place before the section's end
-  within : at < first + RECORD_SIZE * count → w.n < count
+  within : at < first + TRIPLE_SIZE * count → w.n < count
   within h = omega (arith, w.place)
 
-  pub walking_hit : at < first + RECORD_SIZE * count → passes at ≡ true → true ≡ whole
+  pub walking_hit : at < first + TRIPLE_SIZE * count → passes at ≡ true → true ≡ whole
   walking_hit h e = searching_hit w.rest (within h) (subst (λ (k : ℕ). passes k ≡ true) w.place e)
 
-  pub walking_miss : at < first + RECORD_SIZE * count → passes at ≡ false → Walking passes first count (at + RECORD_SIZE) whole
+  pub walking_miss : at < first + TRIPLE_SIZE * count → passes at ≡ false → Walking passes first count (at + TRIPLE_SIZE) whole
   walking_miss h e =
       record {
         n = w.n + 1;
@@ -123,7 +123,7 @@ module _ {passes : ℕ → Bool} {first count at : ℕ} {whole : Bool} (w : Walk
         rest = searching_miss w.rest (within h) (subst (λ (k : ℕ). passes k ≡ false) w.place e);
       }
 
-  pub walking_done : first + RECORD_SIZE * count ≤ at → false ≡ whole
+  pub walking_done : first + TRIPLE_SIZE * count ≤ at → false ≡ whole
   walking_done h = searching_done w.rest (omega (arith, w.place))
 
 pub skipped_onward : {records : List ℕ} {one other from at : ℕ} → Skipped records one other from at → from ≤ at
@@ -132,7 +132,7 @@ skipped_onward (Skipped.past s h a b) = omega (arith, skipped_onward s)
 
 -- records whose first number says that they do not pass are skipped
 pub record Passing (passes : ℕ → Bool) (first count : ℕ) (records : List ℕ) (one other : ℕ) : Type 0 where
-  pub inside : (at : ℕ) → at + NUMBER_SIZE ≤ length records → at < first + RECORD_SIZE * count
+  pub inside : (at : ℕ) → at + NUMBER_SIZE ≤ length records → at < first + TRIPLE_SIZE * count
   pub unlike : (at : ℕ) → at + NUMBER_SIZE ≤ length records → (word records at ≡ one → ⊥) → (word records at ≡ other → ⊥) → passes at ≡ false
 
 pub walking_over : {passes : ℕ → Bool} {first count from : ℕ} {records : List ℕ} {one other : ℕ} {at : ℕ} {whole : Bool} → Passing passes first count records one other
@@ -145,9 +145,9 @@ front_inside : (image : List ℕ) (end at : ℕ) → at + NUMBER_SIZE ≤ length
 front_inside image end at h = omega (arith, length-take end image)
 
 pub owned_passing : {p : ℕ → Bool} (image : List ℕ) {records : List ℕ} {one other first count : ℕ} → IsOwned p image one other
-    → records ≡ take (first + RECORD_SIZE * count) image → Passing p first count records one other
+    → records ≡ take (first + TRIPLE_SIZE * count) image → Passing p first count records one other
 owned_passing {p} image {records} {one} {other} {first} {count} o e =
-    let end : ℕ = first + RECORD_SIZE * count in
+    let end : ℕ = first + TRIPLE_SIZE * count in
     rw e (record {
       inside = front_inside image end;
       unlike = λ at h a b. o at (omega (arith, length-take end image)) (λ d. a (word_front image end at h ∙ d)) (λ d. b (word_front image end at h ∙ d));

@@ -1,7 +1,7 @@
 -- What eval.rs asks of a `SystemInstance`, of a board image. Assumes nothing: these are definitions.
 use Rattle.std.specs.Prelude.{ℕ, zero, suc, ◌+◌, ◌-◌, min, Bool, false, not, ◌&&◌, ◌||◌, List, eqb}
 use Rattle.syntax.specs.Text.{same}
-use Rattle.board.specs.Image.{text, parent, first_feature, features_of, wired, feature_count, feature_name, connection_count, owner, source, target, property_count, property_component, property_set, property_name}
+use Rattle.board.specs.Image.{text, parent, first_feature, owned_features, wired, feature_count, feature_name, connection_count, owner, source, target, property_count, property_component, property_set, property_name}
 
 -- whether some of m records from record n on passes a test
 unfoldable pub some : (ℕ → Bool) → ℕ → ℕ → Bool
@@ -57,7 +57,7 @@ has_property image component set name = some (is_property image component set na
 
 -- past the last feature of a component, as far as the features go
 unfoldable pub features_end : List ℕ → ℕ → ℕ
-features_end image component = min (first_feature image component + features_of image component) (feature_count image)
+features_end image component = min (first_feature image component + owned_features image component) (feature_count image)
 
 -- whether a component has a feature of this name
 unfoldable pub feature_is : List ℕ → List ℕ → ℕ → Bool

@@ -3,25 +3,18 @@
 use Rattle.std.specs.Prelude.{◌≡◌, ℕ, ◌+◌, ◌*◌, ◌-◌, ◌≤◌, ◌<◌, Bool, false, cond, ◌&&◌, ◌||◌, List, eqb, length}
 use Rattle.syntax.specs.Text.{same}
 use Rattle.board.specs.declared.image.Section.{Section}
-use Rattle.board.specs.Image.{NUMBER_SIZE, word, text, parent, section_offset}
+use Rattle.board.specs.Image.{NUMBER_SIZE, TRIPLE_SIZE, word, text, parent, section_offset}
 use Rattle.instance.specs.Instance.{end_is}
 
--- the bytes of a connection, a feature or a property, which have three numbers each, and where the second and the third of these are
-abbrev pub RECORD_SIZE : ℕ
-RECORD_SIZE = 12
-
+-- where the second and the third number of a record are, and where the fifth is
 abbrev pub SECOND : ℕ
-SECOND = 4
+SECOND = NUMBER_SIZE
 
 abbrev pub THIRD : ℕ
-THIRD = 8
-
--- the bytes of a component, which has five numbers, and where the fifth of these is
-abbrev pub COMPONENT_SIZE : ℕ
-COMPONENT_SIZE = 20
+THIRD = 2 * NUMBER_SIZE
 
 abbrev pub FIFTH : ℕ
-FIFTH = 16
+FIFTH = 4 * NUMBER_SIZE
 
 -- more than any place of a record: an offset and a number of records are below 2 ^ 32 each
 abbrev pub PLACES : ℕ
@@ -58,10 +51,10 @@ IsOwned p image one other =
 
 -- whether p is true of the place of a section's record of three numbers
 abbrev pub record_passes : (ℕ → Bool) → List ℕ → Section → ℕ → Bool
-record_passes p image section n = p (section_offset image section + RECORD_SIZE * n)
+record_passes p image section n = p (section_offset image section + TRIPLE_SIZE * n)
 
 -- records passed over from a place on, the first number of each there and neither of two
 pub data Skipped (records : List ℕ) (one other from : ℕ) : ℕ → Type 0 where
   none : Skipped records one other from from
   past : {at : ℕ} → Skipped records one other from at → at + NUMBER_SIZE ≤ length records → (word records at ≡ one → ⊥)
-      → (word records at ≡ other → ⊥) → Skipped records one other from (at + RECORD_SIZE)
+      → (word records at ≡ other → ⊥) → Skipped records one other from (at + TRIPLE_SIZE)

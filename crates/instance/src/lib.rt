@@ -8,22 +8,17 @@ ghost use Rattle.instance.specs.Places.{PLACES, other_owner, joins_at, is_proper
 ghost use Rattle.board.specs.Image.{first_feature, record_count};
 
 use board::image;
-use board::image::Section;
+use board::image::{COMPONENT_SIZE, NUMBER_SIZE, Section, TRIPLE_SIZE};
 
 // The mark of a component that is wired, a number of the image.
 const WIRED: u32 = 1;
 
-// The bytes of a connection, a feature or a property, which have three numbers each, and where the second and the third of these are.
-const RECORD_SIZE: usize = 12;
+// Where the second and the third number of a record are, and where the fifth is.
+const SECOND: usize = NUMBER_SIZE;
 
-const SECOND: usize = 4;
+const THIRD: usize = 2 * NUMBER_SIZE;
 
-const THIRD: usize = 8;
-
-// The bytes of a component, which has five numbers, and where the fifth of these is.
-const COMPONENT_SIZE: usize = 20;
-
-const FIFTH: usize = 16;
+const FIFTH: usize = 4 * NUMBER_SIZE;
 
 // Whether a component or its parent is wired.
 #[tactic(auto, unfolding(crate::specs::Instance::component_connected))]
@@ -51,8 +46,7 @@ pub fn feature_connected(image: &[u8], component: u32, feature: u32) -> bool
     })
 }
 
-// Whether the owner of every connection is wired: then a feature is connected where its component is, and nowhere else. By `all` over the
-// numbers it takes 1.7 times as long.
+// Whether the owner of every connection is wired: then a feature is connected where its component is, and nowhere else.
 pub fn owners_wired(image: &[u8]) -> bool
     ensures { result ≡ owners_wired image.now }
 {
@@ -60,7 +54,7 @@ pub fn owners_wired(image: &[u8]) -> bool
     let components = image::section_offset(image, Section::Components) as usize;
     let count = image::record_count(image, Section::Connections) as usize;
     for n in 0..count {
-        let owner = image::word(image, connections + RECORD_SIZE * n) as usize;
+        let owner = image::word(image, connections + TRIPLE_SIZE * n) as usize;
         if image::word(image, components + COMPONENT_SIZE * owner + FIFTH) != WIRED {
             return false;
         }
@@ -92,7 +86,7 @@ fn any_owned<F: Fn(usize) -> bool>(
 {
     let first = image::section_offset(image, section) as usize;
     let count = image::record_count(image, section) as usize;
-    let end = first + RECORD_SIZE * count;
+    let end = first + TRIPLE_SIZE * count;
     let records = front(image, end);
     let mut at = first;
     while at < end {
@@ -103,7 +97,7 @@ fn any_owned<F: Fn(usize) -> bool>(
         if test(here) {
             return true;
         }
-        at = here + RECORD_SIZE;
+        at = here + TRIPLE_SIZE;
     }
     false
 }
@@ -117,14 +111,14 @@ fn front(image: &[u8], end: usize) -> &[u8]
 
 // The place of the next record whose first number is one of two, from a record's place on; where there is none, the first place whose
 // number is not there, and no `None`: the record there is asked too, since an image that ends before its records is read as 0. The loop's
-// test is that of `image::word`, which so costs nothing: `any` over the numbers of the records takes 1.6 times as long.
+// test is that of `image::word`, which so costs nothing.
 fn next_owned(records: &[u8], from: usize, one: u32, other: u32) -> usize
     ensures { Skipped records.now one other from result }
 {
-    if records.len() < image::NUMBER_SIZE {
+    if records.len() < NUMBER_SIZE {
         return from;
     }
-    let last = records.len() - image::NUMBER_SIZE;
+    let last = records.len() - NUMBER_SIZE;
     let mut at = from;
     while at <= last {
         let owner = image::word(records, at);
@@ -134,13 +128,12 @@ fn next_owned(records: &[u8], from: usize, one: u32, other: u32) -> usize
         if owner == other {
             return at;
         }
-        at += RECORD_SIZE;
+        at += TRIPLE_SIZE;
     }
     at
 }
 
-// Whether the connection at a place is owned by one of two components and has a feature of this name at an end. The owner is tested by an
-// `if` of its own: in one expression with the ends, `feature_connected` takes 1.7 times as long.
+// Whether the connection at a place is owned by one of two components and has a feature of this name at an end.
 #[tactic(auto, unfolding(crate::specs::Places::joins_at))]
 fn joins(image: &[u8], component: u32, other: u32, name: &[u8], at: usize) -> bool
     requires { at < PLACES }
@@ -154,7 +147,7 @@ fn joins(image: &[u8], component: u32, other: u32, name: &[u8], at: usize) -> bo
         || end_is(image, image::word(image, at + THIRD), name)
 }
 
-// Whether there is such an end, and a feature of this name is at it.
+// Whether a connection has an end, by its number, and a feature of this name is at it.
 #[tactic(auto, unfolding(crate::specs::Instance::end_is))]
 fn end_is(image: &[u8], end: u32, name: &[u8]) -> bool
     ensures { result ≡ end_is image.now end name.now }
@@ -182,14 +175,14 @@ fn is_property(image: &[u8], component: u32, set: &[u8], name: &[u8], at: usize)
         && image::string_is(image, image::word(image, at + THIRD), name)
 }
 
-// Whether a component has a feature of this name. By `any` over the numbers it takes 1.7 times as long.
+// Whether a component has a feature of this name.
 pub fn has_feature(image: &[u8], component: u32, name: &[u8]) -> bool
     ensures { result ≡ has_feature image.now component name.now }
 {
     let first = image::section_offset(image, Section::Features) as usize;
     let (start, end) = features(image, component);
     for n in start..end {
-        if feature_is(image, name, first + RECORD_SIZE * (n as usize)) {
+        if feature_is(image, name, first + TRIPLE_SIZE * (n as usize)) {
             return true;
         }
     }
@@ -212,7 +205,7 @@ pub fn features(image: &[u8], component: u32) -> (u32, u32)
     ensures end { result.1 ≡ features_end image.now component }
 {
     let first = image::first_feature(image, component);
-    let features = image::features_of(image, component) as usize;
+    let features = image::owned_features(image, component) as usize;
     let count = image::record_count(image, Section::Features) as usize;
     (first, (first as usize + features).min(count) as u32)
 }

@@ -1,11 +1,12 @@
 -- Laws of the lexer's definitions: token by token, tiling, joints. Assumes nothing.
 use mathlib.Core.Path.{◌≡◌, refl, sym, ap, ◌∙◌}
-use mathlib.Core.Bool.{Bool, true, false, ◌&&◌, and_assoc}
+use mathlib.Core.Bool.{Bool, true, false, ◌&&◌, ◌||◌, and_assoc}
 use mir.Val.{bool_byte}
 use mathlib.Core.List.{List, [], ◌∷◌, ◌++◌, append_assoc}
 use Prim.Native.Nat.{ℕ, zero, suc, ◌+◌, ◌-◌, ◌≤◌, ◌<◌, zero-le, suc-le-suc}
 use native.Mathlib.Nat.{le_of_suc-le-suc, not-suc-le-zero}
 use native.Mathlib.Omega.{arith}
+use Rattle.std.proofs.Common.{rules}
 use lib.Dec.{T}
 use lib.ListN.{drop, get_or, length, length-take, take, take-append-drop}
 use lib.Seq.{take-append-le, take_all}
@@ -14,7 +15,9 @@ use Rattle.syntax.specs.Text.{is}
 use Rattle.syntax.proofs.BoolLaws.{whether, and_left, and_right}
 use Rattle.lexer.specs.declared.Shape.{Shape}
 use Rattle.lexer.specs.declared.Shape.TheVariants.{Blanks, Quoted, Symbol, Operator, Digits, Word, Character}
-use Rattle.lexer.specs.Bytes.{shape_of, goes_on, is_ascii_whitespace, is_ascii_digit, is_ident_continue, is_trailing}
+use Rattle.std.specs.Char as of_char
+use Rattle.syntax.proofs.EveryByte.{agree}
+use Rattle.lexer.specs.Bytes.{shape_of, goes_on, is_blank, is_ident_start, is_ascii_whitespace, is_ascii_digit, is_ident_continue, is_trailing}
 use Rattle.std.specs.Prelude.{position, ◌==◌, Option, Some, None, cond, min, eqb, ltb}
 use borrow.Author.Tests.{ltb-true, ltb-false, eqb-true, eqb-false, eq-eqb, ne_eqb}
 use Rattle.std.specs.List.{take_while, prefix_len, position_or_len, starts_with}
@@ -167,12 +170,7 @@ module _ (c : ℕ) (b : List ℕ) where
 -- what a token of this shape must have behind it: a string literal its quote
 Ends : Shape → List ℕ → Type 0
 Ends Quoted a = T (has_quote a)
-Ends Blanks a = Unit {0}
-Ends (Symbol k) a = Unit {0}
-Ends (Operator k m) a = Unit {0}
-Ends Digits a = Unit {0}
-Ends Word a = Unit {0}
-Ends Character a = Unit {0}
+Ends k a = Unit {0}
 
 more_joint : {c : ℕ} → Stops c → (b : List ℕ) (k : Shape) (a : List ℕ) → Ends k a → more k (a ++ c ∷ b) ≡ more k a
 unfolding Ends
@@ -237,9 +235,9 @@ joint_kind closing = R_PAREN
 
 joint_stops : {c : ℕ} → Joint c → Stops c
 unfolding is_ascii_whitespace is_ascii_digit is_ident_continue is_trailing
-joint_stops dot = record { blank = refl; digit = refl; word = refl; trailing = refl; equal = refl }
-joint_stops opening = record { blank = refl; digit = refl; word = refl; trailing = refl; equal = refl }
-joint_stops closing = record { blank = refl; digit = refl; word = refl; trailing = refl; equal = refl }
+joint_stops dot = search rules
+joint_stops opening = search rules
+joint_stops closing = search rules
 
 -- such a byte parts a text in which no quote before it is unclosed
 pub lex_joint : {c : ℕ} → Joint c → (a b : List ℕ) → T (closed (lex a)) → lex (a ++ c ∷ b) ≡ lex a ++ lex (c ∷ b)
@@ -305,3 +303,17 @@ equals_front (b ∷ s) =
 pub byte_is : (t : Bool) → bool_byte t ≡ cond t 1 0
 byte_is true = refl
 byte_is false = refl
+
+-- the library's tests of a byte are those of the definitions, compared at each byte
+module _ (b : ℕ) (h : b < 256) where
+  pub blank_is : of_char.is_ascii_whitespace b ≡ is_ascii_whitespace b
+  unfolding is_ascii_whitespace is_blank
+  blank_is = agree of_char.is_ascii_whitespace is_ascii_whitespace tt b h
+
+  pub digit_is : of_char.is_ascii_digit b ≡ is_ascii_digit b
+  unfolding is_ascii_digit
+  digit_is = agree of_char.is_ascii_digit is_ascii_digit tt b h
+
+  pub ident_start_is : is_ident_start b ≡ (of_char.is_ascii_alphabetic b || eqb b 95)
+  unfolding is_ident_start
+  ident_start_is = agree is_ident_start (λ b. of_char.is_ascii_alphabetic b || eqb b 95) tt b h

@@ -76,9 +76,6 @@ module _ {all left rest : List Token} {tok : Token} {t₀ t : List ℕ} {at n : 
   unfolding joined
   next_bytes = rw e (length-append tok.text (joined rest))
 
-  pub written_within : (rule : List ℕ) → all ≡ lex rule → at + length tok.text ≤ length rule
-  written_within rule a = omega (arith, w.bytes, next_bytes, ap length (lex_joined rule), ap (λ (ts : List Token). length (joined ts)) a)
-
   next_rows : token_rows at left ≡ tok.kind ∷ at ∷ (at + length tok.text) ∷ token_rows (at + length tok.text) rest
   unfolding token_rows
   next_rows = rw e
@@ -96,18 +93,22 @@ module _ {all left rest : List Token} {tok : Token} {t₀ t : List ℕ} {at n : 
         rows = rw (three, p, here) (sym (sets_append row (token_rows end rest) t (n * TOKEN_ROW))) ∙ ap (sets t (n * TOKEN_ROW)) others ∙ w.rows;
       }
 
+pub written_within : (rule : List ℕ) {left rest : List Token} {tok : Token} {t₀ t : List ℕ} {at n : ℕ} → Written (lex rule) left t₀ t at n → left ≡ tok ∷ rest
+    → at + length tok.text ≤ length rule
+written_within rule w e = omega (arith, w.bytes, next_bytes w e, ap length (lex_joined rule))
+
 pub token_rows_length : (at : ℕ) (ts : List Token) → length (token_rows at ts) ≡ length ts * TOKEN_ROW
 unfolding token_rows
 token_rows_length at [] = refl
 token_rows_length at (t ∷ ts) = omega (arith, token_rows_length (at + length t.text) ts)
 
-pub written_end : (rule : List ℕ) {all left : List Token} {t₀ t : List ℕ} {at n : ℕ} → all ≡ lex rule → Written all left t₀ t at n → left ≡ [] → length rule * TOKEN_ROW ≤ length t₀
+pub written_end : (rule : List ℕ) {left : List Token} {t₀ t : List ℕ} {at n : ℕ} → Written (lex rule) left t₀ t at n → left ≡ [] → length rule * TOKEN_ROW ≤ length t₀
     → (n ≡ length (lex rule)) × (t ≡ with_rows (token_rows 0 (lex rule)) t₀)
 unfolding token_rows
-written_end rule {all} {left} {t₀} {t} {at} {n} a w z room =
-    let few : length (token_rows 0 all) ≤ length t₀ = omega (arith, token_rows_length 0 all, ap length a, lex_length rule) in
-    let r : t ≡ sets t₀ 0 (token_rows 0 all) = rw z at w.rows in
-    rw (← a) (omega (arith, w.count, ap length z), r ∙ sets_front (token_rows 0 all) t₀ few)
+written_end rule {t₀ = t₀} {t = t} w z room =
+    let rows = token_rows 0 (lex rule) in
+    let r : t ≡ sets t₀ 0 rows = rw z at w.rows in
+    (omega (arith, w.count, ap length z), r ∙ sets_front rows t₀ (omega (arith, token_rows_length 0 (lex rule), lex_length rule)))
 
 never : {r : Refusal} → ◌≡◌ {A = Check} (Err r) (Ok tt) → ⊥
 never e = let z : ◌≡◌ {A = ℕ} 0 1 = cc in omega arith
@@ -133,13 +134,10 @@ passed_has_room rule tokens tree errors e =
     let l = passed_lengths rule tokens tree errors e in
     rw (l.0, (neither (tokens_short (length rule) tokens) _ l.1).0)
 
--- a check that passed reads as another that passed does, and one that refused gives its refusal and leaves the table
+-- a check that passed reads as another that passed does
 pub passed_reads : {k m : Check} {rule before after : List ℕ} {r : Lexed} → k ≡ Ok tt → m ≡ Ok tt
     → Reads m rule before after r → Reads k rule before after r
 passed_reads p q h = rw p (rw q at h)
-
-pub refused_reads : {k : Check} {rule before : List ℕ} {r : Refusal} → k ≡ Err r → Reads k rule before before (Err r)
-refused_reads e = rw e record { answer = refl; table = refl }
 
 -- a number of tokens that was given is at most the most bytes of a rule
 pub tokens_few : (rule : List ℕ) (tokens tree errors n : ℕ) → Ok n ≡ tokens_read (check_rule rule tokens tree errors) rule → n ≤ MAX_RULE

@@ -3,7 +3,7 @@
 
 pub mod limits;
 
-ghost use Rattle.std.specs.Prelude.{◌≡◌, cond, ◌&&◌, eqb, leb, ltb, [], ◌∷◌, ◌+◌, ◌*◌, ◌≤◌, ◌<◌, length, drop, position, ◌==◌};
+ghost use Rattle.std.specs.Prelude.{◌≡◌, ltb, ◌+◌, ◌*◌, ◌≤◌, ◌<◌, length, position, ◌==◌};
 ghost use Rattle.std.specs.List.{take_while};
 ghost use Rattle.std.proofs.lemmas.List.Edits.{sets};
 ghost use Rattle.syntax.specs.Table.{with_rows};
@@ -21,6 +21,7 @@ use syntax::refusal::Refusal;
 use syntax::{text, utf8};
 
 // Refusals 1 to 4, in their order, of a rule and the lengths of the three tables that it is to be read into.
+#[tactic(auto, unfolding(crate::specs::Read::check_rule))]
 pub fn check_rule(rule: &[u8], tokens: usize, tree: usize, errors: usize) -> Result<(), Refusal>
     ensures { result ≡ check_rule rule.now tokens tree errors }
 {
@@ -54,6 +55,7 @@ pub fn read_tokens(
 
 // Reads the tokens of any bytes into the token table, a row for each, and gives their number. It refuses only what it has no room for, and
 // then leaves the table as it is.
+#[tactic(auto, unfolding(crate::specs::Read::check_room))]
 pub fn lex(rule: &[u8], tokens: &mut [u32]) -> Result<usize, Refusal>
     ensures { Reads (check_room rule.now (length tokens.old)) rule.now tokens.old tokens.new result }
 {
@@ -75,6 +77,7 @@ pub fn tables_short(n: usize, tokens: usize, tree: usize, errors: usize) -> bool
 }
 
 // Whether more tokens are `(` or `not` than a rule may have. The tokens are read for it only where the bytes leave it open.
+#[tactic(auto, using(crate::proofs::OpenerLaws::openers_length, crate::proofs::OpenerLaws::few_openers))]
 fn too_many_openers(rule: &[u8]) -> bool
     requires { length rule.now ≤ meant.MAX_RULE }
     ensures { result ≡ ltb meant.MAX_OPENERS (openers_in (lex rule.now)) }
@@ -98,6 +101,7 @@ fn openers_bound(rule: &[u8]) -> u16
 }
 
 // 1 where a token `(` or `not` may begin with a byte that has this byte behind it, else 0.
+#[tactic(auto, using(crate::proofs::LexLaws::byte_is), unfolding(crate::specs::LexScan::openers_at))]
 fn openers_at(b: u8, next: u8) -> u16
     ensures { result ≡ openers_at b next }
 {
@@ -105,6 +109,7 @@ fn openers_at(b: u8, next: u8) -> u16
 }
 
 // How many tokens are `(` or `not`.
+#[tactic(auto, using(crate::proofs::ReadLaws::lex_length))]
 fn count_openers(rule: &[u8]) -> usize
     ensures { result ≡ openers_in (lex rule.now) }
 {
@@ -124,6 +129,7 @@ fn is_opener(kind: Kind) -> bool
 }
 
 // Writes a row for each token, and gives their number.
+#[tactic(auto, using(crate::proofs::ReadLaws::lex_length))]
 fn write_tokens(rule: &[u8], tokens: &mut [u32]) -> usize
     requires { (length rule.now ≤ meant.MAX_RULE) × (length rule.now * meant.TOKEN_ROW ≤ length tokens.old) }
     ensures { (result ≡ length (lex rule.now)) × (tokens.new ≡ with_rows (token_rows 0 (lex rule.now)) tokens.old) }
@@ -143,12 +149,13 @@ fn write_tokens(rule: &[u8], tokens: &mut [u32]) -> usize
     written
 }
 
-// Writes a row of three numbers from `at` on. It is private, as it asks for room; a public one would have to say what it does without.
-fn put_row(table: &mut [u32], at: usize, row: [u32; 3])
-    requires { at + 3 ≤ length table.old }
+// Writes a row of the token table from `at` on.
+#[tactic(auto, using(crate::proofs::ReadLaws::put_is))]
+fn put_row(table: &mut [u32], at: usize, row: [u32; TOKEN_ROW])
+    requires { at + meant.TOKEN_ROW ≤ length table.old }
     ensures { table.new ≡ sets table.old at row }
 {
-    table[at..at + 3].copy_from_slice(&row);
+    table[at..at + TOKEN_ROW].copy_from_slice(&row);
 }
 
 // A token: its kind, and its bytes, a part of the rule.
@@ -191,6 +198,7 @@ struct First {
     len: usize,
 }
 
+#[tactic(auto, using(crate::proofs::LexLaws::first_within, crate::proofs::LexLaws::first_tokens))]
 fn first_token(text: &[u8]) -> First
     requires { 0 < length text.now }
     ensures { IsFirst text.now result }
@@ -214,6 +222,7 @@ enum Shape {
 }
 
 // The arms of lexer.rs' `match bytes[pos]`, in their order.
+#[tactic(auto, unfolding(crate::specs::Bytes::shape_of))]
 fn shape_of(b: u8) -> Shape
     ensures { result ≡ shape_of b }
 {
@@ -244,6 +253,7 @@ fn shape_of(b: u8) -> Shape
 
 // How many bytes a token of this shape has past its first one; `rest` is what stands after that one. Each run has its own arm, so that the
 // shape is asked once.
+#[tactic(auto, using(crate::proofs::LexLaws::run_length))]
 fn more(rest: &[u8], shape: Shape) -> usize
     ensures { result ≡ more shape rest.now }
 {
@@ -266,6 +276,7 @@ fn run(rest: &[u8], shape: Shape) -> usize
 }
 
 // How many bytes a string literal has past its opening quote: up to the next quote and with it, or all.
+#[tactic(auto, using(crate::proofs::LexLaws::quoted_some, crate::proofs::LexLaws::quoted_none))]
 fn quoted(rest: &[u8]) -> usize
     ensures { result ≡ quoted rest.now }
 {
@@ -319,6 +330,7 @@ fn kind_of(word: &[u8], shape: Shape) -> Kind
 }
 
 // A keyword's kind, or IDENT.
+#[tactic(auto, unfolding(crate::specs::Lex::word_kind))]
 fn word_kind(word: &[u8]) -> Kind
     ensures { number result ≡ word_kind word.now }
 {
@@ -343,18 +355,21 @@ fn is_blank(b: u8) -> bool
 }
 
 // Whether a byte goes on a blank run: a form feed does, though it begins none.
+#[tactic(auto, using(crate::proofs::LexLaws::blank_is))]
 fn is_ascii_whitespace(b: u8) -> bool
     ensures { result ≡ is_ascii_whitespace b }
 {
     b.is_ascii_whitespace()
 }
 
+#[tactic(auto, using(crate::proofs::LexLaws::digit_is))]
 fn is_ascii_digit(b: u8) -> bool
     ensures { result ≡ is_ascii_digit b }
 {
     b.is_ascii_digit()
 }
 
+#[tactic(auto, using(crate::proofs::LexLaws::ident_start_is))]
 fn is_ident_start(b: u8) -> bool
     ensures { result ≡ is_ident_start b }
 {

@@ -1,2 +1,2 @@
 pub mod MarkLaws
-pub mod KnownLaws
+pub mod NameLaws

@@ -15,7 +15,7 @@ use Rattle.syntax.proofs.BoolLaws.{whether}
 use Rattle.board.specs.Image.{component_count, property_count, property_component}
 use Rattle.matching.specs.Search.{property_set_of, property_name_of}
 use Rattle.instance.specs.Instance.{some, is_property, has_property, has_feature}
-use Rattle.marks.specs.Marks.{mark_of, is_named, property_marks, marked, marks_of, feature_mark, feature_marks, featured, mark_by}
+use Rattle.marks.specs.Marks.{OF_PROPERTY, OF_FEATURE, mark_of, is_named, property_marks, marked, marks_of, feature_mark, feature_marks, featured, mark_by}
 
 -- ---- what stands at a place
 
@@ -46,7 +46,7 @@ marks_at image value n c h =
 pub record Marking (image set name : List ℕ) (size count n : ℕ) (marks : List ℕ) : Type 0 where
   pub long : length marks ≡ size
   pub so : (c : ℕ) → c < length marks
-      → cond (some (is_property image c set name) n (count - n)) 1 (get_or marks c 0) ≡ mark_of (has_property image c set name)
+      → cond (some (is_property image c set name) n (count - n)) OF_PROPERTY (get_or marks c 0) ≡ mark_of (has_property image c set name)
 
 -- a mark that two properties may set
 either : (a b : Bool) (x : ℕ) → cond (a || b) 1 x ≡ cond b 1 (cond a 1 x)
@@ -70,11 +70,11 @@ mark_length v false marks place = refl
 module _ (image set_name name : List ℕ) (property : ℕ) (marks : List ℕ) where
   pub marked_length : length (marked image set_name name property marks) ≡ length marks
   unfolding marked
-  marked_length = mark_length 1 (is_named image set_name name property) marks (property_component image property)
+  marked_length = mark_length OF_PROPERTY (is_named image set_name name property) marks (property_component image property)
 
-  marked_at : (c : ℕ) → c < length marks → get_or (marked image set_name name property marks) c 0 ≡ cond (is_property image c set_name name property) 1 (get_or marks c 0)
+  marked_at : (c : ℕ) → c < length marks → get_or (marked image set_name name property marks) c 0 ≡ cond (is_property image c set_name name property) OF_PROPERTY (get_or marks c 0)
   unfolding marked is_named is_property
-  marked_at c h = mark_at 1 (is_named image set_name name property) marks (property_component image property) c h
+  marked_at c h = mark_at OF_PROPERTY (is_named image set_name name property) marks (property_component image property) c h
 
 pub marking_start : (image set name : List ℕ) (k : ℕ) {count : ℕ} {marks : List ℕ} → marks ≡ replicate k 0 → count ≡ property_count image
     → Marking image set name (length marks) count 0 marks
@@ -88,7 +88,7 @@ marking_start image set name k {count} {marks} e f =
     clear : (c : ℕ) → c < length marks → get_or (replicate k 0) c 0 ≡ zero
     clear c h = get_or-replicate k c 0 0 (omega (arith, ap length e ∙ length-replicate k 0))
 
-    as_mark : (t : Bool) → cond t 1 0 ≡ mark_of t
+    as_mark : (t : Bool) → cond t OF_PROPERTY 0 ≡ mark_of t
     as_mark true = refl
     as_mark false = refl
 
@@ -102,7 +102,7 @@ module _ {image set name : List ℕ} {size count n : ℕ} {marks : List ℕ} (p 
       }
     where
       step : (c : ℕ) → c < length marks
-          → cond (some (is_property image c set name) n (count - n)) 1 (get_or marks c 0) ≡ cond (some (is_property image c set name) (n + 1) (count - (n + 1))) 1 (get_or after c 0)
+          → cond (some (is_property image c set name) n (count - n)) OF_PROPERTY (get_or marks c 0) ≡ cond (some (is_property image c set name) (n + 1) (count - (n + 1))) OF_PROPERTY (get_or after c 0)
       step c l = rw (one_more, e, marked_at image set name n marks c l, add-one n) (either (is_property image c set name n) (some (is_property image c set name) (suc n) (count - suc n)) (get_or marks c 0))
         where
           one_more : count - n ≡ suc (count - (n + 1))
@@ -114,22 +114,22 @@ module _ {image set name : List ℕ} {size count n : ℕ} {marks : List ℕ} (p 
       ext_get_or 0 marks (property_marks image set name 0 size) (p.long ∙ sym (marks_length image set name 0 size))
       (λ c l. none c ∙ p.so c l ∙ sym (marks_from image set name 0 size c (omega (arith, p.long)) ∙ ap (λ (c : ℕ). mark_of (has_property image c set name)) (omega arith)))
     where
-      none : (c : ℕ) → get_or marks c 0 ≡ cond (some (is_property image c set name) n (count - n)) 1 (get_or marks c 0)
+      none : (c : ℕ) → get_or marks c 0 ≡ cond (some (is_property image c set name) n (count - n)) OF_PROPERTY (get_or marks c 0)
       none c = let over : count - n ≡ 0 = omega arith in rw over
 
 -- the owner of a property is marked where there is a mark
-pub owner_outside : (image marks : List ℕ) (property : ℕ) {owner : ℕ} → owner ≡ property_component image property → length marks ≤ owner → marks ≡ set marks (property_component image property) 1
-owner_outside image marks property {owner} f l = rw (← f) (sym (set_out marks owner 1 l))
+pub owner_outside : (image marks : List ℕ) (property : ℕ) {owner : ℕ} → owner ≡ property_component image property → length marks ≤ owner → marks ≡ set marks (property_component image property) OF_PROPERTY
+owner_outside image marks property {owner} f l = rw (← f) (sym (set_out marks owner OF_PROPERTY l))
 
 -- a property that was looked at
-module _ (image set_name name : List ℕ) (property : ℕ) (marks : List ℕ) {r : Bool} (e : r ≡ is_named image set_name name property) where
-  pub marked_named : r ≡ true → set marks (property_component image property) 1 ≡ marked image set_name name property marks
+module _ (image set_name name : List ℕ) (property : ℕ) (marks : List ℕ) where
+  pub marked_named : is_named image set_name name property ≡ true → set marks (property_component image property) OF_PROPERTY ≡ marked image set_name name property marks
   unfolding marked
-  marked_named t = rw (sym e ∙ t)
+  marked_named e = rw e
 
-  pub marked_other : r ≡ false → marks ≡ marked image set_name name property marks
+  pub marked_other : is_named image set_name name property ≡ false → marks ≡ marked image set_name name property marks
   unfolding marked
-  marked_other t = rw (sym e ∙ t)
+  marked_other e = rw e
 
 -- ---- components looked at for a feature
 
@@ -154,7 +154,7 @@ module _ (image name : List ℕ) where
   unfolding feature_mark
   mark_past n c mark h = rw (le-ltb c n h)
 
-  mark_in_lem : (n c mark : ℕ) → c < n → feature_mark image name n c mark ≡ cond (eqb mark 0 && has_feature image c name) 2 mark
+  mark_in_lem : (n c mark : ℕ) → c < n → feature_mark image name n c mark ≡ cond (eqb mark 0 && has_feature image c name) OF_FEATURE mark
   unfolding feature_mark
   mark_in_lem n c mark h = rw (lt-ltb c n h)
 
@@ -176,24 +176,24 @@ module _ (image name : List ℕ) where
   features_on n before {marks} {after} e f =
       ext_get_or 0 after (feature_marks image name (n + 1) 0 before) (long ∙ sym (features_length (n + 1) 0 before))
       (λ c h. ap (λ (m : List ℕ). get_or m c 0) f
-      ∙ mark_at 2 (eqb (get_or marks n 0) 0 && has_feature image n name) marks n c (omega (arith, h, long, ap length e, features_length n 0 before))
+      ∙ mark_at OF_FEATURE (eqb (get_or marks n 0) 0 && has_feature image n name) marks n c (omega (arith, h, long, ap length e, features_length n 0 before))
       ∙ step c (omega (arith, h, long)))
     where
       long : length after ≡ length before
-      long = ap length f ∙ mark_length 2 (eqb (get_or marks n 0) 0 && has_feature image n name) marks n ∙ ap length e ∙ features_length n 0 before
+      long = ap length f ∙ mark_length OF_FEATURE (eqb (get_or marks n 0) 0 && has_feature image n name) marks n ∙ ap length e ∙ features_length n 0 before
 
       was : (c : ℕ) → c < length before → get_or marks c 0 ≡ feature_mark image name n c (get_or before c 0)
       was c h = ap (λ (m : List ℕ). get_or m c 0) e ∙ features_at n before c h
 
-      here : n < length before → cond (eqb (get_or marks n 0) 0 && has_feature image n name) 2 (get_or marks n 0) ≡ get_or (feature_marks image name (n + 1) 0 before) n 0
+      here : n < length before → cond (eqb (get_or marks n 0) 0 && has_feature image n name) OF_FEATURE (get_or marks n 0) ≡ get_or (feature_marks image name (n + 1) 0 before) n 0
       here h =
-          ap (λ (mark : ℕ). cond (eqb mark 0 && has_feature image n name) 2 mark) (was n h ∙ mark_past n n (get_or before n 0) (omega arith))
+          ap (λ (mark : ℕ). cond (eqb mark 0 && has_feature image n name) OF_FEATURE mark) (was n h ∙ mark_past n n (get_or before n 0) (omega arith))
           ∙ sym (features_at (n + 1) before n h ∙ mark_in_lem (n + 1) n (get_or before n 0) (omega arith))
 
-      step : (c : ℕ) → c < length before → cond (eqb n c && (eqb (get_or marks n 0) 0 && has_feature image n name)) 2 (get_or marks c 0) ≡ get_or (feature_marks image name (n + 1) 0 before) c 0
+      step : (c : ℕ) → c < length before → cond (eqb n c && (eqb (get_or marks n 0) 0 && has_feature image n name)) OF_FEATURE (get_or marks c 0) ≡ get_or (feature_marks image name (n + 1) 0 before) c 0
       step c h =
           whether (eqb n c)
-          (λ t. rw t (subst (λ (x : ℕ). cond (eqb (get_or marks n 0) 0 && has_feature image n name) 2 (get_or marks x 0) ≡ get_or (feature_marks image name (n + 1) 0 before) x 0) (eqb-true n c t) (here (omega (arith, eqb-true n c t)))))
+          (λ t. rw t (subst (λ (x : ℕ). cond (eqb (get_or marks n 0) 0 && has_feature image n name) OF_FEATURE (get_or marks x 0) ≡ get_or (feature_marks image name (n + 1) 0 before) x 0) (eqb-true n c t) (here (omega (arith, eqb-true n c t)))))
           (λ t. rw t (was c h ∙ mark_other n c (get_or before c 0) (eqb-false n c t) ∙ sym (features_at (n + 1) before c h)))
 
 -- where no component has a feature of the name, every mark stays
@@ -207,14 +207,14 @@ features_none image name none n marks =
 module _ (image name : List ℕ) (c : ℕ) (marks : List ℕ) where
   pub featured_outside : length marks ≤ c → marks ≡ featured image name c marks
   unfolding featured
-  featured_outside h = whether (eqb (get_or marks c 0) 0 && has_feature image c name) (λ e. rw e (sym (set_out marks c 2 h))) (λ e. rw e)
+  featured_outside h = whether (eqb (get_or marks c 0) 0 && has_feature image c name) (λ e. rw e (sym (set_out marks c OF_FEATURE h))) (λ e. rw e)
 
   pub featured_marked : (get_or marks c 0 ≡ 0 → ⊥) → marks ≡ featured image name c marks
   unfolding featured
   featured_marked h = rw (ne_eqb (get_or marks c 0) 0 h)
 
   module _ {r : Bool} (h : get_or marks c 0 ≡ 0) (e : r ≡ has_feature image c name) where
-    pub featured_set : r ≡ true → set marks c 2 ≡ featured image name c marks
+    pub featured_set : r ≡ true → set marks c OF_FEATURE ≡ featured image name c marks
     unfolding featured
     featured_set t = rw (eq-eqb (get_or marks c 0) 0 h, sym e ∙ t)
 
@@ -238,10 +238,10 @@ unfolding marks_of
 marks_both image value n c h l =
     features_at image value (component_count image) (marks_of image value n) c (omega (arith, h, marks_length image (property_set_of value) (property_name_of value) 0 n))
     ∙ mark_in_lem image value (component_count image) c (get_or (marks_of image value n) c 0) l
-    ∙ ap (λ (mark : ℕ). cond (eqb mark 0 && has_feature image c value) 2 mark) (marks_at image value n c h)
+    ∙ ap (λ (mark : ℕ). cond (eqb mark 0 && has_feature image c value) OF_FEATURE mark) (marks_at image value n c h)
     ∙ by (has_property image c (property_set_of value) (property_name_of value)) (has_feature image c value)
   where
-    by : (property feature : Bool) → cond (eqb (mark_of property) 0 && feature) 2 (mark_of property) ≡ mark_by property feature
+    by : (property feature : Bool) → cond (eqb (mark_of property) 0 && feature) OF_FEATURE (mark_of property) ≡ mark_by property feature
     by true feature = refl
     by false true = refl
     by false false = refl

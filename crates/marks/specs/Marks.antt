@@ -5,9 +5,16 @@ use Rattle.board.specs.Image.{text, property_component, property_set, property_n
 use Rattle.matching.specs.Search.{property_set_of, property_name_of}
 use Rattle.instance.specs.Instance.{has_property, has_feature}
 
--- the mark of what is true, and of what is not
+-- the mark of a component that has the property, and of one that has the feature alone
+abbrev pub OF_PROPERTY : ℕ
+OF_PROPERTY = 1
+
+abbrev pub OF_FEATURE : ℕ
+OF_FEATURE = 2
+
+-- the mark by whether a component has the property; 0 is no mark
 abbrev pub mark_of : Bool → ℕ
-mark_of true = 1
+mark_of true = OF_PROPERTY
 mark_of false = 0
 
 -- the marks of so many components from one on: whether each has a property of a set and a name
@@ -27,11 +34,11 @@ is_named image set name property = same (text image (property_set image property
 -- the marks once a property was looked at: its component is marked where it is of a set and a name
 unfoldable pub marked : List ℕ → List ℕ → List ℕ → ℕ → List ℕ → List ℕ
 unfolding is_named
-marked image set_name name property marks = cond (is_named image set_name name property) (set marks (property_component image property) 1) marks
+marked image set_name name property marks = cond (is_named image set_name name property) (set marks (property_component image property) OF_PROPERTY) marks
 
--- the mark of component c once n components were looked at for a feature of a name: 2 where it was 0 and c has one
+-- the mark of component c once n components were looked at for a feature of a name: that of a feature where it was 0 and c has one
 unfoldable pub feature_mark : List ℕ → List ℕ → ℕ → ℕ → ℕ → ℕ
-feature_mark image name n c mark = cond (ltb c n && (eqb mark 0 && has_feature image c name)) 2 mark
+feature_mark image name n c mark = cond (ltb c n && (eqb mark 0 && has_feature image c name)) OF_FEATURE mark
 
 -- the marks of the components from one on
 unfoldable pub feature_marks : List ℕ → List ℕ → ℕ → ℕ → List ℕ → List ℕ
@@ -41,8 +48,8 @@ feature_marks image name n c (mark ∷ marks) = feature_mark image name n c mark
 
 -- the marks once one component was looked at
 unfoldable pub featured : List ℕ → List ℕ → ℕ → List ℕ → List ℕ
-featured image name c marks = cond (eqb (get_or marks c 0) 0 && has_feature image c name) (set marks c 2) marks
+featured image name c marks = cond (eqb (get_or marks c 0) 0 && has_feature image c name) (set marks c OF_FEATURE) marks
 
 -- the mark of a component by whether it has the property that a text names, and a feature of which the text is the name
 abbrev pub mark_by : Bool → Bool → ℕ
-mark_by property feature = cond property 1 (cond feature 2 0)
+mark_by property feature = cond property OF_PROPERTY (cond feature OF_FEATURE 0)

@@ -125,22 +125,26 @@ pub found_within : (part text : List ℕ) {at : ℕ} → find part text ≡ Some
 unfolding find
 found_within part text {at} h = omega (arith, found_from part 0 text at h)
 
--- a property's set and name, by where `::` was found
-module _ (text : List ℕ) where
-  pub set_whole : find (ascii "::") text ≡ None → [] ≡ property_set_of text
+-- a property's set and name, by where `::` was found, and that it lies within the text
+module _ (text : List ℕ) {found : Option ℕ} (f : found ≡ find (ascii "::") text) where
+  pub set_whole : found ≡ None → [] ≡ property_set_of text
   unfolding property_set_of
-  set_whole e = sym (ap (λ (f : Option ℕ). set_before f text) e)
+  set_whole e = sym (ap (λ (r : Option ℕ). set_before r text) (sym f ∙ e))
 
-  pub name_whole : find (ascii "::") text ≡ None → text ≡ property_name_of text
+  pub name_whole : found ≡ None → text ≡ property_name_of text
   unfolding property_name_of
-  name_whole e = sym (ap (λ (f : Option ℕ). name_after f text) e)
+  name_whole e = sym (ap (λ (r : Option ℕ). name_after r text) (sym f ∙ e))
 
-  pub set_parted : {at : ℕ} → find (ascii "::") text ≡ Some at → take at text ≡ property_set_of text
-  unfolding property_set_of
-  set_parted e = sym (ap (λ (f : Option ℕ). set_before f text) e)
+  module _ {at : ℕ} (e : found ≡ Some at) where
+    pub colons_within : at + 2 ≤ length text
+    colons_within = found_within (ascii "::") text (sym f ∙ e)
 
-  pub name_parted : {at : ℕ} → find (ascii "::") text ≡ Some at → take (length text - (at + 2)) (drop (at + 2) text) ≡ property_name_of text
-  unfolding property_name_of
-  name_parted {at} e =
-      take_all (length text - (at + 2)) (drop (at + 2) text) (omega (arith, length-drop (at + 2) text))
-      ∙ sym (ap (λ (f : Option ℕ). name_after f text) e)
+    pub set_parted : take at text ≡ property_set_of text
+    unfolding property_set_of
+    set_parted = sym (ap (λ (r : Option ℕ). set_before r text) (sym f ∙ e))
+
+    pub name_parted : take (length text - (at + 2)) (drop (at + 2) text) ≡ property_name_of text
+    unfolding property_name_of
+    name_parted =
+        take_all (length text - (at + 2)) (drop (at + 2) text) (omega (arith, length-drop (at + 2) text))
+        ∙ sym (ap (λ (r : Option ℕ). name_after r text) (sym f ∙ e))

@@ -5,7 +5,6 @@ pub mod search;
 pub mod value;
 
 ghost use Rattle.std.specs.Prelude.{◌≡◌, [], ◌∷◌, get_or};
-ghost use Rattle.syntax.specs.Text.{same};
 ghost use Rattle.matching.specs.Words.{fold, folded, one_of, category_matches, feature_kind_matches, direction_matches, severity_matches, category_number, feature_kind_number, direction_number, severity_number, category_words, feature_kind_words, direction_words, severity_words};
 
 use syntax::text;
@@ -185,7 +184,7 @@ fn is_word(value: &[u8], word: &[u8]) -> bool
 
 // A letter lowered, a dash as an underscore.
 #[tactic(auto, unfolding(crate::specs::Words::fold))]
-pub fn fold(b: u8) -> u8
+fn fold(b: u8) -> u8
     ensures { result ≡ fold b }
 {
     match b {

@@ -30,7 +30,7 @@ fn find_by_place(text: &[u8], part: &[u8]) -> Option<usize>
     requires { (0 < length part.now) × (length part.now ≤ length text.now) }
     ensures { result ≡ find part.now text.now }
 {
-    // Only places of the part's first byte are compared: `text.windows(n).position(|w| w == part)` takes some 1.4 times as long.
+    // Only places of the part's first byte are compared.
     let first = part[0];
     for at in 0..text.len() - part.len() + 1 {
         if text[at] == first && starts_with(text, at, part) {
@@ -87,6 +87,7 @@ pub fn contains(text: &[u8], part: &[u8]) -> bool
 }
 
 // The set and the name of the property that a text names, parted by the first `::`; the set is empty where there is none.
+#[tactic(auto, using(crate::proofs::SearchLaws::colons_within))]
 pub fn parted(text: &[u8]) -> (&[u8], &[u8])
     ensures set { result.0.now ≡ property_set_of text.now }
     ensures name { result.1.now ≡ property_name_of text.now }

@@ -8,7 +8,7 @@ ghost use Rattle.matching.specs.Words.{Numbered, one_of, category_number, catego
 pub struct UnknownNumber(pub u32);
 
 // A field's value, which a board has as a number and a rule as a word.
-pub trait FieldValue: TryFrom<u32, Error = UnknownNumber> {
+pub(crate) trait FieldValue: TryFrom<u32, Error = UnknownNumber> {
     ghost number: { Self → ℕ };
 
     // The words for each number.
@@ -27,7 +27,7 @@ pub trait FieldValue: TryFrom<u32, Error = UnknownNumber> {
 
 // What a component is.
 #[derive(Clone, Copy, PartialEq, Eq)]
-pub enum ComponentCategory {
+pub(crate) enum ComponentCategory {
     System,
     Process,
     Thread,
@@ -73,7 +73,7 @@ impl TryFrom<u32> for ComponentCategory {
 
 // What a feature is.
 #[derive(Clone, Copy, PartialEq, Eq)]
-pub enum FeatureKind {
+pub(crate) enum FeatureKind {
     DataPort,
     EventPort,
     EventDataPort,
@@ -137,7 +137,7 @@ impl TryFrom<u32> for Direction {
 
 // How grave a diagnostic is.
 #[derive(Clone, Copy, PartialEq, Eq)]
-pub enum Severity {
+pub(crate) enum Severity {
     Error,
     Warning,
     Info,

@@ -1,20 +1,21 @@
 -- A text that comes to a collection was read without errors, as a pipeline and nothing more. Assumes nothing.
-use mathlib.Core.Path.{◌≡◌, refl, sym, ◌∙◌, subst}
+use mathlib.Core.Path.{◌≡◌, refl, sym, ap, ◌∙◌, subst}
 use mathlib.Core.Bool.{Bool, true, false, cond}
 use mathlib.Core.List.{List, [], ◌∷◌, ◌++◌, cons≢nil}
-use Prim.Native.Nat.{ℕ, ◌<◌}
-use native.Mathlib.Omega.{arith}
+use Prim.Native.Nat.{ℕ}
 use borrow.Author.Tests.{eqb-true}
-use Rattle.syntax.specs.Kind.{ROOT, NONE}
+use Rattle.syntax.specs.Kind.{NONE}
 use Rattle.syntax.specs.declared.refusal.Refusal.TheVariants.{ParseErrors}
 use Rattle.syntax.proofs.BoolLaws.{whether}
 use Rattle.lexer.specs.Lex.{Token, lex}
 use Rattle.trees.specs.Green.{◌⊹◌}
 use Rattle.trees.proofs.GreenLaws.{tokens_of}
-use Rattle.trees.specs.Look.{is_blank, skip_ws, at_kind, has_count_compare_ahead}
+use Rattle.trees.specs.Look.{skip_ws, at_kind, has_count_compare_ahead}
 use Rattle.trees.specs.Parse.{Error, Parsed, choose, bump, eat_ws, left_over, parse_pipeline, parse_expr}
-use Rattle.trees.proofs.TreeLaws.{Keeps, keeping, keeps_parse, Kinds, kinds_lex, eat_rest}
+use Rattle.trees.proofs.TreeLaws.{Keeps, keeping, keeps_parse, Kinds, kinds_right, kinds_lex, skip_none, skip_twice, eat_rest}
 use Rattle.grammar.specs.Grammar.{solid, ReadPipeline}
+use Rattle.grammar.proofs.BlankLaws.{solid_skip}
+use Rattle.grammar.proofs.TokenLaws.{nil_both}
 use Rattle.grammar.proofs.WholeLaws.{pipeline_whole}
 use Rattle.predicate.specs.declared.atom.Member.{Member}
 use Rattle.meaning.specs.Value.{Sort, Outcome, collection, refused}
@@ -30,38 +31,20 @@ keeps_pipeline : Keeps parse_pipeline
 unfolding parse_pipeline
 keeps_pipeline = search (keeping, keeps_parse) depth 20
 
-kinds_right : (xs ys : List Token) → Kinds (xs ++ ys) → Kinds ys
-unfolding Kinds
-kinds_right [] ys k = k
-kinds_right (x ∷ xs) ys k = kinds_right xs ys k.1
-
 kinds_rest : (c : List ℕ) → Kinds (parse_pipeline (lex c)).rest
 kinds_rest c =
     kinds_right (tokens_of (parse_pipeline (lex c)).made) (parse_pipeline (lex c)).rest
     (rw (keeps_pipeline.keeps (lex c)).kept (kinds_lex c))
 
 blanks_left : (ts : List Token) → Kinds ts → at_kind NONE (skip_ws ts) ≡ true → solid ts ≡ []
-unfolding Kinds solid skip_ws at_kind
-blanks_left [] k e = refl
-blanks_left (t ∷ ts) k e =
-    let ih = blanks_left ts k.1 in
-    whether (is_blank t)
-    (λ b. rw (b, solid) (ih (rw (b, skip_ws) at e)))
-    (λ b. let q : t.kind ≡ NONE = eqb-true _ _ (rw (b, skip_ws, b, skip_ws) at e) in let l : t.kind < ROOT = k.0 in absurd (omega arith))
+unfolding solid at_kind
+blanks_left ts k e = sym (solid_skip ts) ∙ ap solid (skip_none ts k (rw skip_twice at (eqb-true _ _ e)))
 
 nothing_left : (ts : List Token) → (left_over ts).errors ≡ [] → at_kind NONE ts ≡ true
 unfolding left_over
 nothing_left ts e = whether (at_kind NONE ts) (λ b. b) (λ b. absurd (cons≢nil (rw (b, choose) at e)))
 
 -- ---- by the end of the rule
-
-none_left : (xs ys : List Error) → xs ++ ys ≡ [] → xs ≡ []
-none_left [] ys e = refl
-none_left (x ∷ xs) ys e = absurd (cons≢nil e)
-
-none_right : (xs ys : List Error) → xs ++ ys ≡ [] → ys ≡ []
-none_right [] ys e = e
-none_right (x ∷ xs) ys e = absurd (cons≢nil e)
 
 -- no errors came, before the end and at it
 record Ended (es : List Error) (r : List Token) : Type 0 where
@@ -76,7 +59,7 @@ ended_without : (es fs gs : List Error) (o : Outcome) → IsCollection (cond (is
 ended_without es fs gs o h = go ((es ++ fs) ++ gs) refl h
   where
     go : (x : List Error) → (es ++ fs) ++ gs ≡ x → IsCollection (cond (is_empty x) o (refused ParseErrors)) → (es ≡ []) × (gs ≡ [])
-    go [] e k = (none_left es fs (none_left (es ++ fs) gs e), none_right (es ++ fs) gs e)
+    go [] e k = let n = nil_both (es ++ fs) gs e in ((nil_both es fs n.0).0, n.1)
     go (y ∷ x) e k = absurd k
 
 ended : (b : Bool) (es : List Error) (r : List Token) (o : Outcome) → IsCollection (ending b es r o) → Ended es r

@@ -12,16 +12,16 @@ use Rattle.trees.specs.Green.{leaf, nil}
 use Rattle.trees.specs.Parse.{Parsed, parse, OrExpr}
 use Rattle.grammar.specs.Grammar.{solid, closing, where_call, all_call, any_call, none_call, count_call, ReadWhole, ReadPipeline}
 use Rattle.grammar.specs.Blanks.{strip}
-use Rattle.grammar.specs.Texts.{where_method, all_method, any_method, none_method, and_text, or_text, not_text}
+use Rattle.grammar.specs.Texts.{Method as Taking, call_text, where_method, all_method, any_method, none_method, and_text, or_text, not_text}
 use Rattle.grammar.proofs.WholeLaws.{whole_tree}
-use Rattle.grammar.proofs.TextLaws.{call_pipeline, and_whole, or_whole, not_whole}
+use Rattle.grammar.proofs.TextLaws.{method_call, call_pipeline, and_whole, or_whole, not_whole}
 use Rattle.predicate.specs.declared.atom.Member.{Member}
 use Rattle.predicate.specs.Truth.{truth, truths}
 use Rattle.meaning.specs.Value.{Sort, Outcome, collection, boolean}
-use Rattle.meaning.specs.Calls.{kept, is_empty, true_for, on_members, call_gives}
+use Rattle.meaning.specs.Calls.{kept, is_empty, true_for, on_members, call_gives, how_many}
 use Rattle.meaning.specs.Outcome.{Lent, check_run, outcome, run}
 use Rattle.meaning.specs.Holds.{holds}
-use Rattle.meaning.specs.Demand3.{true_of, members_for, count_for, how_many, where_text, any_text, none_text, all_text, count_text, ComesTo, Agree, Demand3}
+use Rattle.meaning.specs.Demand3.{true_of, members_for, count_for, where_text, any_text, none_text, all_text, count_text, ComesTo, Agree, Demand3}
 use Rattle.meaning.proofs.MemberLaws.{kept_kept, kept_same, kept_exchanged, kept_parts, kept_sums, some_count, none_count, every_count}
 use Rattle.meaning.proofs.KindLaws.{where_taken, quantifier_taken, count_taken}
 use Rattle.meaning.proofs.SpacingLaws.{truth_solid}
@@ -82,21 +82,15 @@ module _ (image : List ℕ) (sort : Sort) (members : List Member) where
 
     any_gives : call_gives image (call_for (any_call r.predicate)) (collection sort members) ≡ boolean (ltb 0 (count_for image p members)) false
     unfolding call_gives on_members
-    any_gives =
-        quantifier_taken sort _
-        ∙ ap (λ (b : Bool). boolean b false) (some_count (true_for image (args_for r.predicate)) members ∙ ap (λ (l : List Member). ltb 0 (length l)) kept_for)
+    any_gives = quantifier_taken sort _ ∙ rw (some_count (true_for image (args_for r.predicate)) members, kept_for)
 
     none_gives : call_gives image (call_for (none_call r.predicate)) (collection sort members) ≡ boolean (eqb (count_for image p members) 0) (is_empty members)
     unfolding call_gives on_members
-    none_gives =
-        quantifier_taken sort _
-        ∙ ap (λ (b : Bool). boolean b (is_empty members)) (none_count (true_for image (args_for r.predicate)) members ∙ ap (λ (l : List Member). eqb (length l) 0) kept_for)
+    none_gives = quantifier_taken sort _ ∙ rw (none_count (true_for image (args_for r.predicate)) members, kept_for)
 
     all_gives : call_gives image (call_for (all_call r.predicate)) (collection sort members) ≡ boolean (eqb (count_for image p members) (length members)) (is_empty members)
     unfolding call_gives on_members
-    all_gives =
-        quantifier_taken sort _
-        ∙ ap (λ (b : Bool). boolean b (is_empty members)) (every_count (true_for image (args_for r.predicate)) members ∙ ap (λ (l : List Member). eqb (length l) (length members)) kept_for)
+    all_gives = quantifier_taken sort _ ∙ rw (every_count (true_for image (args_for r.predicate)) members, kept_for)
 
   count_gives : call_gives image (call_for count_call) (collection sort members) ≡ Outcome.count (length members)
   unfolding call_gives on_members
@@ -114,9 +108,14 @@ record Collects (image : List ℕ) {c : List ℕ} (r : ReadPipeline c) (sort : S
   given : means image r ≡ collection sort members
 
 module _ {image c : List ℕ} {r : ReadPipeline c} {sort : Sort} {members : List Member} (h : Collects image r sort members) where
+  -- C.M(P) z, for a method M that takes a predicate
+  call_comes : {p : List ℕ} (m : Taking) (q : ReadWhole p) (z : List ℕ) {o : Outcome} → call_gives image (call_for (method_call m q.predicate)) (collection sort members) ≡ o
+      → outcome image (c ++ call_text m p z) ≡ after image (solid (lex z)) o
+  call_comes m q z e = call_outcome image r m q z ∙ ap (after image (solid (lex z))) (ap (call_gives image (call_for (method_call m q.predicate))) h.given ∙ e)
+
   -- C.where(P) z
   one_where : {p : List ℕ} (q : ReadWhole p) (z : List ℕ) → outcome image (c ++ where_text p z) ≡ after image (solid (lex z)) (collection sort (members_for image p members))
-  one_where q z = call_outcome image r where_method q z ∙ ap (after image (solid (lex z))) (ap (call_gives image (call_for (where_call q.predicate))) h.given ∙ where_gives image sort members q)
+  one_where q z = call_comes where_method q z (where_gives image sort members q)
 
   -- C.where(P) is a pipeline that comes to these members
   where_collects : {p : List ℕ} (q : ReadWhole p) → Collects image (call_pipeline r where_method q) sort (members_for image p members)
@@ -129,16 +128,13 @@ module _ {image c : List ℕ} {r : ReadPipeline c} {sort : Sort} {members : List
 
   -- C.any(P), C.none(P), C.all(P)
   any_outcome : {p : List ℕ} (q : ReadWhole p) → outcome image (c ++ any_text p []) ≡ boolean (ltb 0 (count_for image p members)) false
-  any_outcome q =
-      call_outcome image r any_method q [] ∙ after_nothing image _ ∙ ap (call_gives image (call_for (any_call q.predicate))) h.given ∙ any_gives image sort members q
+  any_outcome q = call_comes any_method q [] (any_gives image sort members q) ∙ after_nothing image _
 
   none_outcome : {p : List ℕ} (q : ReadWhole p) → outcome image (c ++ none_text p []) ≡ boolean (eqb (count_for image p members) 0) (is_empty members)
-  none_outcome q =
-      call_outcome image r none_method q [] ∙ after_nothing image _ ∙ ap (call_gives image (call_for (none_call q.predicate))) h.given ∙ none_gives image sort members q
+  none_outcome q = call_comes none_method q [] (none_gives image sort members q) ∙ after_nothing image _
 
   all_outcome : {p : List ℕ} (q : ReadWhole p) → outcome image (c ++ all_text p []) ≡ boolean (eqb (count_for image p members) (length members)) (is_empty members)
-  all_outcome q =
-      call_outcome image r all_method q [] ∙ after_nothing image _ ∙ ap (call_gives image (call_for (all_call q.predicate))) h.given ∙ all_gives image sort members q
+  all_outcome q = call_comes all_method q [] (all_gives image sort members q) ∙ after_nothing image _
 
 module _ {image c : List ℕ} {r : ReadPipeline c} {sort : Sort} {members : List Member} (h : Collects image r sort members) where
   -- C.where(P).where(Q) z
@@ -159,21 +155,20 @@ module _ (image : List ℕ) (members : List Member) {p q : List ℕ} (r : ReadWh
   members_exchanged : members_for image p (members_for image q members) ≡ members_for image q (members_for image p members)
   members_exchanged = kept_exchanged (true_of image q) (true_of image p) members
 
+  kept_and : members_for image (and_text p q) members ≡ kept (λ m. true_of image p m && true_of image q m) members
+  kept_and = kept_same (true_of image (and_text p q)) (λ m. true_of image p m && true_of image q m) members (true_and image r s)
+
   members_and : members_for image (and_text p q) members ≡ members_for image q (members_for image p members)
-  members_and =
-      kept_same (true_of image (and_text p q)) (λ m. true_of image p m && true_of image q m) members (true_and image r s)
-      ∙ sym (kept_kept (true_of image p) (true_of image q) members)
+  members_and = kept_and ∙ sym (kept_kept (true_of image p) (true_of image q) members)
 
   sums : count_for image p members + count_for image q members ≡ count_for image (and_text p q) members + count_for image (or_text p q) members
   sums =
       kept_sums (true_of image p) (true_of image q) members
-      ∙ sym
-      (ap₂ ◌+◌
-      (ap length (kept_same (true_of image (and_text p q)) (λ m. true_of image p m && true_of image q m) members (true_and image r s)))
-      (ap length (kept_same (true_of image (or_text p q)) (λ m. true_of image p m || true_of image q m) members (true_or image r s))))
+      ∙ rw (kept_and, kept_same (true_of image (or_text p q)) (λ m. true_of image p m || true_of image q m) members (true_or image r s))
 
 parts : (image : List ℕ) (members : List Member) {p : List ℕ} (r : ReadWhole p) (test : Member → Bool)
     → how_many test (members_for image p members) + how_many test (members_for image (not_text p) members) ≡ how_many test members
+unfolding how_many
 parts image members {p} r test =
     ap (λ (l : List Member). how_many test (members_for image p members) + how_many test l)
     (kept_same (true_of image (not_text p)) (λ m. not (true_of image p m)) members (true_not image r))
@@ -189,14 +184,8 @@ demand_3 image c sort members e p q s t =
       where_where = comes image _ (two_wheres h s t [] ∙ after_nothing image _);
       where_exchanged = comes image _ (two_wheres h t s [] ∙ after_nothing image _ ∙ ap (collection sort) (members_exchanged image members s t));
       where_and = comes image _ (one_where h (and_whole s t) [] ∙ after_nothing image _ ∙ ap (collection sort) (members_and image members s t));
-      after_exchanged =
-          λ z.
-          agree image _ _
-          (two_wheres h s t z ∙ ap (λ (l : List Member). after image (solid (lex z)) (collection sort l)) (sym (members_exchanged image members s t)) ∙ sym (two_wheres h t s z));
-      after_and =
-          λ z.
-          agree image _ _
-          (two_wheres h s t z ∙ ap (λ (l : List Member). after image (solid (lex z)) (collection sort l)) (sym (members_and image members s t)) ∙ sym (one_where h (and_whole s t) z));
+      after_exchanged = λ z. agree image _ _ (two_wheres h s t z ∙ rw (← members_exchanged image members s t) (sym (two_wheres h t s z)));
+      after_and = λ z. agree image _ _ (two_wheres h s t z ∙ rw (← members_and image members s t) (sym (one_where h (and_whole s t) z)));
       not_members = comes image _ (one_where h (not_whole s) [] ∙ after_nothing image _);
       each_as_often = parts image members s;
       count_all = comes image _ (all_counted h);

@@ -32,23 +32,23 @@ module _ (image : List ℕ) (m : Member) where
     pub value : settle image m (sort_of kind) inner (truths image m inner) ≡ v
 
   -- it is an operand that is joined to what stands before it
-  joined_one : (or before : Bool) (f g : Forest) (v : Bool) → One f v
+  joined_one : (or before : Bool) {f : Forest} (g : Forest) {v : Bool} → One f v
       → joined or before (f ⊹ g) (truths image m (f ⊹ g)) ≡ joined or (joined_by or before v) g (truths image m g)
   unfolding joined truths ◌⊹◌
-  joined_one or before f g v o = rw (o.shape, o.value)
+  joined_one or before g o = rw (o.shape, o.value)
 
-  joined_lone : (or before : Bool) (f : Forest) (v : Bool) → One f v → joined or before f (truths image m f) ≡ joined_by or before v
+  joined_lone : (or before : Bool) {f : Forest} {v : Bool} → One f v → joined or before f (truths image m f) ≡ joined_by or before v
   unfolding joined truths
-  joined_lone or before f v o = rw (o.shape, o.value)
+  joined_lone or before o = rw (o.shape, o.value)
 
   -- it has this truth, also with a token after it
-  one_truth : (f : Forest) (v : Bool) → One f v → truth image m f ≡ v
+  one_truth : {f : Forest} {v : Bool} → One f v → truth image m f ≡ v
   unfolding truth truths
-  one_truth f v o = rw (o.shape, o.value)
+  one_truth o = rw (o.shape, o.value)
 
-  one_truth_before : (f g : Forest) (v : Bool) → One f v → truth image m (f ⊹ g) ≡ v
+  one_truth_before : {f : Forest} (g : Forest) {v : Bool} → One f v → truth image m (f ⊹ g) ≡ v
   unfolding truth truths ◌⊹◌
-  one_truth_before f g v o = rw (o.shape, o.value)
+  one_truth_before g o = rw (o.shape, o.value)
 
   -- what a part of a predicate means by its operands
   -- of an and group: they are joined by `and`, and without an `and` they are one
@@ -82,25 +82,18 @@ module _ (image : List ℕ) (m : Member) where
   last_groups : (g : Predicate AndGroup) → Group g → Groups (last_group g)
   unfolding operands holds
   last_groups g h =
-      let f = binary (among AND_KW g) (operands g) in
-      let o : One f (holds image m g) = group_one (among AND_KW g) g (λ e. e) h in
-      record {
-        first = joined_lone false true f (holds image m g) o;
-        joins = λ before. joined_lone true before f (holds image m g) o;
-        lone = λ e. o;
-      }
+      let o = group_one (among AND_KW g) g (λ e. e) h in
+      record { first = joined_lone false true o; joins = λ before. joined_lone true before o; lone = λ e. o }
 
   or_groups : (g : Predicate AndGroup) (p : Predicate OrGroup) → Group g → Groups p → Groups (or_then g p)
   unfolding operands holds among joined truths
   or_groups g p h q =
-      let b = among AND_KW g || among AND_KW p in
-      let f = binary b (operands g) in
-      let o : One f (holds image m g) = group_one b g (λ e. (neither (among AND_KW g) (among AND_KW p) e).0) h in
+      let o = group_one (among AND_KW g || among AND_KW p) g (λ e. (neither (among AND_KW g) (among AND_KW p) e).0) h in
       record {
-        first = joined_one false true f (leaf or_word (operands p)) (holds image m g) o ∙ q.joins (holds image m g);
+        first = joined_one false true (leaf or_word (operands p)) o ∙ q.joins (holds image m g);
         joins =
             λ before.
-            joined_one true before f (leaf or_word (operands p)) (holds image m g) o
+            joined_one true before (leaf or_word (operands p)) o
             ∙ q.joins (before || holds image m g)
             ∙ or_assoc before (holds image m g) (holds image m p);
         lone = λ e. absurd (true≢false (sym (or-true (among OR_KW g)) ∙ e));
@@ -112,7 +105,7 @@ module _ (image : List ℕ) (m : Member) where
       record {
         joins =
             λ before.
-            joined_one false before (operands a) (leaf and_word (operands g)) (holds image m a) o
+            joined_one false before (leaf and_word (operands g)) o
             ∙ q.joins (before && holds image m a)
             ∙ and_assoc before (holds image m a) (holds image m g);
         lone = λ e. absurd (true≢false e);
@@ -120,7 +113,7 @@ module _ (image : List ℕ) (m : Member) where
 
   negated_one : (a : Predicate Atom) → One (operands a) (holds image m a) → One (operands (negated a)) (holds image m (negated a))
   unfolding operands holds settle sort_of truths truth
-  negated_one a o = record { kind = UNARY_EXPR; inner = leaf not_word (operands a); shape = refl; value = ap not (one_truth (operands a) (holds image m a) o) }
+  negated_one a o = record { kind = UNARY_EXPR; inner = leaf not_word (operands a); shape = refl; value = ap not (one_truth o) }
 
   bracketed_one : (p : Predicate OrGroup) → Groups p → One (operands (bracketed p)) (holds image m (bracketed p))
   unfolding operands holds settle sort_of truths truth
@@ -130,7 +123,7 @@ module _ (image : List ℕ) (m : Member) where
         kind = PAREN_EXPR;
         inner = leaf opening (f ⊹ leaf closing nil);
         shape = refl;
-        value = one_truth_before f (leaf closing nil) (holds image m p) (groups_one (among OR_KW p) p (λ e. e) h);
+        value = one_truth_before (leaf closing nil) (groups_one (among OR_KW p) p (λ e. e) h);
       }
 
   has_one : (w : List ℕ) → One (operands (has_text w)) (holds image m (has_text w))
@@ -147,20 +140,26 @@ module _ (image : List ℕ) (m : Member) where
 
   field_one : (f : Field) (w : List ℕ) → One (operands (field_is f w)) (holds image m (field_is f w))
   unfolding operands holds settle sort_of literal_of first_text
-  field_one f w = record { kind = COMPARE_EXPR; inner = _; shape = refl; value = go f }
+  field_one f w =
+      record {
+        kind = COMPARE_EXPR;
+        inner = _;
+        shape = refl;
+        value = ap (λ (t : List ℕ). compares image m t (content (quoted w).text)) (go f) ∙ ap (compares image m (field_word f).text) (content_quoted w);
+      }
     where
-      go : (f : Field) → compares image m (first_text IDENT (leaf (field_word f) nil)) (content (quoted w).text) ≡ compares image m (field_word f).text w
-      go category = ap (compares image m (ascii "category")) (content_quoted w)
-      go kind = ap (compares image m (ascii "kind")) (content_quoted w)
-      go direction = ap (compares image m (ascii "direction")) (content_quoted w)
-      go severity = ap (compares image m (ascii "severity")) (content_quoted w)
-      go message = ap (compares image m (ascii "message")) (content_quoted w)
+      go : (f : Field) → first_text IDENT (leaf (field_word f) nil) ≡ (field_word f).text
+      go category = refl
+      go kind = refl
+      go direction = refl
+      go severity = refl
+      go message = refl
 
   means : {part : Part} (p : Predicate part) → Means part p
   unfolding operands holds among
   means (last_group g) = last_groups g (means g)
   means (or_then g p) = or_groups g p (means g) (means p)
-  means (last_atom a) = record { joins = λ before. joined_lone false before (operands a) (holds image m a) (means a); lone = λ e. means a }
+  means (last_atom a) = record { joins = λ before. joined_lone false before (means a); lone = λ e. means a }
   means (and_then a g) = and_group a g (means a) (means g)
   means (negated a) = negated_one a (means a)
   means (bracketed p) = bracketed_one p (means p)
@@ -169,15 +168,13 @@ module _ (image : List ℕ) (m : Member) where
   means (message_has w) = message_one w
   means (field_is f w) = field_one f w
 
+  predicate_one : (p : Predicate OrGroup) → One (predicate_tree p) (holds image m p)
+  unfolding predicate_tree
+  predicate_one p = groups_one (among OR_KW p) p (λ e. e) (means p)
+
   -- the truth of a predicate's tree, and where a token follows it
   pub predicate_holds : (p : Predicate OrGroup) → truth image m (predicate_tree p) ≡ holds image m p
-  unfolding predicate_tree
-  predicate_holds p =
-      let o : One (binary (among OR_KW p) (operands p)) (holds image m p) = groups_one (among OR_KW p) p (λ e. e) (means p) in
-      one_truth (binary (among OR_KW p) (operands p)) (holds image m p) o
+  predicate_holds p = one_truth (predicate_one p)
 
   pub predicate_holds_before : (p : Predicate OrGroup) (g : Forest) → truth image m (predicate_tree p ⊹ g) ≡ holds image m p
-  unfolding predicate_tree
-  predicate_holds_before p g =
-      let o : One (binary (among OR_KW p) (operands p)) (holds image m p) = groups_one (among OR_KW p) p (λ e. e) (means p) in
-      one_truth_before (binary (among OR_KW p) (operands p)) g (holds image m p) o
+  predicate_holds_before p g = one_truth_before g (predicate_one p)

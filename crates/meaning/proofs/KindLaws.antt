@@ -33,13 +33,13 @@ count_line sort = line_alike _ _ sort
 
 -- so they give what they give on its members
 pub where_taken : (sort : Sort) (o : Outcome) → by_entry (gives Where (sort_kind sort)) o ≡ o
-where_taken sort o = ap (λ (e : Entry). by_entry e o) (where_line sort)
+where_taken sort o = rw (where_line sort)
 
 pub quantifier_taken : (sort : Sort) (o : Outcome) → by_entry (quantifier (sort_kind sort)) o ≡ o
-quantifier_taken sort o = ap (λ (e : Entry). by_entry e o) (quantifier_line sort)
+quantifier_taken sort o = rw (quantifier_line sort)
 
 pub count_taken : (sort : Sort) (o : Outcome) → by_entry (gives Count (sort_kind sort)) o ≡ o
-count_taken sort o = ap (λ (e : Entry). by_entry e o) (count_line sort)
+count_taken sort o = rw (count_line sort)
 
 -- the kind of a value, or its refusal
 abbrev pub entry_of : Outcome → Entry

@@ -4,20 +4,19 @@ use mathlib.Core.Bool.{Bool, true, false, cond, and-false}
 use mathlib.Core.List.{List, [], ◌∷◌, ◌++◌, map, append_assoc, append-nil}
 use Prim.Native.Nat.{ℕ}
 use lib.Dec.{ltb}
-use lib.ListN.{length}
 use Rattle.syntax.specs.Kind.{R_PAREN, NONE, ROOT, COUNT_COMPARE_EXPR}
 use Rattle.syntax.specs.Text.{ascii}
-use Rattle.syntax.specs.declared.refusal.Refusal.TheVariants.{ParseErrors, IntegerTooLarge}
+use Rattle.syntax.specs.declared.refusal.Refusal.TheVariants.{ParseErrors}
 use Rattle.syntax.proofs.BoolLaws.{whether}
 use Rattle.lexer.specs.Lex.{Token, lex}
-use Rattle.trees.specs.Green.{Forest, nil, leaf, node, ◌⊹◌}
+use Rattle.trees.specs.Green.{Forest, nil, leaf, ◌⊹◌}
 use Rattle.trees.specs.Look.{is_blank, is_comparison, ends_in_comparison, has_count_compare_ahead}
 use Rattle.trees.specs.Parse.{Error, Parsed, Parser, join, ◌▹◌, in_node, choose, bump, eat_ws, left_over, Calls, parse, parse_pipeline, parse_pipeline_or_count_compare, parse_root, parse_expr}
 use Rattle.grammar.specs.Grammar.{solid, dot, word, opening, closing, OrGroup, Predicate, Source, components, analysis, Call as Written, where_call, all_call, any_call, none_call, count_call, features_call, diagnostics_call, source_tokens, calls_tokens, ReadWhole, ReadPipeline}
 use Rattle.grammar.specs.Trees.{predicate_tree, call_tree, calls_tree, source_tree, pipeline_then}
 use Rattle.grammar.specs.Texts.{Method as Taking, method_name, call_text}
 use Rattle.grammar.proofs.BlankLaws.{root_solid}
-use Rattle.grammar.proofs.ReadLaws.{pipeline_read}
+use Rattle.grammar.proofs.ReadLaws.{⊹-assoc, pipeline_read}
 use Rattle.grammar.proofs.TextLaws.{method_call, call_text_lem, call_tokens_lem, call_pipeline, count_then, count_tokens}
 use Rattle.predicate.specs.declared.atom.Member.{Member}
 use Rattle.predicate.specs.Truth.{first_text, literal_of}
@@ -25,7 +24,7 @@ use Rattle.meaning.specs.Value.{Sort, Outcome, collection, boolean, refused}
 use Rattle.meaning.specs.declared.Method.TheVariants.{Where, All, Any, None, Count, Features, Diagnostics}
 use Rattle.meaning.specs.Calls.{Call, is_empty, call_gives, calls_give}
 use Rattle.meaning.specs.Pipeline.{all_components, diagnostics_of, source_of, calls_of, eval_pipeline}
-use Rattle.meaning.specs.Compare.{MAX_INTEGER, operator_holds, against, compared, operator_of, integer_of}
+use Rattle.meaning.specs.Compare.{MAX_INTEGER, against, compared, operator_of, integer_of}
 use Rattle.meaning.specs.Outcome.{first_kind, first_inner, eval_count_compare, eval_node, outcome_of, outcome}
 use Rattle.meaning.proofs.SpacingLaws.{outcome_strip}
 use Rattle.meaning.proofs.HoldLaws.{content_quoted}
@@ -43,12 +42,6 @@ call_for (none_call p) = record { method = None; args = args_for p }
 call_for count_call = record { method = Count; args = leaf opening (leaf closing nil) }
 call_for features_call = record { method = Features; args = nil }
 call_for diagnostics_call = record { method = Diagnostics; args = nil }
-
-⊹-assoc : (f g h : Forest) → (f ⊹ g) ⊹ h ≡ f ⊹ (g ⊹ h)
-unfolding ◌⊹◌
-⊹-assoc nil g h = refl
-⊹-assoc (leaf t f) g h = ap (leaf t) (⊹-assoc f g h)
-⊹-assoc (node k s f) g h = ap (node k s) (⊹-assoc f g h)
 
 call_tree_lem : (c : Written) (f : Forest) → calls_of (call_tree c ⊹ f) ≡ call_for c ∷ calls_of f
 unfolding call_tree calls_of ◌⊹◌
@@ -156,16 +149,13 @@ ends_here : (a : ℕ) (v : List Token) → ends_in_comparison a R_PAREN v ≡ en
 unfolding ends_in_comparison
 ends_here a [] = and-false (is_comparison a) ∙ sym (and-false (is_comparison NONE))
 ends_here a (t ∷ v) =
-    let ih = ends_here a v in
-    whether (is_blank t) (λ e. rw (e, ends_in_comparison) ih) (λ e. rw (e, ends_in_comparison))
+    whether (is_blank t) (λ e. rw (e, ends_in_comparison) (ends_here a v)) (λ e. rw (e, ends_in_comparison))
 
 ends_closed : (a b : ℕ) (us v : List Token) → ends_in_comparison a b (us ++ (closing ∷ v)) ≡ ends_in_comparison NONE R_PAREN v
 unfolding ends_in_comparison
 ends_closed a b [] v = ends_here b v
 ends_closed a b (u ∷ us) v =
-    let ih = ends_closed a b us v in
-    let ih' = ends_closed b u.kind us v in
-    whether (is_blank u) (λ e. rw (e, ends_in_comparison) ih) (λ e. rw (e, ends_in_comparison) ih')
+    whether (is_blank u) (λ e. rw (e, ends_in_comparison) (ends_closed a b us v)) (λ e. rw (e, ends_in_comparison) (ends_closed b u.kind us v))
 
 -- what tokens v after a closing bracket add
 abbrev pub after : List ℕ → List Token → Outcome → Outcome
@@ -188,39 +178,34 @@ unfolding calls_give
 mean_more image [] c o = refl
 mean_more image (d ∷ cs) c o = mean_more image cs c (call_gives image (call_for d) o)
 
+-- a text whose tokens are those of a pipeline and of one call more, which ends with a bracket, and those of a text z
+one_more : (image : List ℕ) {c : List ℕ} (r : ReadPipeline c) (call : Written) (t z : List ℕ) (us : List Token)
+    → solid (lex t) ≡ source_tokens r.source ++ (calls_tokens (r.calls ++ (call ∷ [])) ++ solid (lex z))
+    → solid (lex t) ≡ solid (lex c) ++ (us ++ (closing ∷ solid (lex z)))
+    → outcome image t ≡ after image (solid (lex z)) (call_gives image (call_for call) (means image r))
+unfolding has_count_compare_ahead
+one_more image {c} r call t z us e b =
+    let cs = r.calls ++ (call ∷ []) in
+    let v = solid (lex z) in
+    let flag : has_count_compare_ahead (source_tokens r.source ++ (calls_tokens cs ++ v)) ≡ ends_in_comparison NONE R_PAREN v =
+    ap has_count_compare_ahead (sym e ∙ b ∙ sym (append_assoc (solid (lex c)) us (closing ∷ v))) ∙ ends_closed NONE NONE (solid (lex c) ++ us) v
+    in
+    text_outcome image t
+    ∙ ap (λ (ts : List Token). outcome_of image (parse_root ts)) e
+    ∙ tokens_outcome image r.source cs v
+    ∙ rw (flag, mean_more image r.calls call (source_means image r.source))
+
 -- a method with a predicate after a pipeline, and a text z after that
 pub call_outcome : (image : List ℕ) {c p : List ℕ} (r : ReadPipeline c) (m : Taking) (q : ReadWhole p) (z : List ℕ)
     → outcome image (c ++ call_text m p z) ≡ after image (solid (lex z)) (call_gives image (call_for (method_call m q.predicate)) (means image r))
-unfolding has_count_compare_ahead
 call_outcome image {c} {p} r m q z =
-    let cs = r.calls ++ (method_call m q.predicate ∷ []) in
-    let us = dot ∷ word (method_name m) ∷ opening ∷ solid (lex p) in
-    let v = solid (lex z) in
-    let flag : has_count_compare_ahead (source_tokens r.source ++ (calls_tokens cs ++ v)) ≡ ends_in_comparison NONE R_PAREN v =
-    ap has_count_compare_ahead (sym (call_tokens_lem r m q z) ∙ call_text_lem r m q z ∙ sym (append_assoc (solid (lex c)) us (closing ∷ v)))
-    ∙ ends_closed NONE NONE (solid (lex c) ++ us) v
-    in
-    text_outcome image (c ++ call_text m p z)
-    ∙ ap (λ (ts : List Token). outcome_of image (parse_root ts)) (call_tokens_lem r m q z)
-    ∙ tokens_outcome image r.source cs v
-    ∙ rw (flag, mean_more image r.calls (method_call m q.predicate) (source_means image r.source))
+    one_more image r (method_call m q.predicate) (c ++ call_text m p z) z (dot ∷ word (method_name m) ∷ opening ∷ solid (lex p)) (call_tokens_lem r m q z) (call_text_lem r m q z)
 
 -- `.count()` after a pipeline
 pub count_outcome : (image : List ℕ) {c : List ℕ} (r : ReadPipeline c) (z : List ℕ)
     → outcome image (c ++ (ascii ".count()" ++ z)) ≡ after image (solid (lex z)) (call_gives image (call_for count_call) (means image r))
-unfolding has_count_compare_ahead
 count_outcome image {c} r z =
-    let cs = r.calls ++ (count_call ∷ []) in
-    let us = dot ∷ word "count" ∷ opening ∷ [] in
-    let v = solid (lex z) in
-    let flag : has_count_compare_ahead (source_tokens r.source ++ (calls_tokens cs ++ v)) ≡ ends_in_comparison NONE R_PAREN v =
-    ap has_count_compare_ahead (sym (count_tokens r z) ∙ count_then r z ∙ sym (append_assoc (solid (lex c)) us (closing ∷ v)))
-    ∙ ends_closed NONE NONE (solid (lex c) ++ us) v
-    in
-    text_outcome image (c ++ (ascii ".count()" ++ z))
-    ∙ ap (λ (ts : List Token). outcome_of image (parse_root ts)) (count_tokens r z)
-    ∙ tokens_outcome image r.source cs v
-    ∙ rw (flag, mean_more image r.calls count_call (source_means image r.source))
+    one_more image r count_call (c ++ (ascii ".count()" ++ z)) z (dot ∷ word "count" ∷ opening ∷ []) (count_tokens r z) (count_then r z)
 
 -- a pipeline with one call more comes to what the call gives
 pub call_means : (image : List ℕ) {c p : List ℕ} (r : ReadPipeline c) (m : Taking) (q : ReadWhole p)
@@ -236,17 +221,9 @@ IsCollection (refused r) = ⊥
 
 pub compared_collection : (operator integer : ℕ) (o : Outcome) → IsCollection (compared operator integer o) → ⊥
 unfolding compared against
-compared_collection operator integer (collection sort members) h = go (ltb MAX_INTEGER integer) h
-  where
-    go : (b : Bool) → IsCollection (cond b (refused IntegerTooLarge) (boolean (operator_holds operator (length members) integer) false)) → ⊥
-    go true k = k
-    go false k = k
+compared_collection operator integer (collection sort members) h = whether (ltb MAX_INTEGER integer) (λ e. rw e at h) (λ e. rw e at h)
 compared_collection operator integer (boolean value warned) h = h
-compared_collection operator integer (Outcome.count n) h = go (ltb MAX_INTEGER integer) h
-  where
-    go : (b : Bool) → IsCollection (cond b (refused IntegerTooLarge) (boolean (operator_holds operator n integer) false)) → ⊥
-    go true k = k
-    go false k = k
+compared_collection operator integer (Outcome.count n) h = whether (ltb MAX_INTEGER integer) (λ e. rw e at h) (λ e. rw e at h)
 compared_collection operator integer (refused r) h = h
 
 collected : (image : List ℕ) (b : Bool) (o : Outcome) (sort : Sort) (members : List Member) → goes_on image b [] o ≡ collection sort members → o ≡ collection sort members

@@ -8,18 +8,24 @@ use borrow.Author.Tests.{eqb-true, ne_eqb}
 use lib.Dec.{eqb}
 use Rattle.syntax.specs.Kind.{WHITESPACE, IDENT, STRING_LIT, INT_LIT, DOT_CALL, CALL_ARGS, LITERAL}
 use Rattle.syntax.proofs.BoolLaws.{whether}
+use Rattle.lexer.specs.Lex.{Token}
 use Rattle.trees.specs.Green.{Forest, nil, leaf, node}
 use Rattle.trees.specs.Look.{is_blank, is_comparison}
 use Rattle.trees.specs.Parse.{Error, Parsed}
 use Rattle.grammar.specs.Blanks.{no_blanks, solid_errors, strip}
 use Rattle.predicate.specs.declared.atom.Member.{Member}
-use Rattle.predicate.specs.Truth.{first_text, literal_of, has, message_contains, or_after, joined_by, joined, Sort, binary, unary, paren, ident, call, containing, compare, other, sort_of, settle, truths, first_of, truth}
+use Rattle.predicate.specs.Truth.{first_text, literal_of, has, message_contains, or_after, joined_by, joined, NodeSort, binary, unary, paren, ident, call, containing, compare, other, sort_of, settle, truths, first_of, truth}
 use Rattle.meaning.specs.Value.{Outcome, collection, boolean, refused, sort_kind}
 use Rattle.meaning.specs.declared.Method.{Method}
 use Rattle.meaning.specs.Calls.{gives, is_empty, on_members, by_entry, call_gives, calls_give}
 use Rattle.meaning.specs.Pipeline.{source_of, method_of, args_of, call_of, calls_of, eval_pipeline}
 use Rattle.meaning.specs.Compare.{operator_of, integer_of, decimal}
 use Rattle.meaning.specs.Outcome.{first_kind, first_inner, eval_count_compare, eval_node, outcome_of}
+
+-- what passes over a token gives the same without it where it is blank
+leaf_passed : {A : Type 0} (of : Forest → A) {x : A} (t : Token) (f : Forest) → ((g : Forest) → of (leaf t g) ≡ of g) → of (no_blanks f) ≡ x → of (no_blanks (leaf t f)) ≡ x
+unfolding no_blanks
+leaf_passed of t f same e = whether (is_blank t) (λ b. rw (b, no_blanks) e) (λ b. rw (b, no_blanks, same (no_blanks f)) e)
 
 -- a token's text is looked for by a kind that is no blank's
 pub text_solid : (kind : ℕ) → (kind ≡ WHITESPACE → ⊥) → (f : Forest) → first_text kind (no_blanks f) ≡ first_text kind f
@@ -35,27 +41,22 @@ text_solid kind n (node k s f) = text_solid kind n f
 pub literal_solid : (f : Forest) → literal_of (no_blanks f) ≡ literal_of f
 unfolding no_blanks literal_of
 literal_solid nil = refl
-literal_solid (leaf t f) =
-    let ih = literal_solid f in
-    whether (is_blank t) (λ e. rw (e, no_blanks) ih) (λ e. rw (e, no_blanks) ih)
+literal_solid (leaf t f) = leaf_passed literal_of t f (λ g. refl) (literal_solid f)
 literal_solid (node k s f) =
-    let ih = literal_solid f in
-    whether (eqb k LITERAL) (λ e. rw (e, literal_of, text_solid STRING_LIT (λ q. omega arith) s)) (λ e. rw (e, literal_of) ih)
+    whether (eqb k LITERAL) (λ e. rw (e, literal_of, text_solid STRING_LIT (λ q. omega arith) s)) (λ e. rw (e, literal_of) (literal_solid f))
 
 joined_solid : (or before : Bool) (f : Forest) (ts : List Bool) → joined or before (no_blanks f) ts ≡ joined or before f ts
 unfolding no_blanks joined
 joined_solid or before nil ts = refl
 joined_solid or before (leaf t f) ts =
-    let ih = joined_solid or before f ts in
-    let ih' = joined_solid (or_after t.kind or) before f ts in
     whether (is_blank t)
-    (λ e. let q : t.kind ≡ WHITESPACE = eqb-true _ _ e in rw (e, no_blanks, q) ih)
-    (λ e. rw (e, no_blanks) ih')
+    (λ e. let q : t.kind ≡ WHITESPACE = eqb-true _ _ e in rw (e, no_blanks, q) (joined_solid or before f ts))
+    (λ e. rw (e, no_blanks) (joined_solid (or_after t.kind or) before f ts))
 joined_solid or before (node k s f) [] = refl
 joined_solid or before (node k s f) (v ∷ ts) = joined_solid or (joined_by or before v) f ts
 
 module _ (image : List ℕ) (m : Member) where
-  settle_solid : (sort : Sort) (f : Forest) (ts : List Bool) → settle image m sort (no_blanks f) ts ≡ settle image m sort f ts
+  settle_solid : (sort : NodeSort) (f : Forest) (ts : List Bool) → settle image m sort (no_blanks f) ts ≡ settle image m sort f ts
   unfolding settle
   settle_solid binary f ts = joined_solid false true f ts
   settle_solid unary f ts = refl
@@ -69,9 +70,7 @@ module _ (image : List ℕ) (m : Member) where
   truths_solid : (f : Forest) → truths image m (no_blanks f) ≡ truths image m f
   unfolding no_blanks truths
   truths_solid nil = refl
-  truths_solid (leaf t f) =
-      let ih = truths_solid f in
-      whether (is_blank t) (λ e. rw (e, no_blanks) ih) (λ e. rw (e, no_blanks) ih)
+  truths_solid (leaf t f) = leaf_passed (truths image m) t f (λ g. refl) (truths_solid f)
   truths_solid (node k s f) = rw (truths_solid s, truths_solid f, settle_solid (sort_of k) s (truths image m s))
 
   pub truth_solid : (f : Forest) → truth image m (no_blanks f) ≡ truth image m f
@@ -81,27 +80,19 @@ module _ (image : List ℕ) (m : Member) where
 args_solid : (f : Forest) → args_of (no_blanks f) ≡ no_blanks (args_of f)
 unfolding no_blanks args_of
 args_solid nil = refl
-args_solid (leaf t f) =
-    let ih = args_solid f in
-    whether (is_blank t) (λ e. rw (e, no_blanks) ih) (λ e. rw (e, no_blanks) ih)
-args_solid (node k s f) =
-    let ih = args_solid f in
-    whether (eqb k CALL_ARGS) (λ e. rw (e, args_of)) (λ e. rw (e, args_of) ih)
+args_solid (leaf t f) = leaf_passed args_of t f (λ g. refl) (args_solid f)
+args_solid (node k s f) = whether (eqb k CALL_ARGS) (λ e. rw (e, args_of)) (λ e. rw (e, args_of) (args_solid f))
 
 inner_solid : (f : Forest) → first_inner (no_blanks f) ≡ no_blanks (first_inner f)
 unfolding no_blanks first_inner
 inner_solid nil = refl
-inner_solid (leaf t f) =
-    let ih = inner_solid f in
-    whether (is_blank t) (λ e. rw (e, no_blanks) ih) (λ e. rw (e, no_blanks) ih)
+inner_solid (leaf t f) = leaf_passed first_inner t f (λ g. refl) (inner_solid f)
 inner_solid (node k s f) = refl
 
 kind_solid : (f : Forest) → first_kind (no_blanks f) ≡ first_kind f
 unfolding no_blanks first_kind
 kind_solid nil = refl
-kind_solid (leaf t f) =
-    let ih = kind_solid f in
-    whether (is_blank t) (λ e. rw (e, no_blanks) ih) (λ e. rw (e, no_blanks) ih)
+kind_solid (leaf t f) = leaf_passed first_kind t f (λ g. refl) (kind_solid f)
 kind_solid (node k s f) = refl
 
 operator_solid : (f : Forest) → operator_of (no_blanks f) ≡ operator_of f
@@ -136,20 +127,15 @@ module _ (image : List ℕ) where
   calls_solid : (f : Forest) (o : Outcome) → calls_give image (calls_of (no_blanks f)) o ≡ calls_give image (calls_of f) o
   unfolding no_blanks calls_of calls_give
   calls_solid nil o = refl
-  calls_solid (leaf t f) o =
-      let ih = calls_solid f o in
-      whether (is_blank t) (λ e. rw (e, no_blanks) ih) (λ e. rw (e, no_blanks) ih)
+  calls_solid (leaf t f) o = leaf_passed (λ g. calls_give image (calls_of g) o) t f (λ g. refl) (calls_solid f o)
   calls_solid (node k s f) o =
-      let ih = calls_solid f o in
-      let ih' = calls_solid f (call_gives image (call_of s) o) in
-      whether (eqb k DOT_CALL) (λ e. rw (e, calls_of, call_solid s o) ih') (λ e. rw (e, calls_of) ih)
+      whether (eqb k DOT_CALL) (λ e. rw (e, calls_of, call_solid s o) (calls_solid f (call_gives image (call_of s) o)))
+      (λ e. rw (e, calls_of) (calls_solid f o))
 
   source_solid : (f : Forest) → source_of image (no_blanks f) ≡ source_of image f
   unfolding no_blanks source_of
   source_solid nil = refl
-  source_solid (leaf t f) =
-      let ih = source_solid f in
-      whether (is_blank t) (λ e. rw (e, no_blanks) ih) (λ e. rw (e, no_blanks) ih)
+  source_solid (leaf t f) = leaf_passed (source_of image) t f (λ g. refl) (source_solid f)
   source_solid (node k s f) = rw (literal_solid s)
 
   pipeline_solid : (f : Forest) → eval_pipeline image (no_blanks f) ≡ eval_pipeline image f

@@ -2,7 +2,7 @@
 -- that arrive have their rows in the collection table. Assumes nothing.
 use Rattle.std.specs.Prelude.{Ok, Err}
 use mathlib.Core.Path.{◌≡◌, refl, sym, ap, ap₂, ◌∙◌, subst}
-use mathlib.Core.Bool.{Bool, true, false, ◌&&◌, false≢true}
+use mathlib.Core.Bool.{Bool, true, false, false≢true}
 use mathlib.Core.List.{List, [], ◌∷◌, ◌++◌, append_assoc, append-nil, map}
 use mathlib.Core.Option.{Option, none, some}
 use Prim.Native.Nat.{ℕ, zero, suc, ◌+◌, ◌-◌, ◌*◌, ◌/◌, ◌≤◌, ◌<◌}
@@ -13,8 +13,9 @@ use lib.Dec.{eqb}
 use lib.ListN.{length, length-append, length-map}
 use borrow.Author.Tests.{ne_eqb}
 use Rattle.syntax.specs.declared.refusal.Refusal.{Refusal}
+use Rattle.syntax.proofs.BoolLaws.{whether, both}
 use Rattle.trees.specs.Green.{Forest}
-use Rattle.board.specs.Image.{component_count, first_feature, features_of as feature_number, feature_count, diagnostic_count}
+use Rattle.board.specs.Image.{component_count, first_feature, owned_features, feature_count, diagnostic_count}
 use Rattle.board.specs.Check.{COLLECTION_ROW}
 use Rattle.board.specs.WellFormed.{total, WellFormed, Room}
 use Rattle.instance.specs.Instance.{features_end}
@@ -24,10 +25,10 @@ use Rattle.meaning.specs.declared.ValueKind.{ValueKind}
 use Rattle.meaning.specs.Value.{Sort, components, features, diagnostics, Outcome, collection, boolean, refused, sort_kind, row_of, rows_of, whole_rows}
 use Rattle.meaning.specs.declared.Method.{Method}
 use Rattle.meaning.specs.declared.Method.TheVariants.{Where, All, Any, None, Count, Features, Diagnostics}
-use Rattle.meaning.specs.Calls.{Entry, quantifier, gives, keep, kept, every, is_empty, up_from, features_of, fan_out, Call, true_for, on_members, by_entry, call_gives, calls_give}
+use Rattle.meaning.specs.Calls.{Entry, quantifier, gives, kept, every, is_empty, up_from, features_of, fan_out, Call, true_for, on_members, by_entry, call_gives, calls_give, how_many}
 use Rattle.meaning.specs.Pipeline.{all_components, is_of_analysis, diagnostics_of}
-use Rattle.meaning.specs.Walk.{entries_after, plan_of, is_quantifier, is_last, arrive_by, arrivals, last_call, last_method, last_test, how_many, settled}
-use Rattle.meaning.proofs.MemberLaws.{some_count, none_count, every_count}
+use Rattle.meaning.specs.Walk.{entries_after, plan_of, is_quantifier, is_last, arrive_by, arrivals, last_call, last_method, last_test, settled}
+use Rattle.meaning.proofs.MemberLaws.{kept_le, some_count, none_count, every_count}
 
 -- ---- what the calls give is settled by the plan and by what arrives
 
@@ -166,11 +167,8 @@ plan_ends calls sort kind e = (planned [] calls sort [] (Ok kind) e).1
 pub kept_append : (passes : Member → Bool) (xs ys : List Member) → kept passes (xs ++ ys) ≡ kept passes xs ++ kept passes ys
 unfolding kept
 kept_append passes [] ys = refl
-kept_append passes (x ∷ xs) ys = go (passes x) (kept_append passes xs ys)
-  where
-    go : (b : Bool) → kept passes (xs ++ ys) ≡ kept passes xs ++ kept passes ys → keep b x (kept passes (xs ++ ys)) ≡ keep b x (kept passes xs) ++ kept passes ys
-    go true e = ap (λ (ms : List Member). x ∷ ms) e
-    go false e = e
+kept_append passes (x ∷ xs) ys =
+    whether (passes x) (λ e. rw (e, kept_append passes xs ys)) (λ e. rw (e, kept_append passes xs ys))
 
 pub fan_append : (image : List ℕ) (xs ys : List Member) → fan_out image (xs ++ ys) ≡ fan_out image xs ++ fan_out image ys
 unfolding fan_out
@@ -223,11 +221,6 @@ unfolding arrivals
 arrivals_append image [] xs ys = refl
 arrivals_append image (call ∷ calls) xs ys =
     by_append image (true_for image call.args) (arrivals image calls) (arrivals_append image calls) call.method xs ys
-
--- one, and then the others
-pub arrivals_cons : (image : List ℕ) (calls : List Call) (m : Member) (ms : List Member)
-    → arrivals image calls (m ∷ ms) ≡ arrivals image calls (m ∷ []) ++ arrivals image calls ms
-arrivals_cons image calls m ms = arrivals_append image calls (m ∷ []) ms
 
 -- with no call a member arrives, and so do others
 pub arrive_end : (image : List ℕ) (ms : List Member) → arrivals image [] ms ≡ ms
@@ -286,18 +279,9 @@ pub how_many_append : (passes : Member → Bool) (xs ys : List Member) → how_m
 unfolding how_many
 how_many_append passes xs ys = ap length (kept_append passes xs ys) ∙ length-append (kept passes xs) (kept passes ys)
 
-kept_most : (passes : Member → Bool) (ms : List Member) → length (kept passes ms) ≤ length ms
-unfolding kept
-kept_most passes [] = omega arith
-kept_most passes (m ∷ ms) = go (passes m) (kept_most passes ms)
-  where
-    go : (b : Bool) → length (kept passes ms) ≤ length ms → length (keep b m (kept passes ms)) ≤ suc (length ms)
-    go true h = omega arith
-    go false h = omega arith
-
 pub how_many_most : (passes : Member → Bool) (ms : List Member) → how_many passes ms ≤ length ms
 unfolding how_many
-how_many_most passes ms = kept_most passes ms
+how_many_most passes ms = kept_le passes ms
 
 pub rows_append : (xs ys : List Member) → rows_of (xs ++ ys) ≡ rows_of xs ++ rows_of ys
 unfolding rows_of
@@ -322,17 +306,11 @@ up_to first end = up_from first (end - first)
 
 pub up_turn : (first end : ℕ) → first < end → up_to first end ≡ first ∷ up_to (first + 1) end
 unfolding up_from
-up_turn first end h = rw (← one) (rw add-one)
-  where
-    one : suc (end - (first + 1)) ≡ end - first
-    one = omega arith
+up_turn first end h = let one : suc (end - (first + 1)) ≡ end - first = omega arith in rw (← one) (rw add-one)
 
 pub up_over : (first end : ℕ) → end ≤ first → up_to first end ≡ []
 unfolding up_from
-up_over first end h = ap (up_from first) none_left
-  where
-    none_left : end - first ≡ 0
-    none_left = omega arith
+up_over first end h = let none_left : end - first ≡ 0 = omega arith in ap (up_from first) none_left
 
 -- the numbers of a source, and of a component's features
 pub up_all : (n : ℕ) → up_from 0 n ≡ up_to 0 n
@@ -342,31 +320,27 @@ pub features_made : (image : List ℕ) (c : ℕ) → features_of image c ≡ map
 unfolding features_of
 features_made image c = refl
 
--- all of them
-module _ (image : List ℕ) (calls : List Call) (make : ℕ → Member) (first end : ℕ) where
-  pub made_turn : first < end
-      → arrivals image calls (map make (up_to first end)) ≡ arrivals image calls (make first ∷ []) ++ arrivals image calls (map make (up_to (first + 1) end))
-  made_turn h = rw (up_turn first end h) (arrivals_cons image calls (make first) (map make (up_to (first + 1) end)))
+-- members made of them, in their turn
+module _ (make : ℕ → Member) (first end : ℕ) where
+  pub made_next : first < end → map make (up_to first end) ≡ make first ∷ map make (up_to (first + 1) end)
+  made_next h = ap (map make) (up_turn first end h)
 
-  pub made_over : end ≤ first → arrivals image calls (map make (up_to first end)) ≡ []
-  made_over h = rw (up_over first end h) (arrivals_none image calls)
+  pub made_none : end ≤ first → map make (up_to first end) ≡ []
+  made_none h = ap (map make) (up_over first end h)
 
--- those that pass a test
-module _ (image : List ℕ) (calls : List Call) (passes : Member → Bool) (make : ℕ → Member) (first end : ℕ) where
-  pub kept_turn : first < end → passes (make first) ≡ true
-      → arrivals image calls (kept passes (map make (up_to first end)))
-      ≡ arrivals image calls (make first ∷ []) ++ arrivals image calls (kept passes (map make (up_to (first + 1) end)))
+-- those of them that pass a test
+module _ (passes : Member → Bool) (make : ℕ → Member) (first end : ℕ) where
+  pub kept_next : passes (make first) ≡ true → first < end → kept passes (map make (up_to first end)) ≡ make first ∷ kept passes (map make (up_to (first + 1) end))
   unfolding kept
-  kept_turn h t = rw (up_turn first end h, t) (arrivals_cons image calls (make first) (kept passes (map make (up_to (first + 1) end))))
+  kept_next t h = rw (up_turn first end h, t)
 
-  pub kept_skip : first < end → passes (make first) ≡ false
-      → arrivals image calls (kept passes (map make (up_to first end))) ≡ arrivals image calls (kept passes (map make (up_to (first + 1) end)))
+  pub kept_past : passes (make first) ≡ false → first < end → kept passes (map make (up_to first end)) ≡ kept passes (map make (up_to (first + 1) end))
   unfolding kept
-  kept_skip h t = rw (up_turn first end h, t)
+  kept_past t h = rw (up_turn first end h, t)
 
-  pub kept_over : end ≤ first → arrivals image calls (kept passes (map make (up_to first end))) ≡ []
+  pub kept_none : end ≤ first → kept passes (map make (up_to first end)) ≡ []
   unfolding kept
-  kept_over h = rw (up_over first end h) (arrivals_none image calls)
+  kept_none h = ap (kept passes) (made_none make first end h)
 
 -- ---- how many arrive
 
@@ -391,11 +365,10 @@ fan_length image m ms = ap length (fan_append image (m ∷ []) ms) ∙ length-ap
 fan_kept : (image : List ℕ) (passes : Member → Bool) (ms : List Member) → length (fan_out image (kept passes ms)) ≤ length (fan_out image ms)
 unfolding kept
 fan_kept image passes [] = omega arith
-fan_kept image passes (m ∷ ms) = go (passes m) (fan_kept image passes ms)
-  where
-    go : (b : Bool) → length (fan_out image (kept passes ms)) ≤ length (fan_out image ms) → length (fan_out image (keep b m (kept passes ms))) ≤ length (fan_out image (m ∷ ms))
-    go true h = omega (arith, fan_length image m ms, fan_length image m (kept passes ms))
-    go false h = omega (arith, fan_length image m ms)
+fan_kept image passes (m ∷ ms) =
+    let ih = fan_kept image passes ms in
+    let all = fan_length image m ms in
+    whether (passes m) (λ e. rw e (omega (arith, ih, all, fan_length image m (kept passes ms)))) (λ e. rw e (omega (arith, ih, all)))
 
 -- no more than the members and their features
 pub arrivals_most : (image : List ℕ) (calls : List Call) (ms : List Member) → length (arrivals image calls ms) ≤ length ms + length (fan_out image ms)
@@ -406,7 +379,7 @@ arrivals_most image (call ∷ calls) ms = go call.method (arrivals_most image ca
     go : (method : Method) → ((xs : List Member) → length (arrivals image calls xs) ≤ length xs + length (fan_out image xs))
         → length (arrive_by image method (true_for image call.args) (arrivals image calls) ms) ≤ length ms + length (fan_out image ms)
     go Where h =
-        omega (arith, h (kept (true_for image call.args) ms), kept_most (true_for image call.args) ms, fan_kept image (true_for image call.args) ms)
+        omega (arith, h (kept (true_for image call.args) ms), kept_le (true_for image call.args) ms, fan_kept image (true_for image call.args) ms)
     go All h = omega arith
     go Any h = omega arith
     go None h = omega arith
@@ -419,15 +392,15 @@ unfolding up_from
 up_length first zero = refl
 up_length first (suc n) = ap suc (up_length (suc first) n)
 
-made_length : (make : ℕ → Member) (first n : ℕ) → length (map make (up_from first n)) ≡ n
+pub made_length : (make : ℕ → Member) (first n : ℕ) → length (map make (up_from first n)) ≡ n
 made_length make first n = length-map (up_from first n) make ∙ up_length first n
 
 -- the features of components are those of the board, at most
-features_few : (image : List ℕ) (c : ℕ) → length (features_of image c) ≤ feature_number image c
+features_few : (image : List ℕ) (c : ℕ) → length (features_of image c) ≤ owned_features image c
 unfolding features_of features_end
 features_few image c = omega (arith, made_length (Feature c) (first_feature image c) (features_end image c - first_feature image c))
 
-components_features : (image : List ℕ) (first n : ℕ) → length (fan_out image (map Component (up_from first n))) ≤ total (feature_number image) first n
+components_features : (image : List ℕ) (first n : ℕ) → length (fan_out image (map Component (up_from first n))) ≤ total (owned_features image) first n
 unfolding up_from fan_out total
 components_features image first zero = omega arith
 components_features image first (suc n) =
@@ -452,7 +425,7 @@ diagnostics_fit_lem image calls passes =
     let ns = up_from 0 (diagnostic_count image) in
     let ms = map Diagnostic ns in
     let most = arrivals_most image calls (kept passes ms) in
-    omega (arith, most, kept_most passes ms, fan_kept image passes ms, made_length Diagnostic 0 (diagnostic_count image), ap length (diagnostics_fan image ns))
+    omega (arith, most, kept_le passes ms, fan_kept image passes ms, made_length Diagnostic 0 (diagnostic_count image), ap length (diagnostics_fan image ns))
 
 -- so they lie in the whole rows of the table
 pub rows_fit : (ms : List Member) (table : List ℕ) → length ms ≤ length table / COLLECTION_ROW → length (rows_of ms) ≤ whole_rows table
@@ -463,34 +436,28 @@ whole_within table = omega arith
 
 pub components_rows : (image : List ℕ) (calls : List Call) (table : List ℕ) → WellFormed image → Room image (length table)
     → length (rows_of (arrivals image calls (map Component (up_from 0 (component_count image))))) ≤ whole_rows table
-components_rows image calls table w r =
-    rows_fit (arrivals image calls (map Component (up_from 0 (component_count image)))) table (omega (arith, components_fit_lem image calls w))
+components_rows image calls table w r = rows_fit _ table (omega (arith, components_fit_lem image calls w))
 
 pub diagnostics_rows : (image : List ℕ) (calls : List Call) (passes : Member → Bool) (table : List ℕ) → Room image (length table)
     → length (rows_of (arrivals image calls (kept passes (map Diagnostic (up_from 0 (diagnostic_count image)))))) ≤ whole_rows table
-diagnostics_rows image calls passes table r =
-    rows_fit (arrivals image calls (kept passes (map Diagnostic (up_from 0 (diagnostic_count image))))) table (omega (arith, diagnostics_fit_lem image calls passes))
+diagnostics_rows image calls passes table r = rows_fit _ table (omega (arith, diagnostics_fit_lem image calls passes))
 
 -- ---- the sort of what arrives
 
 every_append : (passes : Member → Bool) (xs ys : List Member) → every passes xs ≡ true → every passes ys ≡ true → every passes (xs ++ ys) ≡ true
 unfolding every
 every_append passes [] ys p q = q
-every_append passes (x ∷ xs) ys p q = go (passes x) p (every_append passes xs ys)
-  where
-    go : (b : Bool) → (b && every passes xs) ≡ true → (every passes xs ≡ true → every passes ys ≡ true → every passes (xs ++ ys) ≡ true) → (b && every passes (xs ++ ys)) ≡ true
-    go true e h = h e q
-    go false e h = e
+every_append passes (x ∷ xs) ys p q =
+    let a = both (passes x) (every passes xs) p in
+    rw (a.0) (every_append passes xs ys a.1 q)
 
 every_kept : (passes chosen : Member → Bool) (ms : List Member) → every passes ms ≡ true → every passes (kept chosen ms) ≡ true
 unfolding every kept
 every_kept passes chosen [] e = refl
-every_kept passes chosen (m ∷ ms) e = go (passes m) refl (chosen m) e (every_kept passes chosen ms)
-  where
-    go : (b : Bool) → passes m ≡ b → (c : Bool) → (b && every passes ms) ≡ true → (every passes ms ≡ true → every passes (kept chosen ms) ≡ true) → every passes (keep c m (kept chosen ms)) ≡ true
-    go true p true h k = rw p (k h)
-    go true p false h k = k h
-    go false p c h k = absurd (false≢true h)
+every_kept passes chosen (m ∷ ms) e =
+    let a = both (passes m) (every passes ms) e in
+    let ih = every_kept passes chosen ms a.1 in
+    whether (chosen m) (λ c. rw (c, every, a.0) ih) (λ c. rw c ih)
 
 -- whether a member is of a sort
 abbrev pub is_of : Sort → Member → Bool

@@ -50,6 +50,11 @@ unfoldable pub kept : (Member → Bool) → List Member → List Member
 kept passes [] = []
 kept passes (m ∷ ms) = keep (passes m) m (kept passes ms)
 
+-- how many members pass a test
+unfoldable pub how_many : (Member → Bool) → List Member → ℕ
+unfolding kept
+how_many passes members = length (kept passes members)
+
 -- `iter.all(|v| v)`, `iter.any(|v| v)`
 unfoldable pub every : (Member → Bool) → List Member → Bool
 every passes [] = true

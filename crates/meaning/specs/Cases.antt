@@ -48,7 +48,8 @@ starred =
     ∷ says board_a "components = 3" (refused ParseErrors)
     ∷ []
 
--- what a collection holds; each entry of the table that is a refusal, and the leftmost call; the comparison's integer, and its left side first
+-- what a collection holds; each entry of the table that is a refusal, and the leftmost call; the comparison's integer, and its left side
+-- first
 unfoldable pub corners : List Case
 corners =
     says board_a "components.where(connected)" (collection components (Component 0 ∷ Component 1 ∷ []))

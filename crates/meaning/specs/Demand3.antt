@@ -10,7 +10,7 @@ use Rattle.grammar.specs.Texts.{where_method, all_method, any_method, none_metho
 use Rattle.predicate.specs.declared.atom.Member.{Member}
 use Rattle.predicate.specs.Truth.{truth}
 use Rattle.meaning.specs.Value.{Sort, Outcome, collection, boolean, count}
-use Rattle.meaning.specs.Calls.{kept, is_empty}
+use Rattle.meaning.specs.Calls.{kept, how_many, is_empty}
 use Rattle.meaning.specs.Outcome.{outcome, Lent, check_run, run}
 
 -- "P is true of a member (its sort and row) as demand 2's definitions say, by P, that member and the image alone"
@@ -24,10 +24,6 @@ members_for image p members = kept (true_of image p) members
 -- "P's count is the number of C's members for which P is true, C's count that of all, repeats counted"
 abbrev pub count_for : (image p : List ℕ) → List Member → ℕ
 count_for image p members = length (members_for image p members)
-
--- how many members pass a test
-abbrev pub how_many : (Member → Bool) → List Member → ℕ
-how_many test members = length (kept test members)
 
 -- the calls as texts, with a text set after
 abbrev pub where_text : (p z : List ℕ) → List ℕ

@@ -7,4 +7,3 @@ pub mod Outcome
 pub mod Cases
 pub mod Holds
 pub mod Demand3
-pub mod Numbers

@@ -1,6 +1,7 @@
 -- One member at a time through a list of calls: the kind that the calls come to, the members that arrive where the result is settled, and
--- the outcome by them. WalkLaws shows that this is what the calls give, collection after collection. Assumes nothing: these are definitions.
-use Rattle.std.specs.Prelude.{ℕ, Bool, true, false, cond, ◌&&◌, List, [], ◌∷◌, eqb, ltb, length, Ok, Err}
+-- the outcome by them. WalkLaws shows that this is what the calls give, collection after collection. Assumes nothing: these are
+-- definitions.
+use Rattle.std.specs.Prelude.{ℕ, Bool, true, false, cond, ◌&&◌, List, [], ◌∷◌, eqb, ltb, Ok, Err}
 use Rattle.std.proofs.Math.Option.{Option, none, some}
 use Rattle.predicate.specs.declared.atom.Member.{Member}
 use Rattle.meaning.specs.declared.ValueKind.{ValueKind}
@@ -82,11 +83,6 @@ test_in image (some call) m = is_quantifier call.method && true_for image call.a
 unfoldable pub last_test : (image : List ℕ) → List Call → Member → Bool
 unfolding last_call
 last_test image calls m = test_in image (last_call calls) m
-
--- how many members pass a test
-unfoldable pub how_many : (Member → Bool) → List Member → ℕ
-unfolding kept
-how_many passes members = length (kept passes members)
 
 -- a quantifier by two numbers: "`all` and `none` on an empty collection give a warned true"
 abbrev pub judged : Method → (arrived passed : ℕ) → Outcome

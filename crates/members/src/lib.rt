@@ -58,7 +58,7 @@ pub fn write_member(image: &[u8], value: Value, first: u32, second: u32, out: &m
 }
 
 // A component: its index and its category.
-pub fn write_component(image: &[u8], component: u32, out: &mut Writer<'_>)
+fn write_component(image: &[u8], component: u32, out: &mut Writer<'_>)
     ensures { Wrote (component_text image.now component) out.old out.new }
 {
     let category = image::category(image, component);
@@ -68,7 +68,7 @@ pub fn write_component(image: &[u8], component: u32, out: &mut Writer<'_>)
 }
 
 // A feature: its component's index, its name, its kind and its direction.
-pub fn write_feature(image: &[u8], component: u32, feature: u32, out: &mut Writer<'_>)
+fn write_feature(image: &[u8], component: u32, feature: u32, out: &mut Writer<'_>)
     ensures { Wrote (feature_text image.now component feature) out.old out.new }
 {
     let name = image::feature_name(image, feature);
@@ -94,7 +94,7 @@ fn write_port(image: &[u8], feature: u32, out: &mut Writer<'_>)
 }
 
 // A diagnostic: its severity and its message.
-pub fn write_diagnostic(image: &[u8], diagnostic: u32, out: &mut Writer<'_>)
+fn write_diagnostic(image: &[u8], diagnostic: u32, out: &mut Writer<'_>)
     ensures { Wrote (diagnostic_text image.now diagnostic) out.old out.new }
 {
     let severity = image::severity(image, diagnostic);

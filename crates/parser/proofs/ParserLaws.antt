@@ -1,19 +1,20 @@
 -- What the parser's methods ask and leave, put together as the definitions are, and what its looks see. Assumes nothing.
 use mathlib.Core.Path.{◌≡◌, refl, sym, ap, ◌∙◌}
 use mathlib.Core.List.{List, [], ◌∷◌}
-use mathlib.Core.Bool.{Bool, true, false, ◌&&◌, ◌||◌}
+use mathlib.Core.Bool.{Bool, true, false, ◌&&◌}
 use Prim.Native.Nat.{ℕ, ◌+◌, ◌-◌, ◌≤◌, ◌<◌, ◌^◌}
 use native.Mathlib.Omega.{arith}
 use lib.Dec.{eqb}
-use lib.Pointwise.{pointwise}
 use lib.ListN.{length, take, drop, length-drop}
 use lib.Seq.{sets}
-use Rattle.std.specs.Prelude.{Some, None, Result, Ok, Err, MatchResult}
+use Rattle.std.specs.Option.{is_some}
+use Rattle.std.specs.Prelude.{Option, Some, None, Result, Ok, Err, MatchResult}
 use borrow.Author.Tests.{ne_eqb}
 use Rattle.syntax.specs.Text.{ascii, same}
 use Rattle.lexer.specs.Lex.{Token, lex}
 use Rattle.lexer.proofs.ReadLaws.{lex_length}
 use Rattle.reader.specs.declared.Row.{Row}
+use Rattle.reader.specs.declared.Reader.{Reader}
 use Rattle.reader.specs.Reader.{row_at, kind_at, past_ws}
 use Rattle.reader.specs.Reader as reader
 use Rattle.trees.specs.Look.{skip_ws, at_kind, at_ident, first_kind, tail_of, current_text, is_comparison, at_text, at_predicate_method, at_plain_method}
@@ -71,20 +72,21 @@ module _ {s n : ExprParser} {p : Parser} (d : Did s n p) where
 pub next_fewer : {s n : ExprParser} → 0 < length (left s) → Did s n next → length (left n) < length (left s)
 next_fewer h d = fewer d (next_ahead h d.did)
 
-pub bump_fewer : {s n : ExprParser} (k : Kind) → at_kind (number k) (left s) ≡ true → Did s n bump → length (left n) < length (left s)
-bump_fewer k e d = let h = looks.kind_named k in fewer d (bump_ahead (sees_kind (number k) (λ q. omega arith)) e d.did)
+module _ {s n : ExprParser} {found : Bool} where
+  pub bump_fewer : (k : Kind) → found ≡ at_kind (number k) (left s) → found ≡ true → Did s n bump → length (left n) < length (left s)
+  bump_fewer k f e d = let h = looks.kind_named k in fewer d (bump_ahead (sees_kind (number k) (λ q. omega arith)) (sym f ∙ e) d.did)
 
-pub dot_fewer : {s n : ExprParser} → at_kind DOT (left s) ≡ true → Did s n (parse_dot_call (parse OrExpr)) → length (left n) < length (left s)
-dot_fewer e d = fewer d (dot_ahead e d.did)
+  pub dot_fewer : found ≡ at_kind DOT (left s) → found ≡ true → Did s n (parse_dot_call (parse OrExpr)) → length (left n) < length (left s)
+  dot_fewer f e d = fewer d (dot_ahead (sym f ∙ e) d.did)
 
 -- past blanks no blank comes next
 module _ {s n : ExprParser} (d : Did s n eat_ws) where
   eaten : skip_ws (left n) ≡ left n
   eaten = let r : left n ≡ skip_ws (left s) = rw d.keeps.rule (d.did.wrote.rest ∙ eat_rest (left s)) in ap skip_ws r ∙ skip_twice (left s) ∙ sym r
 
-  pub eaten_ident : (w : List ℕ) → at_ident w (left n) ≡ next_is_ident w (left n)
+  pub eaten_ident : {found : Bool} (w : List ℕ) → found ≡ at_ident w (left n) → found ≡ next_is_ident w (left n)
   unfolding at_ident next_is_ident
-  eaten_ident w = rw eaten
+  eaten_ident w e = rw eaten at e
 
 -- ---- a node
 
@@ -116,9 +118,9 @@ module _ {s n : ExprParser} {k row : ℕ} {p : Parser} (a : Asks s (in_node k p)
 pub started_left : {s n : ExprParser} {k row : ℕ} → Started s n k row → left n ≡ left s
 started_left o = let e = ap (λ (c : Cursor). c.token) o.started.cursor in rw (o.keeps.rule, e)
 
-pub node_fewer : {s n r : ExprParser} {j row : ℕ} (k : Kind) → at_kind (number k) (left s) ≡ true → Started s n j row → Did n r bump
+pub node_fewer : {s n r : ExprParser} {j row : ℕ} {found : Bool} (k : Kind) → found ≡ at_kind (number k) (left s) → found ≡ true → Started s n j row → Did n r bump
     → length (left r) < length (left s)
-node_fewer k e o d = omega (arith, bump_fewer k (rw (started_left o) e) d, ap length (started_left o))
+node_fewer k f e o d = omega (arith, bump_fewer k (rw (started_left o) f) e d, ap length (started_left o))
 
 pub did_node : {s n r t : ExprParser} {k row : ℕ} {p : Parser} → Started s n k row → Did n r p → Finished r t row → Did s t (in_node k p)
 did_node o d f =
@@ -144,18 +146,19 @@ module _ {s : ExprParser} {p q : Parser} (e : p (left s) ≡ q (left s)) where
   pub did_as : {n : ExprParser} → Did s n q → Did s n p
   did_as d = record { keeps = d.keeps; level = d.level; did = writing.did_as e d.did }
 
-module _ {s : ExprParser} (test : List Token → Bool) (p q : Parser) where
-  pub asks_true : test (left s) ≡ true → Asks s (choose test p q) → Asks s p
-  asks_true e a = asks_as (writing.choose_true test p q (left s) e) a
+-- a choice, by what the code found of its test
+module _ {s : ExprParser} {found : Bool} (test : List Token → Bool) (other : Parser) (f : found ≡ test (left s)) where
+  pub asks_true : {p : Parser} → found ≡ true → Asks s (choose test p other) → Asks s p
+  asks_true {p} e a = asks_as (writing.choose_true test p other (left s) (sym f ∙ e)) a
 
-  pub asks_false : test (left s) ≡ false → Asks s (choose test p q) → Asks s q
-  asks_false e a = asks_as (writing.choose_false test p q (left s) e) a
+  pub asks_false : {p : Parser} → found ≡ false → Asks s (choose test other p) → Asks s p
+  asks_false {p} e a = asks_as (writing.choose_false test other p (left s) (sym f ∙ e)) a
 
-  pub did_true : {n : ExprParser} → test (left s) ≡ true → Did s n p → Did s n (choose test p q)
-  did_true e d = did_as (writing.choose_true test p q (left s) e) d
+  pub did_true : {n : ExprParser} {p : Parser} → found ≡ true → Did s n p → Did s n (choose test p other)
+  did_true {p = p} e d = did_as (writing.choose_true test p other (left s) (sym f ∙ e)) d
 
-  pub did_false : {n : ExprParser} → test (left s) ≡ false → Did s n q → Did s n (choose test p q)
-  did_false e d = did_as (writing.choose_false test p q (left s) e) d
+  pub did_false : {n : ExprParser} {p : Parser} → found ≡ false → Did s n p → Did s n (choose test other p)
+  did_false {p = p} e d = did_as (writing.choose_false test other p (left s) (sym f ∙ e)) d
 
 -- nothing is done
 pub did_done : {s : ExprParser} → Ready s → Did s s done
@@ -171,57 +174,38 @@ pub record Ongoing (s d : ExprParser) (p q : Parser) : Type 0 where
 pub ongoing_start : {s : ExprParser} {p : Parser} → Asks s p → Ongoing s s p p
 ongoing_start a = record { asks = a; rest = λ r d. d; fewer = omega arith }
 
-module _ {s d : ExprParser} {p q : Parser} (g : Ongoing s d p q) where
-  pub ongoing_end : q (left d) ≡ done (left d) → Did s d p
-  ongoing_end e = g.rest d (did_as e (did_done g.asks.ready))
+module _ {s d : ExprParser} {p : Parser} where
+  pub ongoing_as : {q r : Parser} → q (left d) ≡ r (left d) → Ongoing s d p q → Ongoing s d p r
+  ongoing_as e g = record { asks = asks_as e g.asks; rest = λ n w. g.rest n (did_as e w); fewer = g.fewer }
 
-  module _ (q₁ q₂ : Parser) (e : q (left d) ≡ (q₁ ▹ q₂) (left d)) where
-    pub ongoing_asks : Asks d q₁
-    ongoing_asks = asks_first q₂ (asks_as e g.asks)
+  pub ongoing_end : Ongoing s d p done → Did s d p
+  ongoing_end g = g.rest d (did_done g.asks.ready)
 
-    pub ongoing_next : {a : ExprParser} → Did d a q₁ → Ongoing s a p q₂
-    ongoing_next w =
-        record {
-          asks = asks_then (asks_as e g.asks) w;
-          rest = λ r b. g.rest r (did_as e (did_then w b));
-          fewer = omega (arith, g.fewer, no_more w);
-        }
+  module _ {q : Parser} (r : Parser) (g : Ongoing s d p (q ▹ r)) where
+    pub ongoing_asks : Asks d q
+    ongoing_asks = asks_first r g.asks
+
+    pub ongoing_next : {n : ExprParser} → Did d n q → Ongoing s n p r
+    ongoing_next w = record { asks = asks_then g.asks w; rest = λ a b. g.rest a (did_then w b); fewer = omega (arith, g.fewer, no_more w) }
 
 -- ---- looks
 
--- `==` of two texts, as the definitions compare them
-pub compared : (x y : List ℕ) → pointwise eqb x y ≡ same x y
-compared [] [] = refl
-compared [] (b ∷ y) = refl
-compared (a ∷ x) [] = refl
-compared (a ∷ x) (b ∷ y) = ap (λ (t : Bool). eqb a b && t) (compared x y)
-
 -- the methods, by the text of the first token that is no blank
-pub predicate_method : (ts : List Token) → is_predicate_method (current_text ts) ≡ at_predicate_method ts
-unfolding at_predicate_method at_text
-predicate_method ts = refl
+module _ {text : List ℕ} {found : Bool} (ts : List Token) (t : text ≡ current_text ts) where
+  pub predicate_method : found ≡ is_predicate_method text → found ≡ at_predicate_method ts
+  unfolding at_predicate_method at_text
+  predicate_method e = rw t at e
 
-pub count_method : (ts : List Token) → same (current_text ts) (ascii "count") ≡ at_text (ascii "count") ts
-unfolding at_text
-count_method ts = refl
+  pub count_method : found ≡ same text (ascii "count") → found ≡ at_text (ascii "count") ts
+  unfolding at_text
+  count_method e = rw t at e
 
-pub plain_method : (ts : List Token) → is_plain_method (current_text ts) ≡ at_plain_method ts
-unfolding at_plain_method at_text
-plain_method ts = refl
+  pub plain_method : found ≡ is_plain_method text → found ≡ at_plain_method ts
+  unfolding at_plain_method at_text
+  plain_method e = rw t at e
 
 same_word : {k k' : ℕ} {x x' : List ℕ} (w : List ℕ) → k ≡ k' → x ≡ x' → (eqb k IDENT && same x w) ≡ (eqb k' IDENT && same x' w)
 same_word w p q = rw (p, q)
-
--- `a || b`, by what its parts gave
-pub or_then : {v r a : Bool} (b : Bool) → r ≡ a → r ≡ true → v ≡ r → v ≡ (a || b)
-or_then b e t w = w ∙ t ∙ sym (rw (sym e ∙ t))
-
-pub or_else : {v r r' a b : Bool} → r ≡ a → r ≡ false → v ≡ r' → r' ≡ b → v ≡ (a || b)
-or_else e f w q = w ∙ q ∙ sym (rw (sym e ∙ f))
-
-pub or_right : (a b d : Bool) → ((a || b) || d) ≡ (a || (b || d))
-or_right true b d = refl
-or_right false b d = refl
 
 module _ {s : ExprParser} (r : Ready s) where
   pub current_here : reader.current_kind s.tokens.now s.at.token ≡ first_kind (skip_ws (left s))
@@ -229,6 +213,14 @@ module _ {s : ExprParser} (r : Ready s) where
 
   pub next_here : kind_at s.tokens.now s.at.token ≡ first_kind (left s)
   next_here = kind_is (lex s.rule.now) r.here.rows s.at.token
+
+  -- whether a token is left, as the code finds it
+  module _ {kind : Option ℕ} (e : kind ≡ kind_at s.tokens.now s.at.token) where
+    pub some_left : true ≡ is_some kind → 0 < length (left s)
+    some_left t = looks.some_there (left s) (sym (rw (e, next_here) at t))
+
+    pub none_left : false ≡ is_some kind → length (left s) ≤ 0
+    none_left t = looks.none_there (left s) (sym (rw (e, next_here) at t))
 
   -- the place past blanks
   pub ahead_here : drop (past_ws s.tokens.now s.at.token) (lex s.rule.now) ≡ skip_ws (left s)
@@ -242,28 +234,36 @@ module _ {s : ExprParser} (r : Ready s) where
       let i = past_ws s.tokens.now s.at.token in
       current_is (lex s.rule.now) r.here.rows (i + 1) ∙ ap (λ (us : List Token). first_kind (skip_ws us)) (tail_drop (lex s.rule.now) i ∙ ap tail_of ahead_here)
 
-  text_there : {row : Row} → Some row ≡ row_at s.tokens.now (past_ws s.tokens.now s.at.token) → Seen s.rule.now (past_ws s.tokens.now s.at.token) row
-  text_there e = seen s.rule.now r.here.rows _ e
+  -- the row of the first token that is no blank, as the code looks for it
+  module _ {o : Option Row} (here past : Reader) (at : (here.rows ≡ s.tokens) × (here.place ≡ s.at.token)) (skipped : (past.rows ≡ here.rows) × (past.place ≡ past_ws here.rows.now here.place))
+      (found : o ≡ row_at past.rows.now past.place) where
+    row_ahead : o ≡ row_at s.tokens.now (past_ws s.tokens.now s.at.token)
+    row_ahead = rw (skipped.0, skipped.1, at.0, at.1) at found
 
-  pub text_here : {row : Row} → Some row ≡ row_at s.tokens.now (past_ws s.tokens.now s.at.token) → take (row.end - row.first) (drop row.first s.rule.now) ≡ current_text (left s)
-  text_here e = let w = text_there e in w.text ∙ sym (rw (← ahead_here, w.here))
+    text_there : {row : Row} → o ≡ Some row → Seen s.rule.now (past_ws s.tokens.now s.at.token) row
+    text_there e = seen s.rule.now r.here.rows _ (sym e ∙ row_ahead)
 
-  pub text_end : None ≡ row_at s.tokens.now (past_ws s.tokens.now s.at.token) → [] ≡ current_text (left s)
-  text_end e = let w = unseen s.rule.now r.here.rows _ e in rw (← ahead_here, w)
+    none_there : o ≡ None → skip_ws (left s) ≡ []
+    none_there e = sym ahead_here ∙ unseen s.rule.now r.here.rows _ (sym e ∙ row_ahead)
 
-  -- a word, by one look
-  pub ident_here : {row : Row} (w : List ℕ) → Some row ≡ row_at s.tokens.now (past_ws s.tokens.now s.at.token)
-      → at_ident w (left s) ≡ (eqb row.kind IDENT && same (take (row.end - row.first) (drop row.first s.rule.now)) w)
-  unfolding at_ident
-  ident_here w e = let t = text_there e in rw (← ahead_here, t.here) (same_word w (sym t.kind) (sym t.text))
+    pub text_here : {row : Row} → o ≡ Some row → take (row.end - row.first) (drop row.first s.rule.now) ≡ current_text (left s)
+    text_here e = let w = text_there e in w.text ∙ sym (rw (← ahead_here, w.here))
 
-  pub ident_end : (w : List ℕ) → None ≡ row_at s.tokens.now (past_ws s.tokens.now s.at.token) → at_ident w (left s) ≡ false
-  unfolding at_ident
-  ident_end w e = let n = unseen s.rule.now r.here.rows _ e in rw (← ahead_here, n)
+    pub text_end : o ≡ None → [] ≡ current_text (left s)
+    text_end e = rw (none_there e)
 
-  -- the bytes of a token are within the rule
-  pub text_within : {row : Row} → Some row ≡ row_at s.tokens.now (past_ws s.tokens.now s.at.token) → (row.first ≤ row.end) × (row.end ≤ length s.rule.now)
-  text_within e = let w = text_there e in (omega (arith, w.end), w.within)
+    -- a word, by one look
+    pub ident_here : {row : Row} (w : List ℕ) → o ≡ Some row → at_ident w (left s) ≡ (eqb row.kind IDENT && same (take (row.end - row.first) (drop row.first s.rule.now)) w)
+    unfolding at_ident
+    ident_here w e = let t = text_there e in rw (← ahead_here, t.here) (same_word w (sym t.kind) (sym t.text))
+
+    pub ident_end : (w : List ℕ) → o ≡ None → at_ident w (left s) ≡ false
+    unfolding at_ident
+    ident_end w e = rw (none_there e)
+
+    -- the bytes of a token are within the rule
+    pub text_within : {row : Row} → o ≡ Some row → (row.first ≤ row.end) × (row.end ≤ length s.rule.now)
+    text_within e = let w = text_there e in (omega (arith, w.end), w.within)
 
   pub tokens_few : length (lex s.rule.now) < 2 ^ 32
   tokens_few = omega (arith, lex_length s.rule.now, r.short)
@@ -274,7 +274,7 @@ module _ {s : ExprParser} (r : Ready s) where
 
   -- the row of an error at a place
   module _ (i form k : ℕ) where
-    abbrev error_of : List ℕ
+    abbrev pub error_of : List ℕ
     error_of = error_rows (length s.rule.now) (record { form = form; expected = k; left = drop i (lex s.rule.now) } ∷ [])
 
     pub error_here : {row : Row} → Some row ≡ row_at s.tokens.now i → (form ∷ k ∷ row.first ∷ row.end ∷ []) ≡ error_of
@@ -285,9 +285,9 @@ module _ {s : ExprParser} (r : Ready s) where
 
 -- ---- a token and an error
 
-module _ {s : ExprParser} {row : Row} (a : Asks s next) (e : Some row ≡ row_at s.tokens.now s.at.token) where
+module _ {s : ExprParser} {row : Row} {found : Option Row} (a : Asks s next) (f : found ≡ row_at s.tokens.now s.at.token) (e : found ≡ Some row) where
   token_there : Seen s.rule.now s.at.token row
-  token_there = seen s.rule.now a.ready.here.rows _ e
+  token_there = seen s.rule.now a.ready.here.rows _ (sym e ∙ f)
 
   pub token_room : s.at.row + 4 ≤ length s.tree.now
   token_room = let w = token_there in let l : 0 < length (left s) = rw w.here (omega arith) in looks.next_room a.room.fits l
@@ -300,8 +300,8 @@ module _ {s : ExprParser} {row : Row} (a : Asks s next) (e : Some row ≡ row_at
       (record { token = s.at.token + 1; byte = row.end; row = s.at.row + 4; error = s.at.error }) next
   did_token w = writing.did_next a.ready.here token_there w
 
-pub did_end : {s : ExprParser} → Ready s → None ≡ row_at s.tokens.now s.at.token → Did s s next
-did_end {s} r e = record { keeps = keeps_same; level = refl; did = writing.did_next_end r.here (unseen s.rule.now r.here.rows _ e) }
+pub did_end : {s : ExprParser} {found : Option Row} → Ready s → found ≡ row_at s.tokens.now s.at.token → found ≡ None → Did s s next
+did_end {s} r f e = record { keeps = keeps_same; level = refl; did = writing.did_next_end r.here (unseen s.rule.now r.here.rows _ (sym e ∙ f)) }
 
 module _ {s : ExprParser} (form k : ℕ) where
   pub fail_room : Asks s (fails form k) → s.at.error + 4 ≤ length s.errors.now

@@ -5,6 +5,7 @@ use Rattle.syntax.specs.Kinds.{number}
 use Rattle.syntax.specs.declared.kind.Kind.{Kind}
 use Rattle.std.proofs.lemmas.List.Edits.{sets}
 use Rattle.lexer.specs.Lex.{Token, lex}
+use Rattle.lexer.specs.Read.{TREE_ROW, ERROR_ROW}
 use Rattle.trees.specs.Parse.{Parser}
 use Rattle.trees.specs.Rows.{error_rows}
 use Rattle.trees.specs.Writing.{NoOpsFrom}
@@ -57,7 +58,7 @@ pub record Finished (s n : ExprParser) (row : ℕ) : Type 0 where
 
 -- s is inside the node of that row
 pub record Inside (s : ExprParser) (row : ℕ) : Type 0 where
-  pub room : row + 4 ≤ length s.tree.now
+  pub room : row + TREE_ROW ≤ length s.tree.now
   pub level : 0 < s.level
 
 -- an error row was written: the first of the tokens us was found
@@ -65,7 +66,7 @@ pub record Reported (s n : ExprParser) (form expected : ℕ) (us : List Token) :
   pub keeps : Keeps s n
   pub level : n.level ≡ s.level
   pub tree : n.tree.now ≡ s.tree.now
-  pub at : n.at ≡ record { token = s.at.token; byte = s.at.byte; row = s.at.row; error = s.at.error + 4 }
+  pub at : n.at ≡ record { token = s.at.token; byte = s.at.byte; row = s.at.row; error = s.at.error + ERROR_ROW }
   pub errors : n.errors.now ≡ sets s.errors.now s.at.error (error_rows (length s.rule.now) (record { form = form; expected = expected; left = us } ∷ []))
 
 -- the number of the kind expected in an error row

@@ -1,22 +1,22 @@
 // parser.rs: the green tree of a rule, as rows of a lent table, and the parse errors, as rows of another.
 #![tactic(auto)]
 
-ghost use Rattle.std.specs.Prelude.{◌≡◌, List, [], ◌∷◌, ℕ, ◌+◌, ◌*◌, ◌≤◌, ◌<◌, ◌^◌, ◌&&◌, leb, length, drop};
+ghost use Rattle.std.specs.Prelude.{◌≡◌, ◌+◌, ◌≤◌, ◌<◌, ◌^◌, ◌&&◌, leb, length, drop};
 ghost use Rattle.std.proofs.lemmas.List.Edits.{sets};
 ghost use Rattle.syntax.specs.Kind.{NONE};
 ghost use Rattle.syntax.specs.Kinds.{number};
 ghost use Rattle.syntax.specs.Forms as forms;
-ghost use Rattle.syntax.specs.Text.{ascii};
 ghost use Rattle.lexer.specs.Lex.{lex, token_rows};
 ghost use Rattle.lexer.specs.Read.{check_rule};
 ghost use Rattle.reader.specs.Reader.{row_at, kind_at};
 ghost use Rattle.trees.specs.Look.{skip_ws, tail_of, first_kind, current_text, at_kind, at_ident, at_message_dot, at_field, is_comparison, has_count_compare_ahead, has_binary_op_at_level};
-ghost use Rattle.trees.specs.Parse.{Parser, in_node, next, next_is, fails, fails_ahead, eat_ws, bump, expect, expect_ident, literal, call_expr, ident_expr, contains_expr, compare_expr, simple_atom, predicate_args, no_args, no_method, parse_method, parse_dot_call, parse, OrExpr, OrRest, AndExpr, AndRest, Atom, Calls, parse_source, parse_pipeline, parse_pipeline_or_count_compare, remaining, left_over, parse_root};
+ghost use Rattle.trees.specs.Parse.{Parser, in_node, next, next_is, fails, fails_ahead, eat_ws, bump, expect, expect_ident, literal, call_expr, ident_expr, contains_expr, compare_expr, simple_atom, predicate_args, no_args, no_method, parse_method, parse_dot_call, parse, OrExpr, AndExpr, Atom, Calls, parse_source, parse_pipeline, parse_pipeline_or_count_compare, remaining, left_over, parse_root};
 ghost use Rattle.trees.specs.Read.{check_tables, Reads};
 ghost use Rattle.trees.specs.Writing.{NoneFrom, NoOpsFrom};
 ghost use Rattle.trees.specs.Writing as tables;
 ghost use Rattle.parser.specs.Parser.{left, Ready, Asks, Did, Started, Inside, Finished, Reported, expected_number, is_predicate_method, is_plain_method};
 
+use lexer::limits::{ERROR_ROW, MAX_RULE, TOKEN_ROW, TREE_ROW};
 use reader::{Reader, Row};
 use syntax::form::Form;
 use syntax::kind::Kind;
@@ -36,18 +36,18 @@ pub fn parse_expr(rule: &[u8], tokens: &mut [u32], tree: &mut [u32], errors: &mu
 pub fn parse_rule(rule: &[u8], tokens: &mut [u32], tree: &mut [u32], errors: &mut [u32]) -> Reading
     ensures { Reads (check_tables (length rule.now) (length tokens.old) (length tree.old) (length errors.old)) rule.now tokens.old tokens.new tree.old tree.new errors.old errors.new result }
 {
-    if lexer::limits::MAX_RULE < rule.len() {
+    if MAX_RULE < rule.len() {
         return Err(Refusal::RuleTooLong);
     }
     if lexer::tables_short(rule.len(), tokens.len(), tree.len(), errors.len()) {
         return Err(Refusal::TableTooShort);
     }
     let n = lexer::lex(rule, tokens)?;
-    let end = parse_tokens(rule, &tokens[..3 * n], tree, errors);
+    let end = parse_tokens(rule, &tokens[..TOKEN_ROW * n], tree, errors);
     Ok(Rows {
         tokens: n,
-        tree: end.row / 4,
-        errors: end.error / 4,
+        tree: end.row / TREE_ROW,
+        errors: end.error / ERROR_ROW,
     })
 }
 
@@ -71,8 +71,8 @@ fn parse_tokens(rule: &[u8], tokens: &[u32], tree: &mut [u32], errors: &mut [u32
     parser.at
 }
 
-// The rule and its token rows, the two tables that are written, the level of the tree's next row, where the parser stands, and from where on
-// no `and` and no `or` comes.
+// The rule and its token rows, the two tables that are written, the level of the tree's next row, where the parser stands, and from where
+// on no `and` and no `or` comes.
 #[derive(Drop)]
 struct ExprParser<'a> {
     rule: &'a [u8],
@@ -108,23 +108,25 @@ fn past_last(rule: &[u8], tokens: &[u32], kind: Kind) -> usize
     ensures { NoneFrom (number kind) (lex rule.now) result }
 {
     let wanted = u32::from(kind);
-    for i in (0..tokens.len() / 3).rev() {
-        if tokens[3 * i] == wanted {
+    for i in (0..tokens.len() / TOKEN_ROW).rev() {
+        if tokens[TOKEN_ROW * i] == wanted {
             return i + 1;
         }
     }
     0
 }
 
-// Writes a row of four numbers from `at` on. It is private, as it asks for room; a public one would have to say what it does without.
-fn put_row(table: &mut [u32], at: usize, row: [u32; 4])
-    requires { at + 4 ≤ length table.old }
+// Writes a row of the tree table from `at` on, or of the error table, which is as wide.
+#[tactic(auto, using(lexer::proofs::ReadLaws::put_is))]
+fn put_row(table: &mut [u32], at: usize, row: [u32; TREE_ROW])
+    requires { at + TREE_ROW ≤ length table.old }
     ensures { table.new ≡ sets table.old at row }
 {
-    table[at..at + 4].copy_from_slice(&row);
+    table[at..at + TREE_ROW].copy_from_slice(&row);
 }
 
 // `>= > <= < == !=`
+#[tactic(auto, unfolding(trees::specs::Look::is_comparison))]
 fn is_comparison(kind: Kind) -> bool
     ensures { result ≡ is_comparison (number kind) }
 {
@@ -166,6 +168,7 @@ impl<'a> ExprParser<'a> {
     }
 
     // The kind of the first token that is no blank.
+    #[tactic(auto, using(crate::proofs::ParserLaws::current_here))]
     fn current_kind(&self) -> Option<u32>
         requires { Ready self.now }
         ensures { result ≡ first_kind (skip_ws (left self.now)) }
@@ -184,6 +187,7 @@ impl<'a> ExprParser<'a> {
         &self.rule[row.first as usize..row.end as usize]
     }
 
+    #[tactic(auto, using(trees::proofs::LookLaws::kind_test))]
     fn at_kind(&self, kind: Kind) -> bool
         requires { Ready self.now }
         ensures { result ≡ at_kind (number kind) (left self.now) }
@@ -213,6 +217,7 @@ impl<'a> ExprParser<'a> {
     }
 
     // `message` with a `.` after it: `peek_kind(1)`, the kind of the second token that is no blank, is asked.
+    #[tactic(auto, using(trees::proofs::LookLaws::head_test), unfolding(trees::specs::Look::at_message_dot, trees::specs::Look::peek_kind))]
     fn at_message_dot(&self) -> bool
         requires { Ready self.now }
         ensures { result ≡ at_message_dot (left self.now) }
@@ -230,6 +235,7 @@ impl<'a> ExprParser<'a> {
     }
 
     // Whether the next token is of this kind.
+    #[tactic(auto, using(trees::proofs::LookLaws::next_test, crate::proofs::ParserLaws::next_here))]
     fn next_is(&self, kind: Kind) -> bool
         requires { Ready self.now }
         ensures { result ≡ next_is (number kind) (left self.now) }
@@ -238,6 +244,7 @@ impl<'a> ExprParser<'a> {
     }
 
     // The kind of the next token.
+    #[tactic(auto, unfolding(reader::specs::Reader::kind_at))]
     fn next_kind(&self) -> Option<u32>
         requires { Ready self.now }
         ensures { result ≡ kind_at self.now.tokens.now self.now.at.token }
@@ -246,11 +253,12 @@ impl<'a> ExprParser<'a> {
     }
 
     // The next token, as the reader finds it; its place is known to be within the rows, so no division is needed for it.
+    #[tactic(auto, using(reader::proofs::ReaderLaws::row_some, reader::proofs::ReaderLaws::row_none, trees::proofs::TokenLaws::table_length, crate::proofs::ParserLaws::tokens_few))]
     fn next_row(&self) -> Option<Row>
         requires { Ready self.now }
         ensures { result ≡ row_at self.now.tokens.now self.now.at.token }
     {
-        let at = 3 * self.at.token;
+        let at = TOKEN_ROW * self.at.token;
         if self.tokens.len() <= at {
             return None;
         }
@@ -333,7 +341,7 @@ impl ExprParser<'_> {
         put_row(self.tree, self.at.row, row);
         self.at.token += 1;
         self.at.byte = token.end;
-        self.at.row += 4;
+        self.at.row += TREE_ROW;
     }
 
     // A node's row, whose end `finish_node` sets; what comes next stands inside it.
@@ -344,7 +352,7 @@ impl ExprParser<'_> {
         let node = self.at.row;
         let row = [kind as u32, self.level, self.at.byte, self.at.byte];
         put_row(self.tree, node, row);
-        self.at.row += 4;
+        self.at.row += TREE_ROW;
         self.level += 1;
         node
     }
@@ -380,7 +388,7 @@ impl ExprParser<'_> {
     #[inline(never)]
     fn put_error(&mut self, form: Form, expected: Option<Kind>, found: usize)
         requires ready { Ready self.old }
-        requires room { self.old.at.error + 4 ≤ length self.old.errors.now }
+        requires room { self.old.at.error + ERROR_ROW ≤ length self.old.errors.now }
         ensures { Reported self.old self.new (forms.number form) (expected_number expected) (drop found (lex self.old.rule.now)) }
     {
         let form = u32::from(form);
@@ -391,7 +399,7 @@ impl ExprParser<'_> {
             None => [form, expected, end, end],
         };
         put_row(self.errors, self.at.error, row);
-        self.at.error += 4;
+        self.at.error += ERROR_ROW;
     }
 }
 
@@ -442,8 +450,8 @@ impl ExprParser<'_> {
         ensures { result ≡ has_count_compare_ahead (left self.now) }
     {
         let mut integer = false;
-        for i in (self.at.token..self.tokens.len() / 3).rev() {
-            let kind = self.tokens[3 * i];
+        for i in (self.at.token..self.tokens.len() / TOKEN_ROW).rev() {
+            let kind = self.tokens[TOKEN_ROW * i];
             if kind == Kind::Whitespace as u32 {
                 continue;
             }
@@ -635,7 +643,7 @@ impl ExprParser<'_> {
         let mut depth: usize = 0;
         let mut found_first_atom = false;
         for i in self.at.token..end {
-            let kind = self.tokens[3 * i];
+            let kind = self.tokens[TOKEN_ROW * i];
             if kind == Kind::Whitespace as u32 {
                 continue;
             }
@@ -696,6 +704,7 @@ impl ExprParser<'_> {
         }
     }
 
+    #[tactic(auto, unfolding(trees::specs::Look::at_field))]
     fn at_field(&self) -> bool
         requires { Ready self.now }
         ensures { result ≡ at_field (left self.now) }

@@ -14,9 +14,12 @@ use Rattle.syntax.specs.declared.kind.UnknownKind.{UnknownKind}
 use Rattle.trees.specs.Green.{Forest, nil, node}
 use Rattle.predicate.specs.declared.Evaluator.{Evaluator}
 use Rattle.predicate.specs.declared.atom.Member.{Member}
-use Rattle.predicate.specs.Truth.{literal_of, field_of, connected, has, compares, message_contains, sort_of, settle, truths, truth}
+use Rattle.predicate.specs.Truth.{literal_of, field_of, has, compares, message_contains, sort_of, settle, truths, truth}
 use Rattle.predicate.specs.Rows.{ROW, kind_at, children_at, node_at}
-use Rattle.predicate.specs.Eval.{truth_at, settled_at}
+use Rattle.predicate.specs.Eval.{truth_at, settled, settled_at}
+use Rattle.predicate.specs.Atoms.{atom_truth, AtomAt}
+use Rattle.predicate.specs.declared.atom.Atom.TheVariants.{Connected, Has, MessageContains, Compares, Other}
+use Rattle.std.proofs.Common.{Bor}
 
 -- a node by the kind of its row and its children
 module _ (ev : Evaluator) (at : ℕ) where
@@ -34,48 +37,51 @@ module _ (ev : Evaluator) (at : ℕ) where
   pub settled_kind : {kind : ℕ} → kind_at ev.tree.now at ≡ kind → of_kind kind ≡ settled_at ev at
   settled_kind e = sym (ap of_kind e)
 
-  module _ {r : Bool} where
-    pub settled_ident : kind_at ev.tree.now at ≡ IDENT_EXPR → r ≡ connected ev.image.now ev.member → r ≡ settled_at ev at
-    unfolding sort_of settle
-    settled_ident e h = h ∙ settled_kind e
+-- the atom whose row is at a place, by the kind of the row and the texts inside
+module _ (rule tree : List ℕ) (at : ℕ) where
+  by_kind : {kind : ℕ} → kind_at tree at ≡ kind → (image : List ℕ) (m : Member)
+      → let f : Forest = children_at rule tree at in settle image m (sort_of kind) f (truths image m f) ≡ settled rule image tree m at
+  by_kind e image m = let f : Forest = children_at rule tree at in sym (ap (λ (k : ℕ). settle image m (sort_of k) f (truths image m f)) e)
 
-    -- by the texts inside
-    module _ {value : List ℕ} (v : value ≡ literal_of (children_at ev.rule.now ev.tree.now at)) where
-      pub settled_call : kind_at ev.tree.now at ≡ CALL_EXPR → r ≡ has ev.image.now ev.member value → r ≡ settled_at ev at
-      unfolding sort_of settle
-      settled_call e h = h ∙ ap (has ev.image.now ev.member) v ∙ settled_kind e
+  pub atom_connected : kind_at tree at ≡ IDENT_EXPR → AtomAt rule tree at Connected
+  unfolding sort_of settle atom_truth
+  atom_connected e = record { so = by_kind e }
 
-      pub settled_contains : kind_at ev.tree.now at ≡ CONTAINS_EXPR → r ≡ message_contains ev.image.now ev.member value → r ≡ settled_at ev at
-      unfolding sort_of settle
-      settled_contains e h = h ∙ ap (message_contains ev.image.now ev.member) v ∙ settled_kind e
+  module _ {value : Bor (List ℕ)} (v : value.now ≡ literal_of (children_at rule tree at)) where
+    pub atom_has : kind_at tree at ≡ CALL_EXPR → AtomAt rule tree at (Has value)
+    unfolding sort_of settle atom_truth
+    atom_has e = record { so = λ image m. ap (has image m) v ∙ by_kind e image m }
 
-      pub settled_compare : {field : List ℕ} → field ≡ field_of (children_at ev.rule.now ev.tree.now at) → kind_at ev.tree.now at ≡ COMPARE_EXPR
-          → r ≡ compares ev.image.now ev.member field value → r ≡ settled_at ev at
-      unfolding sort_of settle
-      settled_compare {field} f e h =
-          h
-          ∙ ap (compares ev.image.now ev.member field) v
-          ∙ ap (λ (x : List ℕ). compares ev.image.now ev.member x (literal_of (children_at ev.rule.now ev.tree.now at))) f
-          ∙ settled_kind e
+    pub atom_contains : kind_at tree at ≡ CONTAINS_EXPR → AtomAt rule tree at (MessageContains value)
+    unfolding sort_of settle atom_truth
+    atom_contains e = record { so = λ image m. ap (message_contains image m) v ∙ by_kind e image m }
 
-  pub settled_other : (kind_at ev.tree.now at ≡ BINARY_EXPR → ⊥) → (kind_at ev.tree.now at ≡ UNARY_EXPR → ⊥) → (kind_at ev.tree.now at ≡ PAREN_EXPR → ⊥)
-      → (kind_at ev.tree.now at ≡ IDENT_EXPR → ⊥) → (kind_at ev.tree.now at ≡ CALL_EXPR → ⊥) → (kind_at ev.tree.now at ≡ CONTAINS_EXPR → ⊥) → (kind_at ev.tree.now at ≡ COMPARE_EXPR → ⊥)
-      → false ≡ settled_at ev at
-  unfolding sort_of settle
-  settled_other b u p i c n q =
-      sym (rw (ne_eqb _ BINARY_EXPR b, ne_eqb _ UNARY_EXPR u, ne_eqb _ PAREN_EXPR p, ne_eqb _ IDENT_EXPR i, ne_eqb _ CALL_EXPR c, ne_eqb _ CONTAINS_EXPR n, ne_eqb _ COMPARE_EXPR q))
+    pub atom_compares : {field : Bor (List ℕ)} → field.now ≡ field_of (children_at rule tree at) → kind_at tree at ≡ COMPARE_EXPR → AtomAt rule tree at (Compares field value)
+    unfolding sort_of settle atom_truth
+    atom_compares {field} f e =
+        record {
+          so = λ image m.
+              ap (compares image m field.now) v
+              ∙ ap (λ (x : List ℕ). compares image m x (literal_of (children_at rule tree at))) f
+              ∙ by_kind e image m;
+        }
+
+  pub atom_other : (kind_at tree at ≡ BINARY_EXPR → ⊥) → (kind_at tree at ≡ UNARY_EXPR → ⊥) → (kind_at tree at ≡ PAREN_EXPR → ⊥)
+      → (kind_at tree at ≡ IDENT_EXPR → ⊥) → (kind_at tree at ≡ CALL_EXPR → ⊥) → (kind_at tree at ≡ CONTAINS_EXPR → ⊥) → (kind_at tree at ≡ COMPARE_EXPR → ⊥)
+      → AtomAt rule tree at Other
+  unfolding sort_of settle atom_truth
+  atom_other b u p i c n q =
+      record {
+        so = λ image m.
+            sym (rw (ne_eqb _ BINARY_EXPR b, ne_eqb _ UNARY_EXPR u, ne_eqb _ PAREN_EXPR p, ne_eqb _ IDENT_EXPR i, ne_eqb _ CALL_EXPR c, ne_eqb _ CONTAINS_EXPR n, ne_eqb _ COMPARE_EXPR q));
+      }
 
   -- a number that is no kind's
-  pub settled_none : {named : Result Kind UnknownKind} {e : UnknownKind} → Names (kind_at ev.tree.now at) named → named ≡ Err e → false ≡ settled_at ev at
-  settled_none n h =
-      let above = (subst (Names (kind_at ev.tree.now at)) h n).0 in
-      settled_other (λ q. omega arith) (λ q. omega arith) (λ q. omega arith) (λ q. omega arith) (λ q. omega arith) (λ q. omega arith) (λ q. omega arith)
+  pub atom_none : {named : Result Kind UnknownKind} {e : UnknownKind} → Names (kind_at tree at) named → named ≡ Err e → AtomAt rule tree at Other
+  atom_none n h =
+      let above = (subst (Names (kind_at tree at)) h n).0 in
+      atom_other (λ q. omega arith) (λ q. omega arith) (λ q. omega arith) (λ q. omega arith) (λ q. omega arith) (λ q. omega arith) (λ q. omega arith)
 
--- the truth of a node whose row is at a place, by its kind
-pub of_kind_lem : (rule image tree : List ℕ) (m : Member) (at : ℕ) → at + ROW ≤ length tree → {kind : ℕ} → kind_at tree at ≡ kind
-    → settle image m (sort_of kind) (children_at rule tree at) (truths image m (children_at rule tree at)) ≡ truth image m (node_at rule tree at)
-unfolding truth truths node_at
-of_kind_lem rule image tree m at h e =
-    let f : Forest = children_at rule tree at in
-    sym (ap (λ (there : Bool). truth image m (cond there (node (kind_at tree at) f nil) nil)) (le-leb (at + ROW) (length tree) h)
-    ∙ ap (λ (k : ℕ). settle image m (sort_of k) f (truths image m f)) e)
+  pub settled_none : {named : Result Kind UnknownKind} {e : UnknownKind} → Names (kind_at tree at) named → named ≡ Err e → (image : List ℕ) (m : Member) → false ≡ settled rule image tree m at
+  unfolding atom_truth
+  settled_none n h = (atom_none n h).so

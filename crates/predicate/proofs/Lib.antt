@@ -4,3 +4,4 @@ pub mod NodeLaws
 pub mod AtomLaws
 pub mod EvalLaws
 pub mod ReadBackLaws
+pub mod AskedLaws

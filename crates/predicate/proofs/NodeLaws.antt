@@ -1,10 +1,9 @@
 -- The node whose row is at a place: the first row inside that passes a test, and the texts inside. Assumes nothing.
 use mathlib.Core.Path.{◌≡◌, refl, sym, ap, ◌∙◌, subst}
-use mathlib.Core.Bool.{Bool, true, false, ◌&&◌, cond}
+use mathlib.Core.Bool.{Bool}
 use mathlib.Core.List.{List, [], ◌∷◌, cons≢nil}
 use Prim.Native.Nat.{ℕ, suc, ◌+◌, ◌-◌, ◌≤◌, ◌<◌}
 use native.Mathlib.Omega.{arith}
-use lib.Dec.{eqb, ltb}
 use lib.ListN.{length, take, drop, length-drop, drop_of_length-le}
 use lib.Seq.{drop-drop}
 use Rattle.std.proofs.lemmas.List.{get_or-drop}
@@ -14,8 +13,8 @@ use Rattle.std.specs.Prelude.{Option, None, Some}
 use Rattle.predicate.specs.Truth.{content, first_text, literal_of}
 use Rattle.predicate.specs.Rows.{ROW, level_at, text_at, forest, forest_from, children_at, of_kind, rows_from, place_in, first_row}
 use Rattle.predicate.specs.Eval.{FoundAt, FoundNowhere, Finds}
-use Rattle.predicate.proofs.RowLaws.{row_and, drop_row, short_forest}
-use Rattle.predicate.proofs.ForestLaws.{forest_token, forest_node, found_passes, Ignores, ignored}
+use Rattle.predicate.proofs.RowLaws.{by_found, row_and, drop_row}
+use Rattle.predicate.proofs.ForestLaws.{forest_token, forest_node, Ignores, ignored}
 
 -- how many numbers before the row found stand
 record Before (rows found : List ℕ) : Type 0 where
@@ -24,37 +23,20 @@ record Before (rows found : List ℕ) : Type 0 where
   whole : skipped + ROW ≤ length rows
 
 found_before : (test : ℕ → Bool) (level : ℕ) (rows : List ℕ) (x : ℕ) (more : List ℕ) → rows_from test level rows ≡ x ∷ more → Before rows (rows_from test level rows)
-unfolding rows_from
-found_before test level [] x more h = absurd (cons≢nil (sym h))
-found_before test level (k ∷ []) x more h = absurd (cons≢nil (sym h))
-found_before test level (k ∷ m ∷ []) x more h = absurd (cons≢nil (sym h))
-found_before test level (k ∷ m ∷ a ∷ []) x more h = absurd (cons≢nil (sym h))
-found_before test level (k ∷ m ∷ a ∷ e ∷ rows) x more h = go (found_before test level rows x more) (ltb m level) h
-  where
-    IH : Type 0
-    IH = rows_from test level rows ≡ x ∷ more → Before rows (rows_from test level rows)
-
-    further : Before rows (rows_from test level rows) → Before (k ∷ m ∷ a ∷ e ∷ rows) (rows_from test level rows)
-    further b = record { skipped = suc (suc (suc (suc b.skipped))); here = b.here; whole = omega (arith, b.whole) }
-
-    on : IH → (t : Bool) → cond t (k ∷ m ∷ a ∷ e ∷ rows) (rows_from test level rows) ≡ x ∷ more
-        → Before (k ∷ m ∷ a ∷ e ∷ rows) (cond t (k ∷ m ∷ a ∷ e ∷ rows) (rows_from test level rows))
-    on ih true h = record { skipped = 0; here = refl; whole = omega arith }
-    on ih false h = further (ih h)
-
-    go : IH → (t : Bool) → cond t [] (cond (eqb m level && test k) (k ∷ m ∷ a ∷ e ∷ rows) (rows_from test level rows)) ≡ x ∷ more
-        → Before (k ∷ m ∷ a ∷ e ∷ rows) (cond t [] (cond (eqb m level && test k) (k ∷ m ∷ a ∷ e ∷ rows) (rows_from test level rows)))
-    go ih true h = absurd (cons≢nil (sym h))
-    go ih false h = on ih (eqb m level && test k) h
+found_before test level rows x more =
+    by_found test level (λ rows found. found ≡ x ∷ more → Before rows found)
+    (λ rows l h. absurd (cons≢nil (sym h)))
+    (λ k m a e rows l h. absurd (cons≢nil (sym h)))
+    (λ k m a e rows l p h. record { skipped = 0; here = refl; whole = omega arith })
+    (λ k m a e rows l p ih h. record { skipped = suc (suc (suc (suc (ih h).skipped))); here = (ih h).here; whole = omega (arith, (ih h).whole) }) rows
 
 -- the first row that passes is the one found, and there is none where none is
 module _ {test : ℕ → Bool} {tree : List ℕ} {level from : ℕ} where
   pub first_found : {at : ℕ} → FoundAt test tree level from at → Some at ≡ first_row test tree level from
   unfolding first_row place_in
-  first_found {at} f = place ∙ ap (place_in tree) (sym (drop_row tree at f.whole) ∙ f.here)
-    where
-      place : Some at ≡ place_in tree (row_and tree at)
-      place = ap Some (omega (arith, length-drop (at + ROW) tree, f.whole))
+  first_found {at} f =
+      let place : Some at ≡ place_in tree (row_and tree at) = ap Some (omega (arith, length-drop (at + ROW) tree, f.whole)) in
+      place ∙ ap (place_in tree) (sym (drop_row tree at f.whole) ∙ f.here)
 
   pub first_nowhere : FoundNowhere test tree level from → None ≡ first_row test tree level from
   unfolding first_row place_in
@@ -144,19 +126,14 @@ no_text rule (k ∷ m ∷ a ∷ e ∷ rows) h = absurd (omega arith)
 -- it is the text of the row found
 pub text_in : (rule : List ℕ) (kind : ℕ) (tree : List ℕ) (level from : ℕ) → kind < ROOT → text_at rule (rows_from (of_kind kind) level (drop from tree)) 0 ≡ first_text kind (forest_from rule tree level from)
 unfolding first_text forest_from
-text_in rule kind tree level from h = go (rows_from (of_kind kind) level (drop from tree)) refl ∙ sym (ignored (text_ignores kind) rule level (drop from tree))
-  where
-    short : (r : List ℕ) → length r < ROW → text_at rule r 0 ≡ first_text kind (forest rule level r)
-    short r l = sym (no_text rule r l) ∙ sym (ap (first_text kind) (short_forest rule level r l))
-
-    go : (r : List ℕ) → rows_from (of_kind kind) level (drop from tree) ≡ r → text_at rule r 0 ≡ first_text kind (forest rule level r)
-    go [] e = short [] (omega arith)
-    go (k ∷ []) e = short (k ∷ []) (omega arith)
-    go (k ∷ m ∷ []) e = short (k ∷ m ∷ []) (omega arith)
-    go (k ∷ m ∷ a ∷ []) e = short (k ∷ m ∷ a ∷ []) (omega arith)
-    go (k ∷ m ∷ a ∷ b ∷ more) e =
-        let p = found_passes (of_kind kind) level (drop from tree) k m a b more e in
-        sym (ap (first_text kind) (forest_token rule (k ∷ m ∷ a ∷ b ∷ more) level 0 (omega arith) p.level_is (omega (arith, eqb-true k kind p.kind_is))) ∙ rw (p.kind_is, first_text))
+text_in rule kind tree level from h =
+    by_found (of_kind kind) level (λ rows found. text_at rule found 0 ≡ first_text kind (forest rule level found))
+    (λ rows l. refl)
+    (λ k m a e rows l. refl)
+    (λ k m a e rows l p.
+    sym (ap (first_text kind) (forest_token rule (k ∷ m ∷ a ∷ e ∷ rows) level 0 (omega arith) l (omega (arith, eqb-true k kind p))) ∙ rw (p, first_text)))
+    (λ k m a e rows l p ih. ih) (drop from tree)
+    ∙ sym (ignored (text_ignores kind) rule level (drop from tree))
 
 -- the literal of a node looks at no other row
 literal_ignores : Ignores (of_kind LITERAL) literal_of
@@ -166,20 +143,15 @@ literal_ignores = record { tokens = λ t f e. refl; nodes = λ k s f l e. rw (e,
 -- it is in the row found
 pub literal_in : (rule tree : List ℕ) (level from : ℕ) → content (first_text STRING_LIT (children_at rule (rows_from (of_kind LITERAL) level (drop from tree)) 0)) ≡ literal_of (forest_from rule tree level from)
 unfolding literal_of first_text content forest_from forest
-literal_in rule tree level from = go (rows_from (of_kind LITERAL) level (drop from tree)) refl ∙ sym (ignored literal_ignores rule level (drop from tree))
-  where
-    short : (r : List ℕ) → length r < ROW → content (first_text STRING_LIT (children_at rule r 0)) ≡ literal_of (forest rule level r)
-    short r l = ap (λ (rest : List ℕ). content (first_text STRING_LIT (forest rule (level_at r 0 + 1) rest))) (drop_of_length-le r {i = ROW} (omega arith)) ∙ sym (ap literal_of (short_forest rule level r l))
-
-    go : (r : List ℕ) → rows_from (of_kind LITERAL) level (drop from tree) ≡ r → content (first_text STRING_LIT (children_at rule r 0)) ≡ literal_of (forest rule level r)
-    go [] e = short [] (omega arith)
-    go (k ∷ []) e = short (k ∷ []) (omega arith)
-    go (k ∷ m ∷ []) e = short (k ∷ m ∷ []) (omega arith)
-    go (k ∷ m ∷ a ∷ []) e = short (k ∷ m ∷ a ∷ []) (omega arith)
-    go (k ∷ m ∷ a ∷ b ∷ more) e =
-        let p = found_passes (of_kind LITERAL) level (drop from tree) k m a b more e in
-        ap (λ (l : ℕ). content (first_text STRING_LIT (forest rule (l + 1) more))) p.level_is
-        ∙ sym (ap literal_of (forest_node rule (k ∷ m ∷ a ∷ b ∷ more) level 0 (omega arith) p.level_is (omega (arith, eqb-true k LITERAL p.kind_is))) ∙ rw (p.kind_is, literal_of))
+literal_in rule tree level from =
+    by_found (of_kind LITERAL) level (λ rows found. content (first_text STRING_LIT (children_at rule found 0)) ≡ literal_of (forest rule level found))
+    (λ rows l. refl)
+    (λ k m a e rows l. refl)
+    (λ k m a e rows l p.
+    ap (λ (n : ℕ). content (first_text STRING_LIT (forest rule (n + 1) rows))) l
+    ∙ sym (ap literal_of (forest_node rule (k ∷ m ∷ a ∷ e ∷ rows) level 0 (omega arith) l (omega (arith, eqb-true k LITERAL p))) ∙ rw (p, literal_of)))
+    (λ k m a e rows l p ih. ih) (drop from tree)
+    ∙ sym (ignored literal_ignores rule level (drop from tree))
 
 -- a node by the rows that begin with its own
 pub children_tail : (rule tree : List ℕ) (at : ℕ) → children_at rule (drop at tree) 0 ≡ children_at rule tree at

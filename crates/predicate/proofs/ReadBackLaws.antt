@@ -16,7 +16,7 @@ use Rattle.trees.proofs.GreenLaws.{tokens_of}
 use Rattle.trees.specs.Parse.{Parsed, Parser, done, next, fails, fails_ahead, join, ◌▹◌, in_node, choose, eat_ws, Mode, OrExpr, OrRest, AndExpr, AndRest, Atom, Calls, step, steps, parse, parse_pipeline_or_count_compare, remaining, parse_root, parse_expr}
 use Rattle.trees.specs.Look.{is_blank}
 use Rattle.trees.specs.Rows.{tree_rows}
-use Rattle.trees.proofs.TreeLaws.{Kinds, kinds_lex, tree_tokens}
+use Rattle.trees.proofs.TreeLaws.{Kinds, kinds_right, kinds_lex, tree_tokens}
 use Rattle.syntax.specs.Text.{bytes_between}
 use Rattle.predicate.specs.Rows.{forest}
 use Rattle.predicate.proofs.ForestLaws.{place_below, place_past, place_token, place_child}
@@ -131,10 +131,8 @@ unfolding forest tree_rows
 over rule level m at nil more h = refl
 over rule level m at (leaf t f) more h = rw (place_below level t.kind m h) (over rule level m (at + length t.text) f more h)
 over rule level m at (node k s f) more h =
-    rw (place_below level k m h)
-    (ap (forest rule level) (append_assoc (tree_rows (m + 1) at s) (tree_rows m (at + span s) f) more)
-    ∙ over rule level (m + 1) at s (tree_rows m (at + span s) f ++ more) (omega arith)
-    ∙ over rule level m (at + span s) f more h)
+    rw (place_below level k m h, append_assoc, over rule level (m + 1) at s (tree_rows m (at + span s) f ++ more) (omega arith))
+    (over rule level m (at + span s) f more h)
 
 -- rows at a level are past a forest one level below
 past_rows : (level at : ℕ) (f : Forest) (more : List ℕ) → Past level more → Past (level + 1) (tree_rows level at f ++ more)
@@ -159,61 +157,37 @@ unfolding Kinds
 kinds_left [] ys k = tt
 kinds_left (x ∷ xs) ys k = (k.0, kinds_left xs ys k.1)
 
-kinds_right : (xs ys : List Token) → Kinds (xs ++ ys) → Kinds ys
-unfolding Kinds
-kinds_right [] ys k = k
-kinds_right (x ∷ xs) ys k = kinds_right xs ys k.1
-
 -- a forest's rows, at a place where its text stands in the rule
 rows_back : (rule : List ℕ) (level at : ℕ) (f : Forest) (more tail : List ℕ) → Nodes f → Kinds (tokens_of f) → Past level more → drop at rule ≡ joined (tokens_of f) ++ tail → forest rule level (tree_rows level at f ++ more) ≡ f
 unfolding forest tree_rows Nodes Kinds tokens_of joined
 rows_back rule level at nil more tail n k h e = h rule level (omega arith)
 rows_back rule level at (leaf t f) more tail n k h e =
-    rw (place_token level t.kind level refl k.0)
-    (ap (λ (w : List ℕ). leaf (record { kind = t.kind; text = w }) (forest rule level (tree_rows level (at + length t.text) f ++ more))) text
-    ∙ ap (leaf t) (rows_back rule level (at + length t.text) f more tail n k.1 h after))
-  where
-    here : drop at rule ≡ t.text ++ (joined (tokens_of f) ++ tail)
-    here = e ∙ append_assoc t.text (joined (tokens_of f)) tail
-
-    text : bytes_between rule at (at + length t.text) ≡ t.text
-    text =
-        ap (take ((at + length t.text) - at)) here
-        ∙ take_at t.text (joined (tokens_of f) ++ tail) ((at + length t.text) - at) (omega arith)
-
-    after : drop (at + length t.text) rule ≡ joined (tokens_of f) ++ tail
-    after = past_text rule at (length t.text) t.text (joined (tokens_of f) ++ tail) here refl
+    let here : drop at rule ≡ t.text ++ (joined (tokens_of f) ++ tail) = e ∙ append_assoc t.text (joined (tokens_of f)) tail in
+    let text : bytes_between rule at (at + length t.text) ≡ t.text =
+    ap (take ((at + length t.text) - at)) here ∙ take_at t.text (joined (tokens_of f) ++ tail) ((at + length t.text) - at) (omega arith)
+    in
+    let after = past_text rule at (length t.text) t.text (joined (tokens_of f) ++ tail) here refl in
+    rw (place_token level t.kind level refl k.0, text) (ap (leaf t) (rows_back rule level (at + length t.text) f more tail n k.1 h after))
 rows_back rule level at (node k s f) more tail n q h e =
-    rw (place_child level k level refl n.0)
-    (ap (λ (g : Forest). node k g (forest rule level ((tree_rows (level + 1) at s ++ tree_rows level (at + span s) f) ++ more)))
-    (ap (forest rule (level + 1)) split
-    ∙ rows_back rule (level + 1) at s (tree_rows level (at + span s) f ++ more) (joined (tokens_of f) ++ tail) n.1 (kinds_left (tokens_of s) (tokens_of f) q) (past_rows level (at + span s) f more h) here)
-    ∙ ap (node k s)
-    (ap (forest rule level) split
-    ∙ over rule level (level + 1) at s (tree_rows level (at + span s) f ++ more) (omega arith)
-    ∙ rows_back rule level (at + span s) f more tail n.2 (kinds_right (tokens_of s) (tokens_of f) q) h after))
-  where
-    split : (tree_rows (level + 1) at s ++ tree_rows level (at + span s) f) ++ more ≡ tree_rows (level + 1) at s ++ (tree_rows level (at + span s) f ++ more)
-    split = append_assoc (tree_rows (level + 1) at s) (tree_rows level (at + span s) f) more
-
-    here : drop at rule ≡ joined (tokens_of s) ++ (joined (tokens_of f) ++ tail)
-    here = e ∙ ap (λ (w : List ℕ). w ++ tail) (joined_append (tokens_of s) (tokens_of f)) ∙ append_assoc (joined (tokens_of s)) (joined (tokens_of f)) tail
-
-    after : drop (at + span s) rule ≡ joined (tokens_of f) ++ tail
-    after = past_text rule at (span s) (joined (tokens_of s)) (joined (tokens_of f) ++ tail) here (span_joined s)
+    let rows : List ℕ = tree_rows level (at + span s) f ++ more in
+    let here : drop at rule ≡ joined (tokens_of s) ++ (joined (tokens_of f) ++ tail) =
+    e ∙ ap (λ (w : List ℕ). w ++ tail) (joined_append (tokens_of s) (tokens_of f)) ∙ append_assoc (joined (tokens_of s)) (joined (tokens_of f)) tail
+    in
+    let after = past_text rule at (span s) (joined (tokens_of s)) (joined (tokens_of f) ++ tail) here (span_joined s) in
+    rw (
+      place_child level k level refl n.0,
+      append_assoc (tree_rows (level + 1) at s) (tree_rows level (at + span s) f) more,
+      rows_back rule (level + 1) at s rows (joined (tokens_of f) ++ tail) n.1 (kinds_left (tokens_of s) (tokens_of f) q) (past_rows level (at + span s) f more h) here,
+      over rule level (level + 1) at s rows (omega arith),
+      rows_back rule level (at + span s) f more tail n.2 (kinds_right (tokens_of s) (tokens_of f) q) h after,
+    )
 
 -- THE ROWS OF A RULE'S TREE ARE ITS TREE
 pub read_back : (rule : List ℕ) → forest rule 0 (tree_rows 0 0 (parse_expr rule).made) ≡ (parse_expr rule).made
 unfolding parse_expr forest
 read_back rule =
+    let f = (parse_expr rule).made in
+    let kinds : Kinds (tokens_of f) = rw (tree_tokens rule) (kinds_lex rule) in
+    let text : rule ≡ joined (tokens_of f) ++ [] = sym (append-nil (joined (tokens_of f)) ∙ ap joined (tree_tokens rule) ∙ lex_joined rule) in
     ap (forest rule 0) (sym (append-nil (tree_rows 0 0 f)))
     ∙ rows_back rule 0 0 f [] [] (makes_root.makes (lex rule)).nodes kinds (λ rule m l. refl) text
-  where
-    f : Forest
-    f = (parse_expr rule).made
-
-    kinds : Kinds (tokens_of f)
-    kinds = rw (tree_tokens rule) (kinds_lex rule)
-
-    text : rule ≡ joined (tokens_of f) ++ []
-    text = sym (append-nil (joined (tokens_of f)) ∙ ap joined (tree_tokens rule) ∙ lex_joined rule)

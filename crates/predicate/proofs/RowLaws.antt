@@ -4,16 +4,15 @@ use mathlib.Core.Bool.{Bool, true, false, ◌&&◌}
 use mathlib.Core.List.{List, [], ◌∷◌}
 use Prim.Native.Nat.{ℕ, zero, suc, ◌+◌, ◌*◌, ◌/◌, ◌≤◌, ◌<◌}
 use native.Mathlib.Omega.{arith}
-use lib.Dec.{ltb}
+use lib.Dec.{eqb, ltb}
 use lib.ListN.{length, get_or, drop, length-drop}
-use Rattle.std.proofs.Common.{cond}
 use Rattle.std.proofs.lemmas.List.{drop-drop}
 use Rattle.std.specs.List.{prefix_len}
 use Rattle.std.specs.Simd.{first_chunks}
 use lib.Seq.{drop-cons}
-use borrow.Author.Tests.{lt-ltb, le-ltb, le-leb, lt-leb, eq-eqb, ne_eqb, leb-true, leb-false, ltb-true}
+use borrow.Author.Tests.{lt-ltb, le-ltb, le-leb, lt-leb, eq-eqb, ne_eqb, leb-true, leb-false, eqb-true, ltb-true, ltb-false}
 use Rattle.trees.specs.Green.{nil}
-use Rattle.syntax.proofs.BoolLaws.{both}
+use Rattle.syntax.proofs.BoolLaws.{whether, both}
 use Rattle.predicate.specs.Rows.{ROW, forest, kind_at, level_at, is_row, is_below, rows_from, past_below}
 use Rattle.predicate.specs.Eval.{IsRow, FoundNowhere, Skips}
 
@@ -58,13 +57,13 @@ short_forest rule level (k ∷ m ∷ []) h = refl
 short_forest rule level (k ∷ m ∷ a ∷ []) h = refl
 short_forest rule level (k ∷ m ∷ a ∷ e ∷ rows) h = absurd (omega arith)
 
-short_found : (test : ℕ → Bool) (level : ℕ) (rows : List ℕ) → length rows < ROW → rows_from test level rows ≡ []
+pub found_none : (test : ℕ → Bool) (level : ℕ) (rows : List ℕ) → length rows < ROW → [] ≡ rows_from test level rows
 unfolding rows_from
-short_found test level [] h = refl
-short_found test level (k ∷ []) h = refl
-short_found test level (k ∷ m ∷ []) h = refl
-short_found test level (k ∷ m ∷ a ∷ []) h = refl
-short_found test level (k ∷ m ∷ a ∷ e ∷ rows) h = absurd (omega arith)
+found_none test level [] h = refl
+found_none test level (k ∷ []) h = refl
+found_none test level (k ∷ m ∷ []) h = refl
+found_none test level (k ∷ m ∷ a ∷ []) h = refl
+found_none test level (k ∷ m ∷ a ∷ e ∷ rows) h = absurd (omega arith)
 
 short_passed : (level : ℕ) (rows : List ℕ) → length rows < ROW → past_below level rows ≡ rows
 unfolding past_below
@@ -76,6 +75,26 @@ short_passed level (k ∷ m ∷ a ∷ e ∷ rows) h = absurd (omega arith)
 
 pub few : (tree : List ℕ) (at : ℕ) → length tree < at + ROW → length (drop at tree) < ROW
 few tree at h = omega (arith, length-drop at tree)
+
+-- by what is found among rows: nothing where they are fewer numbers than a row or the first is above the level, they themselves where it
+-- passes, and else what is found among those after it
+module _ (test : ℕ → Bool) (level : ℕ) (P : (rows found : List ℕ) → Type 0)
+    (short : (rows : List ℕ) → length rows < ROW → P rows [])
+    (above : (k m a e : ℕ) (rows : List ℕ) → m < level → P (k ∷ m ∷ a ∷ e ∷ rows) [])
+    (here : (k m a e : ℕ) (rows : List ℕ) → m ≡ level → test k ≡ true → P (k ∷ m ∷ a ∷ e ∷ rows) (k ∷ m ∷ a ∷ e ∷ rows))
+    (later : (k m a e : ℕ) (rows : List ℕ) → level ≤ m → (m ≡ level → test k ≡ false) → P rows (rows_from test level rows) → P (k ∷ m ∷ a ∷ e ∷ rows) (rows_from test level rows)) where
+  pub by_found : (rows : List ℕ) → P rows (rows_from test level rows)
+  unfolding rows_from
+  by_found [] = short [] (omega arith)
+  by_found (k ∷ []) = short (k ∷ []) (omega arith)
+  by_found (k ∷ m ∷ []) = short (k ∷ m ∷ []) (omega arith)
+  by_found (k ∷ m ∷ a ∷ []) = short (k ∷ m ∷ a ∷ []) (omega arith)
+  by_found (k ∷ m ∷ a ∷ e ∷ rows) =
+      whether (ltb m level) (λ q. rw q (above k m a e rows (ltb-true m level q)))
+      (λ q.
+      whether (eqb m level && test k)
+      (λ p. let a' = both (eqb m level) (test k) p in rw (q, p) (here k m a e rows (eqb-true m level a'.0) a'.1))
+      (λ p. rw (q, p) (later k m a e rows (ltb-false m level q) (λ same. rw (eq-eqb m level same) at p) (by_found rows))))
 
 -- the rows found among rows that begin with a whole one: none where it is above the level, these where it passes, and else those found
 -- among the rows after it
@@ -101,45 +120,39 @@ module _ (test : ℕ → Bool) (level : ℕ) (rows : List ℕ) (h : ROW ≤ leng
   unfolding rows_from
   found_elsewhere l d = sym (ap (rows_from test level) here ∙ rw (le-ltb (level_at rows 0) level l, ne_eqb (level_at rows 0) level d))
 
-pub found_none : (test : ℕ → Bool) (level : ℕ) (rows : List ℕ) → length rows < ROW → [] ≡ rows_from test level rows
-found_none test level rows h = sym (short_found test level rows h)
-
 pub found_past : (test : ℕ → Bool) (tree : List ℕ) (level from : ℕ) → length tree < from → FoundNowhere test tree level from
 found_past test tree level from h = record { none = sym (found_none test level (drop from tree) (omega (arith, length-drop from tree))) }
 
--- a row that is below a level
-pub below_row : (tree : List ℕ) (level at : ℕ) → is_below tree level at ≡ true → (is_row tree at ≡ true) × (level < level_at tree at)
-unfolding is_below
-below_row tree level at h =
-    let a = both (is_row tree at) (ltb level (level_at tree at)) h in
-    (a.0, ltb-true level (level_at tree at) a.1)
+-- a row that is below a level, and one that is not
+module _ (tree : List ℕ) (level at : ℕ) where
+  pub below_row : is_below tree level at ≡ true → (is_row tree at ≡ true) × (level < level_at tree at)
+  unfolding is_below
+  below_row h =
+      let a = both (is_row tree at) (ltb level (level_at tree at)) h in
+      (a.0, ltb-true level (level_at tree at) a.1)
 
-pub row_below : (tree : List ℕ) (level at : ℕ) → at + ROW ≤ length tree → level < level_at tree at → is_below tree level at ≡ true
-unfolding is_below is_row
-row_below tree level at h l = rw (le-leb (at + ROW) (length tree) h, lt-ltb level (level_at tree at) l)
+  pub row_not_below : is_row tree at ≡ true → is_below tree level at ≡ false → level_at tree at ≤ level
+  unfolding is_below
+  row_not_below e h = ltb-false level (level_at tree at) (rw e at h)
 
-pub passed_row : (tree : List ℕ) (level at : ℕ) → is_below tree level at ≡ true → past_below level (drop at tree) ≡ past_below level (drop (at + ROW) tree)
-unfolding past_below
-passed_row tree level at h =
-    let a = below_row tree level at h in
-    ap (past_below level) (drop_row tree at (row_there tree at a.0)) ∙ rw (lt-ltb level (level_at tree at) a.1)
+  pub row_below : at + ROW ≤ length tree → level < level_at tree at → is_below tree level at ≡ true
+  unfolding is_below is_row
+  row_below h l = rw (le-leb (at + ROW) (length tree) h, lt-ltb level (level_at tree at) l)
 
-pub passed_stop : (tree : List ℕ) (level at : ℕ) → is_below tree level at ≡ false → past_below level (drop at tree) ≡ drop at tree
-unfolding past_below is_below
-passed_stop tree level at h = go (is_row tree at) refl
-  where
-    go : (there : Bool) → is_row tree at ≡ there → past_below level (drop at tree) ≡ drop at tree
-    go false e = short_passed level (drop at tree) (few tree at (row_missing tree at e))
-    go true e = ap (past_below level) row ∙ stay ∙ sym row
-      where
-        row : drop at tree ≡ row_and tree at
-        row = drop_row tree at (row_there tree at e)
+  pub passed_row : is_below tree level at ≡ true → past_below level (drop at tree) ≡ past_below level (drop (at + ROW) tree)
+  unfolding past_below
+  passed_row h =
+      let a = below_row h in
+      ap (past_below level) (drop_row tree at (row_there tree at a.0)) ∙ rw (lt-ltb level (level_at tree at) a.1)
 
-        stops : ltb level (level_at tree at) ≡ false
-        stops = sym (ap (λ (t : Bool). t && ltb level (level_at tree at)) e) ∙ h
-
-        stay : past_below level (row_and tree at) ≡ row_and tree at
-        stay = rw (stops)
+  pub passed_stop : is_below tree level at ≡ false → past_below level (drop at tree) ≡ drop at tree
+  unfolding past_below
+  passed_stop h =
+      whether (is_row tree at)
+      (λ e.
+      let row = drop_row tree at (row_there tree at e) in
+      ap (past_below level) row ∙ rw (le-ltb level (level_at tree at) (row_not_below e h)) (sym row))
+      (λ e. short_passed level (drop at tree) (few tree at (row_missing tree at e)))
 
 -- whether a row by itself is below a level
 abbrev pub row_test : ℕ → List ℕ → Bool
@@ -154,16 +167,10 @@ chunks_passed level (suc n) [] h l = absurd (omega arith)
 chunks_passed level (suc n) (k ∷ []) h l = absurd (omega arith)
 chunks_passed level (suc n) (k ∷ m ∷ []) h l = absurd (omega arith)
 chunks_passed level (suc n) (k ∷ m ∷ a ∷ []) h l = absurd (omega arith)
-chunks_passed level (suc n) (k ∷ m ∷ a ∷ e ∷ rows) h l = by (ltb level m) (chunks_passed level n rows (omega arith) (omega arith))
-  where
-    some : ℕ
-    some = prefix_len (row_test level) (first_chunks 4 n rows)
-
-    by : (b : Bool) → drop (4 * some) rows ≡ past_below level rows → drop (4 * cond b (1 + some) 0) (k ∷ m ∷ a ∷ e ∷ rows) ≡ cond b (past_below level rows) (k ∷ m ∷ a ∷ e ∷ rows)
-    by true inner =
-        let four : 4 * (1 + some) ≡ suc (suc (suc (suc (4 * some)))) = omega arith in
-        ap (λ (i : ℕ). drop i (k ∷ m ∷ a ∷ e ∷ rows)) four ∙ inner
-    by false inner = refl
+chunks_passed level (suc n) (k ∷ m ∷ a ∷ e ∷ rows) h l =
+    let some : ℕ = prefix_len (row_test level) (first_chunks 4 n rows) in
+    let four : 4 * (1 + some) ≡ suc (suc (suc (suc (4 * some)))) = omega arith in
+    whether (ltb level m) (λ q. rw (q, four) (chunks_passed level n rows (omega arith) (omega arith))) (λ q. rw q)
 
 -- where that many are counted from a place on, the rows below the level are passed over
 pub skips : (tree : List ℕ) (level from : ℕ) {n : ℕ} → n ≡ prefix_len (row_test level) (first_chunks 4 (length (drop from tree) / 4) (drop from tree)) → Skips tree level from (from + 4 * n)

@@ -1,6 +1,7 @@
 -- What the evaluator's functions give; no public contract needs this file. Assumes nothing: these are definitions.
 use Rattle.std.specs.Prelude.{ℕ, ◌+◌, ◌≤◌, ◌<◌, ◌≡◌, Bool, true, false, List, [], length, drop, Option, None, Some}
 use Rattle.trees.specs.Green.{Forest}
+use Rattle.predicate.specs.declared.atom.Member.{Member}
 use Rattle.predicate.specs.declared.Evaluator.{Evaluator}
 use Rattle.predicate.specs.declared.Truth.{Truth}
 use Rattle.predicate.specs.declared.Operands.{Operands}
@@ -39,10 +40,13 @@ abbrev pub truth_at : Evaluator → ℕ → Bool
 truth_at ev at = truth ev.image.now ev.member (node_at ev.rule.now ev.tree.now at)
 
 -- the same by the kind of its row and its children: where the row is a whole one
+abbrev pub settled : (rule image tree : List ℕ) → Member → ℕ → Bool
+settled rule image tree m at =
+    let f : Forest = children_at rule tree at in
+    settle image m (sort_of (kind_at tree at)) f (truths image m f)
+
 abbrev pub settled_at : Evaluator → ℕ → Bool
-settled_at ev at =
-    let f : Forest = children_at ev.rule.now ev.tree.now at in
-    settle ev.image.now ev.member (sort_of (kind_at ev.tree.now at)) f (truths ev.image.now ev.member f)
+settled_at ev at = settled ev.rule.now ev.image.now ev.tree.now ev.member at
 
 pub record Evaluated (ev : Evaluator) (at : ℕ) (r : Truth) : Type 0 where
   pub value : r.value ≡ truth_at ev at

@@ -2,11 +2,12 @@
 use Rattle.std.specs.Prelude.{ℕ, ◌+◌, ◌-◌, Bool, ◌&&◌, cond, List, [], ◌∷◌, eqb, ltb, leb, length, get_or, drop, Option, None, Some}
 use Rattle.syntax.specs.Kind.{ROOT}
 use Rattle.syntax.specs.Text.{bytes_between}
+use Rattle.lexer.specs.Read.{TREE_ROW}
 use Rattle.trees.specs.Green.{Forest, nil, leaf, node}
 
 -- the numbers of a tree row: kind, level, first byte, end byte
 abbrev pub ROW : ℕ
-ROW = 4
+ROW = TREE_ROW
 
 -- what a row is to a forest at a level: below one of its nodes, past its end, one of its tokens, one of its nodes
 pub data Place : Type 0 where

@@ -50,7 +50,8 @@ has image (Component c) value = has_property_of image c value || has_feature ima
 has image (Feature c f) value = has_property_of image c value
 has image (Diagnostic d) value = false
 
--- `field == '..'`: "a field of another sort of member is false"; "`category` of a feature is its owner's"; "`message == '..'` is always false"
+-- `field == '..'`: "a field of another sort of member is false"; "`category` of a feature is its owner's"; "`message == '..'` is always
+-- false"
 unfoldable pub compares : List ℕ → Member → List ℕ → List ℕ → Bool
 compares image (Component c) field value = same field (ascii "category") && category_matches (category image c) value
 compares image (Feature c f) field value =
@@ -87,10 +88,10 @@ first_of [] = false
 first_of (t ∷ ts) = t
 
 -- the sorts of node that a predicate has
-pub data Sort : Type 0 where
-  binary unary paren ident call containing compare other : Sort
+pub data NodeSort : Type 0 where
+  binary unary paren ident call containing compare other : NodeSort
 
-unfoldable pub sort_of : ℕ → Sort
+unfoldable pub sort_of : ℕ → NodeSort
 sort_of kind =
     cond (eqb kind BINARY_EXPR) binary
     (cond (eqb kind UNARY_EXPR) unary
@@ -101,7 +102,7 @@ sort_of kind =
     (cond (eqb kind COMPARE_EXPR) compare other))))))
 
 -- the truth of a node of a sort that has these children, of these truths. An IDENT_EXPR of a predicate is `connected`, a CALL_EXPR `has`
-unfoldable pub settle : List ℕ → Member → Sort → Forest → List Bool → Bool
+unfoldable pub settle : List ℕ → Member → NodeSort → Forest → List Bool → Bool
 unfolding joined literal_of first_text connected has message_contains compares
 settle image m binary f truths = joined false true f truths
 settle image m unary f truths = not (first_of truths)

@@ -2,11 +2,11 @@
 ghost use Rattle.std.specs.Prelude.{◌≡◌};
 ghost use Rattle.syntax.specs.Kind.{BINARY_EXPR, UNARY_EXPR, PAREN_EXPR};
 ghost use Rattle.syntax.specs.Kinds.{number};
-ghost use Rattle.predicate.specs.Truth.{connected, has_property_of, has, compares, message_contains, literal_of};
-ghost use Rattle.predicate.specs.Rows.{kind_at, children_at};
-ghost use Rattle.predicate.specs.Eval.{settled_at};
+ghost use Rattle.predicate.specs.Truth.{connected, has_property_of, has, compares, message_contains};
+ghost use Rattle.predicate.specs.Rows.{kind_at};
+ghost use Rattle.predicate.specs.Atoms.{atom_truth, AtomAt};
 
-use crate::{Evaluator, node};
+use crate::node;
 use board::image;
 use instance;
 use matching;
@@ -22,32 +22,52 @@ pub enum Member {
     Diagnostic(u32),
 }
 
-impl<'a> Evaluator<'a> {
-    // Whether the atom whose row is at a place, and is of this kind, is true of the member.
-    #[tactic(auto, using(crate::proofs::AtomLaws::settled_ident, crate::proofs::AtomLaws::settled_call, crate::proofs::AtomLaws::settled_contains, crate::proofs::AtomLaws::settled_compare, crate::proofs::AtomLaws::settled_other))]
-    pub(crate) fn eval_atom(&self, kind: Kind, at: usize) -> bool
-        requires kind { number kind ≡ kind_at self.now.tree.now at }
-        requires atom { (kind_at self.now.tree.now at ≡ BINARY_EXPR → ⊥) × (kind_at self.now.tree.now at ≡ UNARY_EXPR → ⊥) × (kind_at self.now.tree.now at ≡ PAREN_EXPR → ⊥) }
-        ensures { result ≡ settled_at self.now at }
+// An atom with its texts; `Other` is what is none, and false.
+#[derive(Clone, Copy)]
+pub(crate) enum Atom<'a> {
+    Connected,
+    Has(&'a [u8]),
+    MessageContains(&'a [u8]),
+    Compares(&'a [u8], &'a [u8]),
+    Other,
+}
+
+impl<'a> Atom<'a> {
+    // The atom whose row is at a place and is of this kind.
+    #[tactic(auto, using(crate::proofs::AtomLaws::atom_connected, crate::proofs::AtomLaws::atom_has, crate::proofs::AtomLaws::atom_contains, crate::proofs::AtomLaws::atom_compares, crate::proofs::AtomLaws::atom_other))]
+    #[inline(always)]
+    pub(crate) fn find(rule: &'a [u8], tree: &[u32], kind: Kind, at: usize) -> Atom<'a>
+        requires kind { number kind ≡ kind_at tree.now at }
+        requires atom { (kind_at tree.now at ≡ BINARY_EXPR → ⊥) × (kind_at tree.now at ≡ UNARY_EXPR → ⊥) × (kind_at tree.now at ≡ PAREN_EXPR → ⊥) }
+        ensures { AtomAt rule.now tree.now at result }
     {
         match kind {
-            Kind::IdentExpr => self.member.connected(self.image),
-            Kind::CallExpr => self.member.has(self.image, self.value(at)),
-            Kind::ContainsExpr => self.member.message_contains(self.image, self.value(at)),
-            Kind::CompareExpr => {
-                let field = node::ident(self.rule, self.tree, at);
-                self.member.compares(self.image, field, self.value(at))
+            Kind::IdentExpr => Atom::Connected,
+            Kind::CallExpr => Atom::Has(node::find_string_literal(rule, tree, at)),
+            Kind::ContainsExpr => {
+                Atom::MessageContains(node::find_string_literal(rule, tree, at))
             }
-            _ => false,
+            Kind::CompareExpr => Atom::Compares(
+                node::ident(rule, tree, at),
+                node::find_string_literal(rule, tree, at),
+            ),
+            _ => Atom::Other,
         }
     }
 
-    // The text that an atom compares with.
+    // Whether it is true of a member.
+    #[tactic(auto, unfolding(crate::specs::Atoms::atom_truth))]
     #[inline(always)]
-    fn value(&self, at: usize) -> &'a [u8]
-        ensures { result.now ≡ literal_of (children_at self.now.rule.now self.now.tree.now at) }
+    pub(crate) fn is_true(self, image: &[u8], member: Member) -> bool
+        ensures { result ≡ atom_truth image.now member self.entry }
     {
-        node::find_string_literal(self.rule, self.tree, at)
+        match self {
+            Atom::Connected => member.connected(image),
+            Atom::Has(value) => member.has(image, value),
+            Atom::MessageContains(value) => member.message_contains(image, value),
+            Atom::Compares(field, value) => member.compares(image, field, value),
+            Atom::Other => false,
+        }
     }
 }
 

@@ -7,11 +7,13 @@ pub mod node;
 pub mod rows;
 
 ghost use Rattle.std.specs.Prelude.{◌≡◌, ◌+◌, ◌≤◌, length};
+ghost use Rattle.std.specs.Option.{ForSome};
 ghost use Rattle.predicate.specs.Truth.{truth, or_after};
 ghost use Rattle.predicate.specs.Rows.{ROW, children_at, node_at};
-ghost use Rattle.predicate.specs.Eval.{truth_at, Evaluated, Inner, Operand, Joins, Joined};
+ghost use Rattle.predicate.specs.Eval.{Evaluated, Inner, Operand, Joins, Joined};
+ghost use Rattle.predicate.specs.Atoms.{AskedAt};
 
-use atom::Member;
+use atom::{Atom, Member};
 use syntax::kind::Kind;
 
 // What evaluates the nodes of a rule's tree: the rule, its tree, and the member of a board that they are asked of.
@@ -54,37 +56,86 @@ pub fn eval_predicate(rule: &[u8], image: &[u8], tree: &[u32], member: Member, a
     }
 }
 
-// The same of the first node inside the one whose row is at a place, as the predicate in a CALL_ARGS; false where there is none.
-pub fn eval_args(rule: &[u8], image: &[u8], tree: &[u32], member: Member, at: usize) -> bool
-    ensures { result ≡ truth image.now member (children_at rule.now tree.now at) }
-{
-    let evaluator = Evaluator {
-        rule,
-        image,
-        tree,
-        member,
-    };
-    evaluator.eval_args(at)
+// The predicate in a CALL_ARGS, asked of many members: where it is one atom, but for `not` and brackets around it, its texts were found.
+#[derive(Clone, Copy)]
+pub struct Predicate<'a> {
+    pub rule: &'a [u8],
+    pub tree: &'a [u32],
+    pub at: usize,
+    atom: Option<Asked<'a>>,
+    ghost so: { ForSome atom (AskedAt rule.now tree.now at) },
 }
 
-impl Evaluator<'_> {
-    // The truth of the first node inside the one whose row is at a place; false where there is none.
-    fn eval_args(&self, at: usize) -> bool
-        ensures { result ≡ truth self.now.image.now self.now.member (children_at self.now.rule.now self.now.tree.now at) }
+// An atom, or that it is not so.
+#[derive(Clone, Copy)]
+struct Asked<'a> {
+    atom: Atom<'a>,
+    not: bool,
+}
+
+impl<'a> Predicate<'a> {
+    // The first node inside the one whose row is at a place.
+    pub fn new(rule: &'a [u8], tree: &'a [u32], at: usize) -> Predicate<'a>
+        ensures { (result.rule ≡ rule.entry) × (result.tree ≡ tree.entry) × (result.at ≡ at) }
     {
-        let Some(predicate) = node::first_child(self.tree, at) else {
-            return false;
-        };
-        // No row after it is looked at, so that its rows need not be passed over.
-        match rows::kind_at(self.tree, predicate) {
-            Ok(Kind::BinaryExpr) => self.eval_node(predicate).value,
-            Ok(Kind::UnaryExpr) => !self.eval_args(predicate),
-            Ok(Kind::ParenExpr) => self.eval_args(predicate),
-            Ok(kind) => self.eval_atom(kind, predicate),
-            Err(_) => false,
+        Predicate {
+            rule,
+            tree,
+            at,
+            atom: find_atom(rule, tree, at),
         }
     }
 
+    // Whether it is true of a member; false where there is no such node.
+    pub fn is_true(&self, image: &[u8], member: Member) -> bool
+        ensures { result ≡ truth image.now member (children_at self.now.rule.now self.now.tree.now self.now.at) }
+    {
+        if let Some(Asked { atom, not }) = self.atom {
+            let value = atom.is_true(image, member);
+            return if not { !value } else { value };
+        }
+        let evaluator = Evaluator {
+            rule: self.rule,
+            image,
+            tree: self.tree,
+            member,
+        };
+        match node::first_child(self.tree, self.at) {
+            Some(predicate) => evaluator.eval_node(predicate).value,
+            None => false,
+        }
+    }
+}
+
+// The atom that the first node inside is, but for `not` and brackets around it; one that is false where there is no node.
+fn find_atom<'a>(rule: &'a [u8], tree: &[u32], at: usize) -> Option<Asked<'a>>
+    ensures { ForSome result (AskedAt rule.now tree.now at) }
+{
+    let Some(predicate) = node::first_child(tree, at) else {
+        return Some(Asked {
+            atom: Atom::Other,
+            not: false,
+        });
+    };
+    match rows::kind_at(tree, predicate) {
+        Ok(Kind::BinaryExpr) => None,
+        Ok(Kind::UnaryExpr) => {
+            let Asked { atom, not } = find_atom(rule, tree, predicate)?;
+            Some(Asked { atom, not: !not })
+        }
+        Ok(Kind::ParenExpr) => find_atom(rule, tree, predicate),
+        Ok(kind) => Some(Asked {
+            atom: Atom::find(rule, tree, kind, predicate),
+            not: false,
+        }),
+        Err(_) => Some(Asked {
+            atom: Atom::Other,
+            not: false,
+        }),
+    }
+}
+
+impl Evaluator<'_> {
     // The truth of a node, and where the rows after it begin.
     #[cycle(eval_node)]
     fn eval_node(&self, at: usize) -> Truth
@@ -103,7 +154,7 @@ impl Evaluator<'_> {
                 };
             }
             Ok(Kind::ParenExpr) => return self.eval_inner(level, inside),
-            Ok(kind) => self.eval_atom(kind, at),
+            Ok(kind) => Atom::find(self.rule, self.tree, kind, at).is_true(self.image, self.member),
             Err(_) => false,
         };
         Truth {
@@ -134,7 +185,8 @@ impl Evaluator<'_> {
         }
     }
 
-    // The operands below a level from a place on, joined from left to right. A step passes over as many rows as it likes: no range counts it.
+    // The operands below a level from a place on, joined from left to right. A step passes over as many rows as it likes: no range counts
+    // it.
     #[inline(always)]
     #[cycle(eval_node)]
     fn eval_operands(&self, level: u32, from: usize) -> Truth

@@ -7,10 +7,11 @@ ghost use Rattle.predicate.specs.Rows.{kind_at, level_at, is_below, of_kind, of_
 ghost use Rattle.predicate.specs.Rows as meant;
 ghost use Rattle.predicate.specs.Eval.{IsRow, Tells, Finds, Skips};
 
+use lexer::limits::TREE_ROW;
 use syntax::kind::{Kind, UnknownKind};
 
 // The numbers of a row.
-pub const ROW: usize = 4;
+pub const ROW: usize = TREE_ROW;
 
 // The rows of a table from a place on.
 pub(crate) fn tail(tree: &[u32], at: usize) -> &[u32]

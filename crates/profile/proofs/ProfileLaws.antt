@@ -8,7 +8,7 @@ use lib.Dec.{eqb, ltb}
 use borrow.Author.Tests.{eqb-true, ltb-true, not-false}
 use Rattle.syntax.specs.Kind.{BINARY_EXPR, UNARY_EXPR, COMPARE_EXPR, CALL_EXPR, PAREN_EXPR, IDENT_EXPR, CONTAINS_EXPR}
 use Rattle.syntax.specs.Text.{ascii, same}
-use Rattle.syntax.proofs.BoolLaws.{both, neither, one_small, one_same}
+use Rattle.syntax.proofs.BoolLaws.{whether, both, neither, one_small, one_same}
 use Rattle.trees.specs.Green.{Forest}
 use Rattle.board.specs.Image.{category, feature_kind, direction, severity}
 use Rattle.matching.specs.Words.{category_matches, feature_kind_matches, direction_matches, severity_matches}
@@ -16,7 +16,7 @@ use Rattle.instance.specs.Instance.{component_connected, owners_wired}
 use Rattle.instance.proofs.InstanceLaws.{connected_with_owner}
 use Rattle.predicate.specs.declared.atom.Member.{Member}
 use Rattle.predicate.specs.declared.atom.Member.TheVariants.{Component, Feature, Diagnostic}
-use Rattle.predicate.specs.Truth.{field_of, connected, has, compares, message_contains, Sort, binary, unary, paren, ident, call, containing, compare, other, sort_of, settle}
+use Rattle.predicate.specs.Truth.{field_of, connected, has, compares, message_contains, NodeSort, binary, unary, paren, ident, call, containing, compare, other, sort_of, settle}
 use Rattle.std.specs.Prelude.{Option, None, Some}
 use Rattle.profile.specs.declared.Held.{Held}
 use Rattle.profile.specs.Profile.{CATEGORIES, FEATURE_KINDS, DIRECTIONS, SEVERITIES, FIRST_OF_FEATURES, FIRST_OF_DIAGNOSTICS, PROFILES, held_part, numbered, of_component, of_feature, of_diagnostic, wired_in, component_profile, owned_profile, profile_of, wiring_held, asks_wiring, asks_more, asks_part, asks_of_feature, asks_field}
@@ -45,9 +45,9 @@ record ComponentIs (category : ℕ) (connected : Bool) (k : ℕ) : Type 0 where
   small : category < CATEGORIES
   is : 2 * category + cond connected 1 0 ≡ k
 
-component_is : (category : ℕ) (connected : Bool) (k : ℕ) → of_component category connected ≡ Some k → ComponentIs category connected k
+component_is : {category : ℕ} {connected : Bool} {k : ℕ} → of_component category connected ≡ Some k → ComponentIs category connected k
 unfolding of_component
-component_is category connected k h =
+component_is {category} {connected} {k} h =
     let t = told (ltb category CATEGORIES) (2 * category + cond connected 1 0) k h in
     record { small = ltb-true category CATEGORIES t.0; is = t.1 }
 
@@ -59,9 +59,9 @@ record FeatureIs (owner : Option ℕ) (kind direction k : ℕ) : Type 0 where
   few_directions : direction < DIRECTIONS
   is : FIRST_OF_FEATURES + ((number * FEATURE_KINDS + kind) * DIRECTIONS + direction) ≡ k
 
-feature_is_lem : (owner : Option ℕ) (kind direction k : ℕ) → of_feature owner kind direction ≡ Some k → FeatureIs owner kind direction k
+feature_is_lem : (owner : Option ℕ) (kind direction : ℕ) {k : ℕ} → of_feature owner kind direction ≡ Some k → FeatureIs owner kind direction k
 unfolding of_feature
-feature_is_lem (Some n) kind direction k h =
+feature_is_lem (Some n) kind direction {k} h =
     let t = told (ltb n FIRST_OF_FEATURES && (ltb kind FEATURE_KINDS && ltb direction DIRECTIONS)) (FIRST_OF_FEATURES + ((n * FEATURE_KINDS + kind) * DIRECTIONS + direction)) k h in
     let a = both (ltb n FIRST_OF_FEATURES) (ltb kind FEATURE_KINDS && ltb direction DIRECTIONS) t.0 in
     let b = both (ltb kind FEATURE_KINDS) (ltb direction DIRECTIONS) a.1 in
@@ -73,7 +73,7 @@ feature_is_lem (Some n) kind direction k h =
       few_directions = ltb-true direction DIRECTIONS b.1;
       is = t.1;
     }
-feature_is_lem None kind direction k h =
+feature_is_lem None kind direction h =
     let z : ◌≡◌ {A = ℕ} 0 1 = cc in
     absurd (omega arith)
 
@@ -81,9 +81,9 @@ record DiagnosticIs (severity k : ℕ) : Type 0 where
   small : severity < SEVERITIES
   is : FIRST_OF_DIAGNOSTICS + severity ≡ k
 
-diagnostic_is : (severity k : ℕ) → of_diagnostic severity ≡ Some k → DiagnosticIs severity k
+diagnostic_is : {severity k : ℕ} → of_diagnostic severity ≡ Some k → DiagnosticIs severity k
 unfolding of_diagnostic
-diagnostic_is severity k h =
+diagnostic_is {severity} {k} h =
     let t = told (ltb severity SEVERITIES) (FIRST_OF_DIAGNOSTICS + severity) k h in
     record { small = ltb-true severity SEVERITIES t.0; is = t.1 }
 
@@ -103,26 +103,7 @@ kind_held image held f = held_part held.kind (feature_kind image f)
 abbrev direction_held : List ℕ → Held → ℕ → ℕ
 direction_held image held f = held_part held.direction (direction image f)
 
-in_range : (image : List ℕ) (held : Held) (m : Member) (k : ℕ) → profile_of image held m ≡ Some k → InRange m k
-unfolding profile_of component_profile owned_profile
-in_range image held (Component c) k h =
-    let i = component_is (category_held image held c) (wired_in image held c) k h in
-    omega (arith, i.small, i.is, one_small (wired_in image held c))
-in_range image held (Feature c f) k h =
-    let i = feature_is_lem (component_profile image held c) (kind_held image held f) (direction_held image held f) k h in
-    (omega (arith, i.is), omega (arith, i.small, i.few_kinds, i.few_directions, i.is))
-in_range image held (Diagnostic d) k h =
-    let i = diagnostic_is (severity image d) k h in
-    (omega (arith, i.is), omega (arith, i.small, i.is))
-
--- all are below how many there are
-pub profile_small : (image : List ℕ) (held : Held) (m : Member) (k : ℕ) → profile_of image held m ≡ Some k → k < PROFILES
-profile_small image held (Component c) k h = omega (arith, in_range image held (Component c) k h)
-profile_small image held (Feature c f) k h = omega (arith, (in_range image held (Feature c f) k h).1)
-profile_small image held (Diagnostic d) k h = (in_range image held (Diagnostic d) k h).1
-
--- ---- members with the same number: of the same sort, with the same of what is held
-
+-- members with the same number: of the same sort, with the same of what is held
 pub data Alike (image : List ℕ) (held : Held) : Member → Member → Type 0 where
   components : {c d : ℕ} → category_held image held c ≡ category_held image held d → wired_in image held c ≡ wired_in image held d → Alike image held (Component c) (Component d)
   features : {c f d g : ℕ} → category_held image held c ≡ category_held image held d → wired_in image held c ≡ wired_in image held d → kind_held image held f ≡ kind_held image held g → direction_held image held f ≡ direction_held image held g
@@ -134,38 +115,53 @@ record SameOwner (image : List ℕ) (held : Held) (c d : ℕ) : Type 0 where
   sort : category_held image held c ≡ category_held image held d
   wired : wired_in image held c ≡ wired_in image held d
 
-same_owner : (image : List ℕ) (held : Held) (c d k : ℕ) → component_profile image held c ≡ Some k → component_profile image held d ≡ Some k → SameOwner image held c d
-unfolding component_profile
-same_owner image held c d k h g =
-    let i = component_is (category_held image held c) (wired_in image held c) k h in
-    let j = component_is (category_held image held d) (wired_in image held d) k g in
-    let p = one_small (wired_in image held c) in
-    let q = one_small (wired_in image held d) in
-    record {
-      sort = omega (arith, i.is, j.is);
-      wired = one_same (wired_in image held c) (wired_in image held d) (omega (arith, i.is, j.is));
-    }
-
 module _ (image : List ℕ) (held : Held) where
-  pub same_profile : (m n : Member) (k : ℕ) → profile_of image held m ≡ Some k → profile_of image held n ≡ Some k → Alike image held m n
+  feature_number : (c f : ℕ) {k : ℕ} → profile_of image held (Feature c f) ≡ Some k → FeatureIs (component_profile image held c) (kind_held image held f) (direction_held image held f) k
   unfolding profile_of owned_profile
-  same_profile (Component c) (Component d) k h g =
-      let o = same_owner image held c d k h g in
-      components {c = c} {d = d} o.sort o.wired
+  feature_number c f h = feature_is_lem (component_profile image held c) (kind_held image held f) (direction_held image held f) h
+
+  in_range : (m : Member) {k : ℕ} → profile_of image held m ≡ Some k → InRange m k
+  unfolding profile_of component_profile
+  in_range (Component c) h = let i = component_is h in omega (arith, i.small, i.is, one_small (wired_in image held c))
+  in_range (Feature c f) h =
+      let i = feature_number c f h in
+      (omega (arith, i.is), omega (arith, i.small, i.few_kinds, i.few_directions, i.is))
+  in_range (Diagnostic d) h = let i = diagnostic_is h in (omega (arith, i.is), omega (arith, i.small, i.is))
+
+  -- all are below how many there are
+  pub profile_small : (m : Member) (k : ℕ) → profile_of image held m ≡ Some k → k < PROFILES
+  profile_small (Component c) k h = omega (arith, in_range (Component c) h)
+  profile_small (Feature c f) k h = omega (arith, (in_range (Feature c f) h).1)
+  profile_small (Diagnostic d) k h = (in_range (Diagnostic d) h).1
+
+  same_owner : (c d : ℕ) {k : ℕ} → component_profile image held c ≡ Some k → component_profile image held d ≡ Some k → SameOwner image held c d
+  unfolding component_profile
+  same_owner c d h g =
+      let i = component_is h in
+      let j = component_is g in
+      let p = one_small (wired_in image held c) in
+      let q = one_small (wired_in image held d) in
+      record {
+        sort = omega (arith, i.is, j.is);
+        wired = one_same (wired_in image held c) (wired_in image held d) (omega (arith, i.is, j.is));
+      }
+
+  pub same_profile : (m n : Member) (k : ℕ) → profile_of image held m ≡ Some k → profile_of image held n ≡ Some k → Alike image held m n
+  unfolding profile_of
+  same_profile (Component c) (Component d) k h g = let o = same_owner c d h g in components {c = c} {d = d} o.sort o.wired
   same_profile (Feature c f) (Feature d e) k h g =
-      let i = feature_is_lem (component_profile image held c) (kind_held image held f) (direction_held image held f) k h in
-      let j = feature_is_lem (component_profile image held d) (kind_held image held e) (direction_held image held e) k g in
+      let i = feature_number c f h in
+      let j = feature_number d e g in
       let n : j.number ≡ i.number = omega (arith, i.is, j.is) in
-      let o = same_owner image held c d i.number i.owner_is (j.owner_is ∙ ap Some n) in
+      let o = same_owner c d i.owner_is (j.owner_is ∙ ap Some n) in
       features {c = c} {f = f} {d = d} {g = e} o.sort o.wired (omega (arith, i.is, j.is)) (omega (arith, i.is, j.is))
-  same_profile (Diagnostic c) (Diagnostic d) k h g =
-      diagnostics {c = c} {d = d} (omega (arith, (diagnostic_is (severity image c) k h).is, (diagnostic_is (severity image d) k g).is))
-  same_profile (Component c) (Feature d e) k h g = absurd (omega (arith, in_range image held (Component c) k h, (in_range image held (Feature d e) k g).0))
-  same_profile (Component c) (Diagnostic d) k h g = absurd (omega (arith, in_range image held (Component c) k h, (in_range image held (Diagnostic d) k g).0))
-  same_profile (Feature c f) (Component d) k h g = absurd (omega (arith, (in_range image held (Feature c f) k h).0, in_range image held (Component d) k g))
-  same_profile (Feature c f) (Diagnostic d) k h g = absurd (omega (arith, (in_range image held (Feature c f) k h).1, (in_range image held (Diagnostic d) k g).0))
-  same_profile (Diagnostic c) (Component d) k h g = absurd (omega (arith, (in_range image held (Diagnostic c) k h).0, in_range image held (Component d) k g))
-  same_profile (Diagnostic c) (Feature d e) k h g = absurd (omega (arith, (in_range image held (Diagnostic c) k h).0, (in_range image held (Feature d e) k g).1))
+  same_profile (Diagnostic c) (Diagnostic d) k h g = diagnostics {c = c} {d = d} (omega (arith, (diagnostic_is h).is, (diagnostic_is g).is))
+  same_profile (Component c) (Feature d e) k h g = absurd (omega (arith, in_range (Component c) h, (in_range (Feature d e) g).0))
+  same_profile (Component c) (Diagnostic d) k h g = absurd (omega (arith, in_range (Component c) h, (in_range (Diagnostic d) g).0))
+  same_profile (Feature c f) (Component d) k h g = absurd (omega (arith, (in_range (Feature c f) h).0, in_range (Component d) g))
+  same_profile (Feature c f) (Diagnostic d) k h g = absurd (omega (arith, (in_range (Feature c f) h).1, (in_range (Diagnostic d) g).0))
+  same_profile (Diagnostic c) (Component d) k h g = absurd (omega (arith, (in_range (Diagnostic c) h).0, in_range (Component d) g))
+  same_profile (Diagnostic c) (Feature d e) k h g = absurd (omega (arith, (in_range (Diagnostic c) h).0, (in_range (Feature d e) g).1))
 
 -- ---- their atoms, each by its kind
 
@@ -246,7 +242,7 @@ module _ {image : List ℕ} {held : Held} where
   compares_alike field value (diagnostics e) h = ap (λ (x : ℕ). same field (ascii "severity") && severity_matches x value) e
 
 -- the kind of an atom that may ask for more, by its sort
-abbrev OfSort : Sort → ℕ → Type 0
+abbrev OfSort : NodeSort → ℕ → Type 0
 OfSort binary k = Unit {0}
 OfSort unary k = Unit {0}
 OfSort paren k = Unit {0}
@@ -259,19 +255,13 @@ OfSort other k = Unit {0}
 of_sort : (k : ℕ) → OfSort (sort_of k) k
 unfolding sort_of
 of_sort k =
-    go (eqb k BINARY_EXPR) (eqb k UNARY_EXPR) (eqb k PAREN_EXPR) (eqb k IDENT_EXPR) (eqb k CALL_EXPR) (eqb k CONTAINS_EXPR) (eqb k COMPARE_EXPR)
-    (eqb-true k IDENT_EXPR) (eqb-true k CALL_EXPR) (eqb-true k CONTAINS_EXPR) (eqb-true k COMPARE_EXPR)
-  where
-    go : (b u p i c n q : Bool) → (i ≡ true → k ≡ IDENT_EXPR) → (c ≡ true → k ≡ CALL_EXPR) → (n ≡ true → k ≡ CONTAINS_EXPR) → (q ≡ true → k ≡ COMPARE_EXPR)
-        → OfSort (cond b binary (cond u unary (cond p paren (cond i ident (cond c call (cond n containing (cond q compare other))))))) k
-    go true u p i c n q x y z v = tt
-    go false true p i c n q x y z v = tt
-    go false false true i c n q x y z v = tt
-    go false false false true c n q x y z v = x refl
-    go false false false false true n q x y z v = y refl
-    go false false false false false true q x y z v = z refl
-    go false false false false false false true x y z v = v refl
-    go false false false false false false false x y z v = tt
+    whether (eqb k BINARY_EXPR) (λ e. rw e tt)
+    (λ b. whether (eqb k UNARY_EXPR) (λ e. rw (b, e) tt)
+    (λ u. whether (eqb k PAREN_EXPR) (λ e. rw (b, u, e) tt)
+    (λ p. whether (eqb k IDENT_EXPR) (λ e. rw (b, u, p, e) (eqb-true k IDENT_EXPR e))
+    (λ i. whether (eqb k CALL_EXPR) (λ e. rw (b, u, p, i, e) (eqb-true k CALL_EXPR e))
+    (λ c. whether (eqb k CONTAINS_EXPR) (λ e. rw (b, u, p, i, c, e) (eqb-true k CONTAINS_EXPR e))
+    (λ n. whether (eqb k COMPARE_EXPR) (λ e. rw (b, u, p, i, c, n, e) (eqb-true k COMPARE_EXPR e)) (λ q. rw (b, u, p, i, c, n, q) tt)))))))
 
 -- members that are alike have the same truth of a node that asks for no more
 pub settle_alike : {image : List ℕ} {held : Held} {m n : Member} → (held.wiring_of_features ≡ true → owners_wired image ≡ true) → Alike image held m n
@@ -280,7 +270,7 @@ pub settle_alike : {image : List ℕ} {held : Held} {m n : Member} → (held.wir
 unfolding settle
 settle_alike {image} {held} {m} {n} w a k f truths q h = go (sort_of k) (of_sort k)
   where
-    go : (s : Sort) → OfSort s k → settle image m s f truths ≡ settle image n s f truths
+    go : (s : NodeSort) → OfSort s k → settle image m s f truths ≡ settle image n s f truths
     go binary o = refl
     go unary o = refl
     go paren o = refl

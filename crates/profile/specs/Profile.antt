@@ -1,6 +1,6 @@
 -- Members that are alike: the profile of a member, which is all of it that most predicates ask for, and which nodes of a predicate ask for
 -- more. Assumes nothing: these are definitions.
-use Rattle.std.specs.Prelude.{ℕ, ◌+◌, ◌*◌, ◌/◌, ◌%◌, Bool, true, false, not, ◌&&◌, ◌||◌, cond, List, eqb, ltb, Option, None, Some}
+use Rattle.std.specs.Prelude.{ℕ, ◌+◌, ◌*◌, Bool, true, false, not, ◌&&◌, ◌||◌, cond, List, eqb, ltb, Option, None, Some}
 use Rattle.syntax.specs.Kind.{CALL_EXPR, IDENT_EXPR, CONTAINS_EXPR}
 use Rattle.syntax.specs.Text.{ascii, same}
 use Rattle.board.specs.Image.{category, feature_kind, direction, severity}
@@ -13,13 +13,13 @@ use Rattle.profile.specs.declared.Held.{Held}
 -- the first profile of a feature, after two for each category; the first of a diagnostic, after one for each of a component, each kind and
 -- each direction; how many there are in all
 abbrev pub FIRST_OF_FEATURES : ℕ
-FIRST_OF_FEATURES = 28
+FIRST_OF_FEATURES = 2 * CATEGORIES
 
 abbrev pub FIRST_OF_DIAGNOSTICS : ℕ
-FIRST_OF_DIAGNOSTICS = 1148
+FIRST_OF_DIAGNOSTICS = FIRST_OF_FEATURES + FIRST_OF_FEATURES * FEATURE_KINDS * DIRECTIONS
 
 abbrev pub PROFILES : ℕ
-PROFILES = 1151
+PROFILES = FIRST_OF_DIAGNOSTICS + SEVERITIES
 
 -- a number where the fields have such values
 abbrev pub numbered : Bool → ℕ → Option ℕ
@@ -40,20 +40,6 @@ of_feature None kind direction = None
 -- of a diagnostic: its severity
 unfoldable pub of_diagnostic : ℕ → Option ℕ
 of_diagnostic severity = numbered (ltb severity SEVERITIES) (FIRST_OF_DIAGNOSTICS + severity)
-
--- what profiles hold by a sum of parts, one for each field: whether a part is in it, and all
-unfoldable pub has_part : (sum part : ℕ) → Bool
-has_part sum part = eqb (sum / part % 2) 1
-
-abbrev pub held_of : ℕ → Held
-held_of sum =
-    record {
-      wiring = has_part sum 1;
-      wiring_of_features = has_part sum 2;
-      category = has_part sum 4;
-      kind = has_part sum 8;
-      direction = has_part sum 16;
-    }
 
 -- a field where it is held, else 0
 unfoldable pub held_part : Bool → ℕ → ℕ

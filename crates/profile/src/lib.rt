@@ -2,22 +2,23 @@
 // predicate asks for more. Any image, member and profile is taken, by plain numbers, as each caller has them.
 #![tactic(auto)]
 
-ghost use Rattle.std.specs.Prelude.{◌≡◌, ◌<◌};
+ghost use Rattle.std.specs.Prelude.{◌≡◌};
 ghost use Rattle.board.specs.Image.{severity};
-ghost use Rattle.profile.specs.Profile.{has_part, held_of, of_component, of_feature, of_diagnostic, wired_in, owned_profile, profile_of, wiring_held, asks_wiring, asks_more, asks_part, asks_of_feature, asks_field};
+ghost use Rattle.profile.specs.Profile.{of_component, of_feature, of_diagnostic, wired_in, owned_profile, profile_of, wiring_held, asks_wiring, asks_more, asks_part, asks_of_feature, asks_field};
 
-use board::image;
+use board::{CATEGORIES, DIRECTIONS, FEATURE_KINDS, SEVERITIES, image};
 use instance;
 use predicate::atom::Member;
 use syntax::kind::Kind;
 use syntax::text;
 
 // The first profiles of features and of diagnostics, after those of components, and how many there are in all.
-pub const FIRST_OF_FEATURES: usize = 28;
+const FIRST_OF_FEATURES: usize = 2 * CATEGORIES as usize;
 
-pub const FIRST_OF_DIAGNOSTICS: usize = 1148;
+const FIRST_OF_DIAGNOSTICS: usize = FIRST_OF_FEATURES
+    + FIRST_OF_FEATURES * (FEATURE_KINDS * DIRECTIONS) as usize;
 
-pub const PROFILES: usize = 1151;
+pub const PROFILES: usize = FIRST_OF_DIAGNOSTICS + SEVERITIES as usize;
 
 // What profiles hold of components and features: whether a component is connected; by that, whether its features are; a component's
 // category; a feature's kind and direction.
@@ -28,30 +29,6 @@ pub struct Held {
     pub category: bool,
     pub kind: bool,
     pub direction: bool,
-}
-
-// The same as a sum of 1, 2, 4, 8 and 16, in the order of the fields.
-impl From<u8> for Held {
-    ghost from_gives = { λ sum held. held ≡ held_of sum };
-
-    fn from(sum: u8) -> Held {
-        Held {
-            wiring: has_part(sum, 1),
-            wiring_of_features: has_part(sum, 2),
-            category: has_part(sum, 4),
-            kind: has_part(sum, 8),
-            direction: has_part(sum, 16),
-        }
-    }
-}
-
-// Whether a part is in a sum.
-#[tactic(auto, unfolding(crate::specs::Profile::has_part))]
-fn has_part(sum: u8, part: u8) -> bool
-    requires { 0 < part }
-    ensures { result ≡ has_part sum part }
-{
-    sum / part % 2 == 1
 }
 
 // The profile of a member of a board, with what is held; none where one of its fields has no such value.
@@ -80,7 +57,7 @@ pub fn component_profile(image: &[u8], held: Held, component: u32) -> Option<usi
 }
 
 // That of a feature, by its owner's.
-pub fn feature_profile(image: &[u8], held: Held, component: u32, feature: u32) -> Option<usize>
+fn feature_profile(image: &[u8], held: Held, component: u32, feature: u32) -> Option<usize>
     ensures { result ≡ profile_of image.now held (Member.Feature component feature) }
 {
     let owner = component_profile(image, held, component);
@@ -125,7 +102,7 @@ pub fn diagnostic_profile(image: &[u8], diagnostic: u32) -> Option<usize>
 fn of_component(category: u32, connected: bool) -> Option<usize>
     ensures { result ≡ of_component category connected }
 {
-    if board::CATEGORIES <= category {
+    if CATEGORIES <= category {
         return None;
     }
     Some(2 * category as usize + usize::from(connected))
@@ -137,11 +114,11 @@ fn of_feature(owner: Option<usize>, kind: u32, direction: u32) -> Option<usize>
     ensures { result ≡ of_feature owner kind direction }
 {
     let k = owner?;
-    if FIRST_OF_FEATURES <= k || board::FEATURE_KINDS <= kind || board::DIRECTIONS <= direction {
+    if FIRST_OF_FEATURES <= k || FEATURE_KINDS <= kind || DIRECTIONS <= direction {
         return None;
     }
-    let kinds = k * board::FEATURE_KINDS as usize + kind as usize;
-    Some(FIRST_OF_FEATURES + (kinds * board::DIRECTIONS as usize + direction as usize))
+    let kinds = k * FEATURE_KINDS as usize + kind as usize;
+    Some(FIRST_OF_FEATURES + (kinds * DIRECTIONS as usize + direction as usize))
 }
 
 // By a diagnostic's severity.
@@ -149,7 +126,7 @@ fn of_feature(owner: Option<usize>, kind: u32, direction: u32) -> Option<usize>
 fn of_diagnostic(severity: u32) -> Option<usize>
     ensures { result ≡ of_diagnostic severity }
 {
-    if board::SEVERITIES <= severity {
+    if SEVERITIES <= severity {
         return None;
     }
     Some(FIRST_OF_DIAGNOSTICS + severity as usize)

@@ -1,4 +1,5 @@
--- Token rows looked at by place: what the Rust's `ExprParser` asks of its tokens. Any numbers are rows; those after the last whole row are none. Assumes nothing: these are definitions.
+-- Token rows looked at by place: what the Rust's `ExprParser` asks of its tokens. Any numbers are rows; those after the last whole row are
+-- none. Assumes nothing: these are definitions.
 use Rattle.std.specs.Prelude.{ℕ, suc, ◌+◌, cond, List, [], ◌∷◌, eqb, drop, Option, slice_get}
 use Rattle.std.specs.Option.{option_map}
 use Rattle.syntax.specs.Kind.{WHITESPACE}

@@ -4,10 +4,8 @@
 ghost use Rattle.std.specs.Prelude.{◌≡◌};
 ghost use Rattle.reader.specs.Reader.{row_at, kind_at, past_ws, current_kind};
 
+use lexer::limits::TOKEN_ROW;
 use syntax::kind::Kind;
-
-// The numbers of a token row.
-const TOKEN_ROW: usize = 3;
 
 // A token as its row has it: the number of its kind, and its first and end byte.
 #[derive(Clone, Copy)]
@@ -50,7 +48,7 @@ impl<'a> Reader<'a> {
     }
 
     // The kind of the next token.
-    pub fn kind(self) -> Option<u32>
+    fn kind(self) -> Option<u32>
         ensures { result ≡ kind_at self.entry.rows.now self.entry.place }
     {
         self.row().map(|row| row.kind)

@@ -6,6 +6,7 @@
 ghost use Rattle.std.specs.Prelude.{◌≤◌};
 
 use cases::{noise, replay};
+use lexer::limits::{ERROR_ROW, TOKEN_ROW, TREE_ROW};
 use message::ErrorRow;
 use std::io;
 use std::io::Write;
@@ -86,16 +87,18 @@ fn run_in<W: Write>(
             print_errors(out, rule, errors, rows.errors)?;
             print_kept(
                 out,
-                is_kept::<3>(tokens, rows.tokens)
-                    && is_kept::<4>(tree, rows.tree)
-                    && is_kept::<4>(errors, rows.errors),
+                is_kept::<TOKEN_ROW>(tokens, rows.tokens)
+                    && is_kept::<TREE_ROW>(tree, rows.tree)
+                    && is_kept::<ERROR_ROW>(errors, rows.errors),
             )
         }
         Err(refusal) => {
             writeln!(out, "refused {}", u32::from(refusal))?;
             print_kept(
                 out,
-                is_kept::<3>(tokens, 0) && is_kept::<4>(tree, 0) && is_kept::<4>(errors, 0),
+                is_kept::<TOKEN_ROW>(tokens, 0)
+                    && is_kept::<TREE_ROW>(tree, 0)
+                    && is_kept::<ERROR_ROW>(errors, 0),
             )
         }
     }
@@ -103,7 +106,7 @@ fn run_in<W: Write>(
 
 // Prints the first n rows of a token table, and how many they are.
 fn print_tokens<W: Write>(out: &mut W, table: &[u32], n: usize) -> io::Result<()> {
-    for row in rows::first::<3>(table, n) {
+    for row in rows::first::<TOKEN_ROW>(table, n) {
         let [kind, first, end] = *row;
         writeln!(out, "{kind} {first} {end}")?;
     }
@@ -112,7 +115,7 @@ fn print_tokens<W: Write>(out: &mut W, table: &[u32], n: usize) -> io::Result<()
 
 // The same of a tree table.
 fn print_tree<W: Write>(out: &mut W, table: &[u32], n: usize) -> io::Result<()> {
-    for row in rows::first::<4>(table, n) {
+    for row in rows::first::<TREE_ROW>(table, n) {
         let [kind, level, first, end] = *row;
         writeln!(out, "{kind} {level} {first} {end}")?;
     }
@@ -121,7 +124,7 @@ fn print_tree<W: Write>(out: &mut W, table: &[u32], n: usize) -> io::Result<()> 
 
 // The same of an error table, with the message of each row.
 fn print_errors<W: Write>(out: &mut W, rule: &[u8], table: &[u32], n: usize) -> io::Result<()> {
-    for row in rows::first::<4>(table, n) {
+    for row in rows::first::<ERROR_ROW>(table, n) {
         let [form, expected, first, end] = *row;
         writeln!(out, "{form} {expected} {first} {end}")?;
         let mut line = [0u8; 4096];

@@ -1,14 +1,12 @@
 -- The verdict and what a rule comes to, in words. Assumes nothing: these are definitions.
-use Rattle.std.specs.Prelude.{ℕ, Bool, true, false, cond, List, [], ◌++◌, eqb}
+use Rattle.std.specs.Prelude.{ℕ, Bool, true, false, cond, List, [], ◌++◌, eqb, Ok, Err}
 use Rattle.syntax.specs.Text.{ascii}
 use Rattle.syntax.specs.Refusal.{refusal_number}
 use Rattle.syntax.specs.declared.refusal.Refusal.{Refusal}
 use Rattle.syntax.specs.declared.refusal.Refusal.TheVariants.{RuleTooLong, RuleNotUtf8, TableTooShort, TooManyOpeners, ImageBadSections, ImageBadStrings, ImageBadRecords, CollectionTooShort, ParseErrors, WhereOnNoCollection, QuantifierOnNoCollection, CountOnNoCollection, FeaturesOnNoComponents, DiagnosticsOnNoDiagnostics, ComparisonNotCountable, IntegerTooLarge}
 use Rattle.texts.specs.Text.{number_text, line}
-use Rattle.calls.specs.Answer.{verdict_of_answer}
+use Rattle.calls.specs.Answer.{Outcome, verdict_of_answer}
 use Rattle.calls.specs.declared.value.Value.{Value}
-use Rattle.std.specs.Prelude.{Ok, Err}
-use Rattle.calls.specs.Answer.{Outcome}
 use Rattle.calls.specs.declared.value.Verdict.{Verdict}
 
 abbrev pub verdict_text : Verdict → List ℕ

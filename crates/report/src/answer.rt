@@ -1,5 +1,5 @@
 // The first two lines: the verdict, and what the rule comes to.
-ghost use Rattle.std.specs.Prelude.{◌≡◌, ◌++◌};
+ghost use Rattle.std.specs.Prelude.{◌≡◌};
 ghost use Rattle.texts.specs.Append.{Wrote};
 ghost use Rattle.report.specs.Answer.{head_text, verdict_text, outcome_text, reason_text, refusal_text, value_text, truth_text, counted};
 
@@ -41,7 +41,7 @@ pub fn write_outcome(outcome: Outcome, out: &mut Writer<'_>)
 }
 
 // A refusal's number, and why.
-pub fn write_refusal(refusal: Refusal, out: &mut Writer<'_>)
+fn write_refusal(refusal: Refusal, out: &mut Writer<'_>)
     ensures { Wrote (refusal_text refusal) out.old out.new }
 {
     let number = u32::from(refusal);

@@ -1,7 +1,7 @@
 // The tables as rows of numbers: a token row has three, a tree row and an error row four, a row of a collection two.
 #![tactic(auto)]
 
-ghost use Rattle.std.specs.Prelude.{◌≡◌, length};
+ghost use Rattle.std.specs.Prelude.{◌≡◌};
 ghost use Rattle.rows.specs.Rows.{first_rows, member_count};
 
 use calls::value::Value;

@@ -4,8 +4,10 @@
 
 ghost use Rattle.std.specs.Prelude.{◌<◌, ◌≤◌, ◌^◌, length, IfOk};
 
+use board::MAX_IMAGE;
 use calls::value::{Outcome, Verdict};
 use eval::Answer;
+use lexer::limits::{ERROR_ROW, MAX_RULE, TREE_ROW};
 use matching::search;
 use message::ErrorRow;
 use report::{answer, error};
@@ -18,12 +20,12 @@ use texts::Writer;
 
 // One byte more than a rule and an image may have: what fills the buffer is too long, whatever follows. All buffers and tables stand on the
 // stack, as the project has no heap.
-const RULE: usize = 501;
+const RULE: usize = MAX_RULE + 1;
 
-const IMAGE: usize = 65537;
+const IMAGE: usize = MAX_IMAGE + 1;
 
 // The numbers of a collection table that every board has room in.
-const COLLECTION: usize = 65536;
+const COLLECTION: usize = MAX_IMAGE;
 
 // The room for the lines of an answer or an error, and for a member: more than the longest line, which a diagnostic's message makes.
 const LINES: usize = 4096;
@@ -33,8 +35,9 @@ const MEMBER: usize = 131072;
 // The room for the words of an error of the system.
 const WORDS: usize = 1024;
 
-// The room for the rule that names the members for which a quantifier failed.
-const WITNESS: usize = 1100;
+// The room for the rule that names the members for which a quantifier failed: two parts of the rule, each shorter than `RULE`, and at most
+// 12 bytes around them. So it is never cut.
+const WITNESS: usize = 2 * RULE + 12;
 
 fn main(rt: HostRuntime) -> io::Result<()> {
     let mut path = [0u8; 4096];
@@ -153,10 +156,19 @@ fn run_rule<W: Write>(out: &mut W, image: &[u8], rule: &[u8]) -> io::Result<()> 
     match ran.reading {
         Err(_) => Ok(()),
         Ok(rows) => {
-            print_errors(out, rule, rows::first::<4>(&tables.errors, rows.errors))?;
+            print_errors(
+                out,
+                rule,
+                rows::first::<ERROR_ROW>(&tables.errors, rows.errors),
+            )?;
             print_members(out, image, ran.outcome, &tables.collection)?;
             if matches!(ran.verdict, Verdict::Fail) {
-                return print_failing(out, image, rule, rows::first::<4>(&tables.tree, rows.tree));
+                return print_failing(
+                    out,
+                    image,
+                    rule,
+                    rows::first::<TREE_ROW>(&tables.tree, rows.tree),
+                );
             }
             Ok(())
         }
@@ -179,7 +191,7 @@ fn print_lines<const ROOM: usize, W: Write, F: FnOnce(&mut Writer<'_>)>(
 }
 
 // The parse errors, each with the rule's line and a mark under the place.
-fn print_errors<W: Write>(out: &mut W, rule: &[u8], errors: &[[u32; 4]]) -> io::Result<()> {
+fn print_errors<W: Write>(out: &mut W, rule: &[u8], errors: &[[u32; ERROR_ROW]]) -> io::Result<()> {
     for row in errors {
         let row = ErrorRow::from(*row);
         print_lines::<LINES, _, _>(out, |lines| error::write_error(rule, row, lines))?;
@@ -212,7 +224,7 @@ fn print_failing<W: Write>(
     out: &mut W,
     image: &[u8],
     rule: &[u8],
-    tree: &[[u32; 4]],
+    tree: &[[u32; TREE_ROW]],
 ) -> io::Result<()> {
     let mut space = [0u8; WITNESS];
     let mut lines = Writer::new(&mut space);
@@ -221,17 +233,28 @@ fn print_failing<W: Write>(
     if witness.is_empty() {
         return Ok(());
     }
-    out.write_all(b"it fails for these, by ")?;
-    out.write_all(witness)?;
-    out.write_all(b"\n")?;
     list_members(out, image, witness)
 }
 
-// Runs a rule and prints the members that it gives, without a verdict.
+// Runs the rule that names the members and prints what it gives, without a verdict. It has up to 8 bytes, a bracket and a `not` more than
+// the rule that failed, and so may be past a limit: then the refusal is printed in place of the members.
 fn list_members<W: Write>(out: &mut W, image: &[u8], rule: &[u8]) -> io::Result<()> {
     let mut tables = Tables::new();
     let outcome = tables.run(rule, image).outcome;
+    print_naming_rule(out, rule, outcome.is_ok())?;
     print_lines::<LINES, _, _>(out, |lines| answer::write_outcome(outcome, lines))?;
     out.write_all(b"\n")?;
     print_members(out, image, outcome, &tables.collection)
+}
+
+// The rule that names the members, and the words before its outcome.
+fn print_naming_rule<W: Write>(out: &mut W, rule: &[u8], is_run: bool) -> io::Result<()> {
+    if is_run {
+        out.write_all(b"it fails for these, by ")?;
+        out.write_all(rule)?;
+        return out.write_all(b"\n");
+    }
+    out.write_all(b"it fails for some members, which this rule would name: ")?;
+    out.write_all(rule)?;
+    out.write_all(b"\nthat rule is itself refused, so they are not listed: ")
 }

@@ -8,8 +8,8 @@ use std::io;
 use std::io::Read;
 
 // Reads until the buffer is full or the input ends, and gives how many bytes came. They stand at the buffer's front, and are those that
-// the input had next; where they are fewer than the buffer has room for, the input is at its end. A read gives as many as it likes, so that no
-// range counts them.
+// the input had next; where they are fewer than the buffer has room for, the input is at its end. A read gives as many as it likes, so that
+// no range counts them.
 pub fn read_full<R: Read>(input: &mut R, buffer: &mut [u8]) -> io::Result<usize>
     ensures within { IfOk result (λ n. n ≤ length buffer.new) }
     ensures bytes { IfOk result (λ n. Consumes (R.remaining input.old) (R.remaining input.new) (take n buffer.new)) }

@@ -1,6 +1,6 @@
 -- Laws of UTF-8: well-formedness byte by byte, what must follow a first byte, and texts one after the other. Assumes nothing.
-use mathlib.Core.Path.{◌≡◌, refl, ◌∙◌, subst}
-use mathlib.Core.Bool.{Bool, true, false, ◌&&◌}
+use mathlib.Core.Path.{◌≡◌, refl, sym, ◌∙◌, subst}
+use mathlib.Core.Bool.{Bool, true, false, ◌&&◌, and-true}
 use mathlib.Core.List.{List, [], ◌∷◌, ◌++◌}
 use Prim.Native.Nat.{ℕ, zero, suc, ◌≤◌, ◌<◌, max}
 use native.Mathlib.Omega.{arith}
@@ -112,11 +112,7 @@ below_both a b c t =
 -- a text is ASCII alone where its highest byte is below 0x80; a is the highest of what stands before it
 highest_of : (a : ℕ) (s : List ℕ) → ltb (fold max a s) 0x80 ≡ (ltb a 0x80 && is_ascii s)
 unfolding is_ascii
-highest_of a [] = and_true (ltb a 0x80)
-  where
-    and_true : (t : Bool) → t ≡ (t && true)
-    and_true true = refl
-    and_true false = refl
+highest_of a [] = sym (and-true (ltb a 0x80))
 highest_of a (b ∷ s) = highest_of (max a b) s ∙ below_both a b 0x80 (is_ascii s)
 
 pub highest_ascii : (s : List ℕ) → ltb (fold max 0 s) 0x80 ≡ is_ascii s

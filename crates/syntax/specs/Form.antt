@@ -1,4 +1,5 @@
--- Document 01, "Tables lent": the forms of parse errors, by the place in parser.rs that reports them. Assumes nothing: these are definitions.
+-- Document 01, "Tables lent": the forms of parse errors, by the place in parser.rs that reports them. Assumes nothing: these are
+-- definitions.
 use Rattle.std.specs.Prelude.{ℕ}
 
 -- `expect`: a token of another kind

@@ -2,8 +2,8 @@
 ghost use Rattle.std.specs.Prelude.{◌≡◌};
 ghost use Rattle.syntax.specs.Text.{same, bytes_between};
 
-// Whether two texts have the same bytes. It goes by their lengths and byte by byte, in its caller, as most callers have a short word at hand;
-// `==` calls a function that is made for long texts.
+// Whether two texts have the same bytes. It goes by their lengths and byte by byte, in its caller, as most callers have a short word at
+// hand; `==` calls a function that is made for long texts.
 #[inline(always)]
 pub fn same(a: &[u8], b: &[u8]) -> bool
     ensures { result ≡ same a.now b.now }

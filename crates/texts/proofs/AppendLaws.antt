@@ -89,9 +89,6 @@ pub record Walks (f : ℕ → List ℕ) (s text : List ℕ) (before now : Writer
 pub walks_all : {f : ℕ → List ℕ} {s : List ℕ} {a : Writer} → Walks f s (each f s) a a 0
 walks_all {f} {s} = record { whole = λ p. rw (part_whole s) at p }
 
-pub walks_itself : {s : List ℕ} {a : Writer} → Walks (λ b. b ∷ []) s s a a 0
-walks_itself {s} = record { whole = λ p. rw (part_whole s, each_itself s) at p }
-
 module _ {f : ℕ → List ℕ} {s text : List ℕ} {before now : Writer} {i : ℕ} (w : Walks f s text before now i) where
   -- the bytes that are left: the next, and those behind it
   rest : i < length s → each f (bytes_between s i (length s)) ≡ f (get_or s i 0) ++ each f (bytes_between s (i + 1) (length s))

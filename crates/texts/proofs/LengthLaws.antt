@@ -8,7 +8,7 @@ use lib.Dec.{eqb, leb, ltb}
 use lib.ListN.{length, take, drop, length-append}
 use mathlib.Core.Bool.{◌&&◌}
 use Rattle.syntax.proofs.BoolLaws.{whether}
-use lib.Seq.{sets-eq, take-append_seam}
+use lib.Seq.{sets-eq}
 use Rattle.syntax.specs.Text.{bytes_between}
 use Rattle.texts.specs.declared.Writer.{Writer}
 use Rattle.texts.specs.Append.{Written, Wrote, appended}
@@ -23,13 +23,6 @@ pub wrote_whole : {text : List ℕ} {before after : Writer} → Wrote text befor
 unfolding appended
 wrote_whole {text} {before} {after} w h =
     (ap (λ (x : Written). x.at) w.appends ∙ omega arith, ap (λ (x : Written). x.bytes) w.appends ∙ sets-eq text before.out.now before.at h)
-
--- of a writer at the front of its place, it is what is written
-pub wrote_first : {text : List ℕ} {before after : Writer} → Wrote text before after → before.at ≡ 0 → length text ≤ length before.out.now → take after.at after.out.now ≡ text
-wrote_first {text} {before} {after} w z h =
-    let whole = wrote_whole w (omega arith) in
-    let end : after.at ≡ length text = omega (arith, whole.0) in
-    rw (end, whole.1, z) (take-append_seam text (drop (0 + length text) before.out.now))
 
 digits_length : (most n : ℕ) → length (digits most n) ≤ most
 unfolding digits

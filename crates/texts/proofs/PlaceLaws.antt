@@ -6,7 +6,7 @@ use Prim.Native.Nat.{ℕ, zero, suc, zero-le, suc-le-suc, ◌+◌, ◌-◌, ◌�
 use native.Mathlib.Omega.{arith}
 use borrow.Author.Tests.{lt-ltb, le-ltb, ltb-true, leb-true, leb-false}
 use lib.Dec.{eqb, ltb, leb}
-use lib.ListN.{length, take, drop, get_or, length-drop}
+use lib.ListN.{length, take, drop, get_or}
 use lib.Seq.{length-take-le, get_or-take}
 use Rattle.syntax.specs.Text.{ascii, bytes_between}
 use Rattle.syntax.proofs.BoolLaws.{whether}
@@ -64,10 +64,6 @@ mark_within rule first =
     whether (ltb first (length rule)) (λ t. rw t (omega (arith, ltb-true first (length rule) t)))
     (λ t. rw t (back_within (λ b. ltb 0x20 b) rule (length rule)))
 
-start_within : (s : List ℕ) (at : ℕ) → line_start s at ≤ at
-unfolding line_start
-start_within s at = back_within (λ b. eqb b LINE_FEED) s at
-
 -- a line's length, from what is known of each byte
 length_is : (s : List ℕ) (r : ℕ) → r ≤ length s → (r < length s → eqb (get_or s r 0) LINE_FEED ≡ true) → ((k : ℕ) → k < r → eqb (get_or s k 0) LINE_FEED ≡ false) → r ≡ line_length s
 unfolding line_length
@@ -84,10 +80,6 @@ length_within (b ∷ s) =
     let ih = length_within s in
     whether (eqb b LINE_FEED) (λ e. rw e zero-le) (λ e. rw e (suc-le-suc ih))
 
-pub end_within : (s : List ℕ) (at : ℕ) → at ≤ length s → (at ≤ line_end s at) × (line_end s at ≤ length s)
-unfolding line_end
-end_within s at h = (omega arith, omega (arith, length_within (drop at s), length-drop at s))
-
 -- a place found: its line lies around it
 module _ (rule : List ℕ) (first : ℕ) {mark start n : ℕ} (m : mark ≡ mark_place rule first) (s : IsBehindLast (λ b. eqb b LINE_FEED) (take mark rule) start) (t : IsLineLength (drop mark rule) n) where
   pub mark_inside : mark ≤ length rule
@@ -100,9 +92,6 @@ module _ (rule : List ℕ) (first : ℕ) {mark start n : ℕ} (m : mark ≡ mark
   stop_is : mark + n ≡ line_end rule mark
   unfolding line_end
   stop_is = ap (λ (k : ℕ). mark + k) (length_is (drop mark rule) n t.within t.feed t.others)
-
-  pub stop_inside : mark + n ≤ length rule
-  stop_inside = omega (arith, t.within, length-drop mark rule, mark_inside)
 
   -- its two lines written
   pub place_wrote : (end : ℕ) {past : ℕ} {before between after : Writer} → past ≡ mark_end rule first end (mark + n) → Wrote (line (indented (shown (bytes_between rule start (mark + n))))) before between

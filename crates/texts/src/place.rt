@@ -1,7 +1,7 @@
 // The place of an error in a rule: its line, and a mark under the token found.
-ghost use Rattle.std.specs.Prelude.{◌≡◌, ◌++◌, ◌+◌, ◌≤◌, length, eqb, ltb};
+ghost use Rattle.std.specs.Prelude.{◌≡◌, ◌++◌, eqb, ltb};
 ghost use Rattle.texts.specs.Append.{Wrote};
-ghost use Rattle.syntax.specs.Text.{ascii, bytes_between};
+ghost use Rattle.syntax.specs.Text.{ascii};
 ghost use Rattle.texts.specs.Text.{BLANK, shown, indented, line};
 ghost use Rattle.texts.specs.Place.{LINE_FEED, CARET, IsBehindLast, IsLineLength, mark_place, mark_end, column, columns, place_text};
 

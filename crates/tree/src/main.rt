@@ -1,6 +1,7 @@
 // Reads a rule from standard input and prints its tree rows, the number of parse errors and their messages, or why it is refused.
 #![tactic(auto)]
 
+use lexer::limits::{ERROR_ROW, MAX_RULE, TREE_ROW};
 use message::ErrorRow;
 use rows::{ROWS, TOKENS};
 use std::io;
@@ -9,7 +10,7 @@ use syntax::text;
 
 // One byte more than a rule may have: a rule that fills the buffer is too long, whatever follows. It stands on the stack, as the tables do:
 // the project has no heap.
-const BUFFER: usize = 501;
+const BUFFER: usize = MAX_RULE + 1;
 
 fn main(rt: HostRuntime) -> io::Result<()> {
     let mut input = rt.stdin();
@@ -36,7 +37,7 @@ fn print_reading<W: Write>(out: &mut W, rule: &[u8]) -> io::Result<()> {
 // Prints the first n rows of a tree table, or as many as it has. `replay` has the same: one for both would be public, with no contract that
 // says what is printed.
 fn print_tree<W: Write>(out: &mut W, table: &[u32], n: usize) -> io::Result<()> {
-    for row in rows::first::<4>(table, n) {
+    for row in rows::first::<TREE_ROW>(table, n) {
         let [kind, level, first, end] = *row;
         writeln!(out, "{kind} {level} {first} {end}")?;
     }
@@ -45,7 +46,7 @@ fn print_tree<W: Write>(out: &mut W, table: &[u32], n: usize) -> io::Result<()> 
 
 // Prints the messages of the first n error rows, or of as many as there are.
 fn print_messages<W: Write>(out: &mut W, rule: &[u8], errors: &[u32], n: usize) -> io::Result<()> {
-    for row in rows::first::<4>(errors, n) {
+    for row in rows::first::<ERROR_ROW>(errors, n) {
         let mut line = [0u8; 4096];
         match message::write_message(rule, ErrorRow::from(*row), &mut line) {
             Some(n) => out.write_all(text::part(&line, 0, n))?,

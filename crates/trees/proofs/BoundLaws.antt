@@ -1,4 +1,5 @@
--- Rows and errors are few: together at most six for each token and five more. So the tables that the parser is lent have room for them. Assumes nothing.
+-- Rows and errors are few: together at most six for each token and five more. So the tables that the parser is lent have room for them.
+-- Assumes nothing.
 use mathlib.Core.Path.{◌≡◌, refl}
 use mathlib.Core.List.{List, [], ◌∷◌}
 use mathlib.Core.Bool.{Bool, true, false, ◌&&◌, ◌||◌}
@@ -20,7 +21,8 @@ use Rattle.trees.proofs.GreenLaws.{size-⊹, height_size}
 use Rattle.trees.proofs.TreeLaws.{eat_rest}
 use Rattle.trees.proofs.StepLaws.{Sees, sees_kind, expect_bump, always}
 
--- x is what was read from ts. Each token taken pays six, each row and each error costs one: at least `saved` remain, or at most `over` are missing
+-- x is what was read from ts. Each token taken pays six, each row and each error costs one: at least `saved` remain, or at most `over` are
+-- missing
 record Bounded (ts : List Token) (saved over : ℕ) (x : Parsed) : Type 0 where
   bounded : size x.made + length x.errors + 6 * length x.rest + saved ≤ 6 * length ts + over
 

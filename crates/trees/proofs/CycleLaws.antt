@@ -11,7 +11,7 @@ use Rattle.syntax.specs.Kind.{DOT, AND_KW, OR_KW, BINARY_EXPR}
 use Rattle.syntax.proofs.BoolLaws.{both}
 use Rattle.lexer.specs.Lex.{Token}
 use Rattle.trees.specs.Look.{at_kind, has_binary_op_at_level}
-use Rattle.trees.specs.Parse.{Parser, done, join, ◌▹◌, in_node, choose, eat_ws, bump, expect, predicate_args, no_args, no_method, parse_method, parse_dot_call, OrExpr, OrRest, AndExpr, AndRest, Atom, Calls, atom_here, parse}
+use Rattle.trees.specs.Parse.{Parser, done, join, ◌▹◌, in_node, choose, eat_ws, bump, expect, predicate_args, no_args, no_method, parse_method, parse_dot_call, OrExpr, OrRest, AndExpr, AndRest, Atom, Calls, Mode, atom_here, step, parse}
 use Rattle.trees.specs.Writing.{Did, NoOpsFrom}
 use Rattle.trees.specs.declared.Cursor.{Cursor}
 use Rattle.trees.specs.declared.Ops.{Ops}
@@ -37,35 +37,38 @@ dot_ahead {ts} {c = c} e a = ahead (dot_less (drop c.token ts) e) a
 
 -- ---- one step of each of the functions that call each other
 
+by_step : (m : Mode) {p : Parser} → step parse m ≡ p → (ts : List Token) → parse m ts ≡ p ts
+by_step m e ts = parse_step m ts ∙ ap (λ (p : Parser). p ts) e
+
 -- where neither `and` nor `or` is left, an or_expr is an atom
 pub alone : {ts : List Token} {o : Ops} (i : ℕ) → NoOpsFrom ts o → (leb o.ors i && leb o.ands i) ≡ true → parse OrExpr (drop i ts) ≡ parse Atom (drop i ts)
 alone {ts} {o} i n y =
     let w = both (leb o.ors i) (leb o.ands i) y in
-    parse_step OrExpr (drop i ts) ∙ ap (λ (p : Parser). p (drop i ts)) step_or_is ∙ choose_false _ _ _ (drop i ts) (none_ahead n.ors i (leb-true _ _ w.0))
-    ∙ parse_step AndExpr (drop i ts) ∙ ap (λ (p : Parser). p (drop i ts)) step_and_is ∙ choose_false _ _ _ (drop i ts) (none_ahead n.ands i (leb-true _ _ w.1))
+    by_step OrExpr step_or_is (drop i ts) ∙ choose_false _ _ _ (drop i ts) (none_ahead n.ors i (leb-true _ _ w.0))
+    ∙ by_step AndExpr step_and_is (drop i ts) ∙ choose_false _ _ _ (drop i ts) (none_ahead n.ands i (leb-true _ _ w.1))
 
 module _ (ts : List Token) where
   pub or_step : parse OrExpr ts ≡ choose (has_binary_op_at_level OR_KW) (in_node BINARY_EXPR (parse AndExpr ▹ parse OrRest)) (parse AndExpr) ts
-  or_step = parse_step OrExpr ts ∙ ap (λ (p : Parser). p ts) step_or_is
+  or_step = by_step OrExpr step_or_is ts
 
   pub and_step : parse AndExpr ts ≡ choose (has_binary_op_at_level AND_KW) (in_node BINARY_EXPR (parse Atom ▹ parse AndRest)) (parse Atom) ts
-  and_step = parse_step AndExpr ts ∙ ap (λ (p : Parser). p ts) step_and_is
+  and_step = by_step AndExpr step_and_is ts
 
   pub atom_step : parse Atom ts ≡ (eat_ws ▹ atom_here parse) ts
-  atom_step = parse_step Atom ts ∙ ap (λ (p : Parser). p ts) step_atom_is
+  atom_step = by_step Atom step_atom_is ts
 
   pub calls_step : parse Calls ts ≡ (eat_ws ▹ choose (at_kind DOT) (parse_dot_call (parse OrExpr) ▹ parse Calls) done) ts
-  calls_step = parse_step Calls ts ∙ ap (λ (p : Parser). p ts) step_calls_is
+  calls_step = by_step Calls step_calls_is ts
 
   -- the loops, where they go on and where they end
   pub or_more : at_kind OR_KW ts ≡ true → parse OrRest ts ≡ (bump ▹ parse AndExpr ▹ parse OrRest) ts
-  or_more e = parse_step OrRest ts ∙ ap (λ (p : Parser). p ts) step_or_rest_is ∙ choose_true _ _ _ ts e
+  or_more e = by_step OrRest step_or_rest_is ts ∙ choose_true _ _ _ ts e
 
   pub or_end : at_kind OR_KW ts ≡ false → parse OrRest ts ≡ done ts
-  or_end e = parse_step OrRest ts ∙ ap (λ (p : Parser). p ts) step_or_rest_is ∙ choose_false _ _ _ ts e
+  or_end e = by_step OrRest step_or_rest_is ts ∙ choose_false _ _ _ ts e
 
   pub and_more : at_kind AND_KW ts ≡ true → parse AndRest ts ≡ (bump ▹ parse Atom ▹ parse AndRest) ts
-  and_more e = parse_step AndRest ts ∙ ap (λ (p : Parser). p ts) step_and_rest_is ∙ choose_true _ _ _ ts e
+  and_more e = by_step AndRest step_and_rest_is ts ∙ choose_true _ _ _ ts e
 
   pub and_end : at_kind AND_KW ts ≡ false → parse AndRest ts ≡ done ts
-  and_end e = parse_step AndRest ts ∙ ap (λ (p : Parser). p ts) step_and_rest_is ∙ choose_false _ _ _ ts e
+  and_end e = by_step AndRest step_and_rest_is ts ∙ choose_false _ _ _ ts e

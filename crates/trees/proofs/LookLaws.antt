@@ -155,25 +155,27 @@ module _ {tokens : List ℕ} {ts : List Token} {i : ℕ} (e : tokens ≡ token_r
       ends_later (i - 1 - c) (drop c ts) (rw (drop-drop, q) a) NONE NONE
 
   module _ (n : get_or tokens (3 * (i - 1)) 0 ≡ WHITESPACE → ⊥) where
-    solid_before : (second last : ℕ) → ends_in_comparison second last (drop (i - 1) ts) ≡ ends_in_comparison last (get_or tokens (3 * (i - 1)) 0) (drop i ts)
+    solid_before : {b : Bool} → integer ≡ b → (second last : ℕ) → ends_in_comparison second last (drop (i - 1) ts)
+        ≡ elim b [ true ↦ is_comparison (get_or tokens (3 * (i - 1)) 0) | false ↦ is_comparison last && eqb (get_or tokens (3 * (i - 1)) 0) INT_LIT ]
     unfolding ends_in_comparison
-    solid_before second last = rw (before.here, before.kind, ne_eqb before.token.kind WHITESPACE (λ q. n (before.kind ∙ q)), ends_in_comparison, after)
+    solid_before f second last =
+        rw (before.here, ne_eqb before.token.kind WHITESPACE (λ q. n (before.kind ∙ q)), ends_in_comparison, after, ← before.kind)
+        (rw f at (g.comes last (get_or tokens (3 * (i - 1)) 0)))
 
     pub ending_integer : integer ≡ false → get_or tokens (3 * (i - 1)) 0 ≡ INT_LIT → Ending ts true (i - 1)
     ending_integer f q =
         record {
           within = omega (arith, g.within);
-          comes = λ second last. solid_before second last ∙ (rw f at (g.comes last (get_or tokens (3 * (i - 1)) 0))) ∙ rw (eq-eqb _ _ q) (and-true (is_comparison last));
+          comes = λ second last. solid_before f second last ∙ rw (eq-eqb _ _ q) (and-true (is_comparison last));
         }
 
     pub ends_compared : integer ≡ true → {r : Bool} → r ≡ is_comparison (get_or tokens (3 * (i - 1)) 0) → (c : ℕ) → c < i → r ≡ has_count_compare_ahead (drop c ts)
     unfolding has_count_compare_ahead
-    ends_compared t a c l = a ∙ sym (passed c l λ second last. solid_before second last ∙ (rw t at (g.comes last (get_or tokens (3 * (i - 1)) 0))))
+    ends_compared t a c l = a ∙ sym (passed c l (solid_before t))
 
     pub ends_other : integer ≡ false → (get_or tokens (3 * (i - 1)) 0 ≡ INT_LIT → ⊥) → (c : ℕ) → c < i → false ≡ has_count_compare_ahead (drop c ts)
     unfolding has_count_compare_ahead
-    ends_other f q c l =
-        sym (passed c l λ second last. solid_before second last ∙ (rw f at (g.comes last (get_or tokens (3 * (i - 1)) 0))) ∙ rw (ne_eqb _ _ q) (and-false (is_comparison last)))
+    ends_other f q c l = sym (passed c l λ second last. solid_before f second last ∙ rw (ne_eqb _ _ q) (and-false (is_comparison last)))
 
 pub ends_none : {ts : List Token} {integer : Bool} {i : ℕ} → Ending ts integer i → (c : ℕ) → c ≤ i → i ≤ c → false ≡ has_count_compare_ahead (drop c ts)
 unfolding has_count_compare_ahead is_comparison
@@ -182,43 +184,40 @@ ends_none {ts} {integer} {i} g c l h = let q : c ≡ i = omega arith in rw q (sy
 -- ---- an operator ahead, a token at a time; k is the kind that the table has at i
 
 module _ {tokens : List ℕ} {ts : List Token} {i : ℕ} (w : Row 0 tokens ts i) where
+  is : {k : ℕ} → get_or tokens (3 * i) 0 ≡ k → eqb w.token.kind k ≡ true
+  is e = eq-eqb _ _ (sym w.kind ∙ e)
+
+  is_not : {k : ℕ} → (get_or tokens (3 * i) 0 ≡ k → ⊥) → eqb w.token.kind k ≡ false
+  is_not n = ne_eqb _ _ (λ q. n (w.kind ∙ q))
+
   module _ (op depth : ℕ) (found : Bool) where
     pub op_blank : get_or tokens (3 * i) 0 ≡ WHITESPACE → op_ahead op depth found (drop (i + 1) ts) ≡ op_ahead op depth found (drop i ts)
     unfolding op_ahead
-    op_blank e = rw (w.here, eq-eqb w.token.kind WHITESPACE (sym w.kind ∙ e), op_ahead)
+    op_blank e = rw (w.here, is e, op_ahead)
 
     module _ (n : get_or tokens (3 * i) 0 ≡ WHITESPACE → ⊥) where
-      solid : eqb w.token.kind WHITESPACE ≡ false
-      solid = ne_eqb _ _ (λ q. n (w.kind ∙ q))
-
       pub op_open : get_or tokens (3 * i) 0 ≡ L_PAREN → op_ahead op (depth + 1) true (drop (i + 1) ts) ≡ op_ahead op depth found (drop i ts)
       unfolding op_ahead
-      op_open e = rw (w.here, solid, eq-eqb w.token.kind L_PAREN (sym w.kind ∙ e), op_ahead)
+      op_open e = rw (w.here, is_not n, is e, op_ahead)
 
       module _ (m : get_or tokens (3 * i) 0 ≡ L_PAREN → ⊥) where
-        no_open : eqb w.token.kind L_PAREN ≡ false
-        no_open = ne_eqb _ _ (λ q. m (w.kind ∙ q))
-
         module _ (e : get_or tokens (3 * i) 0 ≡ R_PAREN) where
           pub op_shut : depth ≡ 0 → false ≡ op_ahead op depth found (drop i ts)
           unfolding op_ahead
-          op_shut z = rw (w.here, solid, no_open, eq-eqb w.token.kind R_PAREN (sym w.kind ∙ e), eq-eqb depth 0 z, op_ahead)
+          op_shut z = rw (w.here, is_not n, is_not m, is e, eq-eqb depth 0 z, op_ahead)
 
           pub op_close : (depth ≡ 0 → ⊥) → op_ahead op (depth - 1) found (drop (i + 1) ts) ≡ op_ahead op depth found (drop i ts)
           unfolding op_ahead
-          op_close z = rw (w.here, solid, no_open, eq-eqb w.token.kind R_PAREN (sym w.kind ∙ e), ne_eqb depth 0 z, op_ahead)
+          op_close z = rw (w.here, is_not n, is_not m, is e, ne_eqb depth 0 z, op_ahead)
 
         module _ (o : get_or tokens (3 * i) 0 ≡ R_PAREN → ⊥) where
-          no_close : eqb w.token.kind R_PAREN ≡ false
-          no_close = ne_eqb _ _ (λ q. o (w.kind ∙ q))
-
           pub op_other : eqb w.token.kind op && (eqb depth 0 && found) ≡ false
               → op_ahead op depth true (drop (i + 1) ts) ≡ op_ahead op depth found (drop i ts)
           unfolding op_ahead
-          op_other e = rw (w.here, solid, no_open, no_close, e, op_ahead)
+          op_other e = rw (w.here, is_not n, is_not m, is_not o, e, op_ahead)
 
           pub op_past : (get_or tokens (3 * i) 0 ≡ op → ⊥) → op_ahead op depth true (drop (i + 1) ts) ≡ op_ahead op depth found (drop i ts)
-          op_past a = op_other (rw (ne_eqb w.token.kind op (λ q. a (w.kind ∙ q))))
+          op_past a = op_other (rw (is_not a))
 
           pub op_deep : (depth ≡ 0 → ⊥) → op_ahead op depth true (drop (i + 1) ts) ≡ op_ahead op depth found (drop i ts)
           op_deep a = op_other (rw (ne_eqb depth 0 a) (and-false (eqb w.token.kind op)))
@@ -229,7 +228,7 @@ module _ {tokens : List ℕ} {ts : List Token} {i : ℕ} (w : Row 0 tokens ts i)
           pub op_here : get_or tokens (3 * i) 0 ≡ op → depth ≡ 0 → found ≡ true → true ≡ op_ahead op depth found (drop i ts)
           unfolding op_ahead
           op_here a z f =
-              rw (w.here, solid, no_open, no_close, eq-eqb w.token.kind op (sym w.kind ∙ a), eq-eqb depth 0 z, f, op_ahead)
+              rw (w.here, is_not n, is_not m, is_not o, is a, eq-eqb depth 0 z, f, op_ahead)
 
 -- ---- places from which on no token is of a kind
 

@@ -1,17 +1,18 @@
--- The steps of `parse` always suffice: one step more changes nothing. And taking a token that is seen brings the cursor ahead. Assumes nothing.
+-- The steps of `parse` always suffice: one step more changes nothing. And taking a token that is seen brings the cursor ahead. Assumes
+-- nothing.
 use mathlib.Core.Path.{◌≡◌, refl, sym, ap, ◌∙◌}
 use mathlib.Core.List.{List, [], ◌∷◌}
 use mathlib.Core.Bool.{Bool, true}
 use Prim.Native.Nat.{ℕ, zero, suc, ◌+◌, ◌*◌, ◌≤◌, ◌<◌}
 use native.Mathlib.Omega.{arith}
-use borrow.Author.Tests.{eq-eqb, eqb-true}
+use borrow.Author.Tests.{eqb-true}
 use lib.Dec.{eqb}
 use lib.ListN.{length, drop, length-append, length-drop}
 use Rattle.syntax.specs.Kind.{DOT, L_PAREN, R_PAREN, AND_KW, OR_KW, NOT_KW, BINARY_EXPR, UNARY_EXPR, PAREN_EXPR, DOT_CALL, CALL_ARGS, NONE}
 use Rattle.syntax.specs.Text.{ascii}
 use Rattle.syntax.proofs.BoolLaws.{whether}
 use Rattle.lexer.specs.Lex.{Token}
-use Rattle.trees.specs.Look.{skip_ws, head_kind, current_kind, at_kind, at_text, at_predicate_method, at_plain_method, has_binary_op_at_level}
+use Rattle.trees.specs.Look.{skip_ws, head_kind, at_kind, at_text, at_predicate_method, at_plain_method, has_binary_op_at_level}
 use Rattle.trees.specs.Parse.{Parser, done, next, join, ◌▹◌, in_node, choose, eat_ws, bump, expect, Mode, OrExpr, OrRest, AndExpr, AndRest, Atom, Calls, no_args, no_method, parse_method, step, steps, parse}
 use Rattle.trees.specs.Writing.{Did}
 use Rattle.trees.specs.declared.Cursor.{Cursor}
@@ -200,26 +201,20 @@ parse_steps b f m ts h = sym (steps_from_lem b f (suc (3 * length ts + 2)) m ts 
 
 -- ---- the cursor goes ahead
 
--- where fewer tokens are left
-pub ahead : {ts : List Token} {t₀ t₁ e₀ e₁ : List ℕ} {l : ℕ} {c d : Cursor} {p : Parser}
-    → length (p (drop c.token ts)).rest < length (drop c.token ts) → Did ts t₀ t₁ e₀ e₁ l c d p → c.token < d.token
-ahead {ts} {c = c} {d} h a = omega (arith, ap length a.wrote.rest, length-drop c.token ts, length-drop d.token ts, a.wrote.within)
+module _ {ts : List Token} {t₀ t₁ e₀ e₁ : List ℕ} {l : ℕ} {c d : Cursor} where
+  -- where fewer tokens are left
+  pub ahead : {p : Parser} → length (p (drop c.token ts)).rest < length (drop c.token ts) → Did ts t₀ t₁ e₀ e₁ l c d p → c.token < d.token
+  ahead h a = omega (arith, ap length a.wrote.rest, length-drop c.token ts, length-drop d.token ts, a.wrote.within)
 
--- past a token that is seen
-pub bump_ahead : {test : List Token → Bool} {ts : List Token} {t₀ t₁ e₀ e₁ : List ℕ} {l : ℕ} {c d : Cursor} → Sees test → test (drop c.token ts) ≡ true
-    → Did ts t₀ t₁ e₀ e₁ l c d bump → c.token < d.token
-bump_ahead s e a = ahead (bump_less s _ e) a
+  -- past a token that is seen
+  pub bump_ahead : {test : List Token → Bool} → Sees test → test (drop c.token ts) ≡ true → Did ts t₀ t₁ e₀ e₁ l c d bump → c.token < d.token
+  bump_ahead s e a = ahead (bump_less s _ e) a
 
--- and past one that is there
-pub next_ahead : {ts : List Token} {t₀ t₁ e₀ e₁ : List ℕ} {l : ℕ} {c d : Cursor} → 0 < length (drop c.token ts) → Did ts t₀ t₁ e₀ e₁ l c d next → c.token < d.token
-unfolding next
-next_ahead {ts} {c = c} h a = ahead (go (drop c.token ts) h) a
-  where
-    go : (us : List Token) → 0 < length us → length (next us).rest < length us
-    go [] q = absurd (omega arith)
-    go (u ∷ us) q = omega arith
-
--- a kind that is there is seen
-pub at_kind_lem : (k : ℕ) (ts : List Token) → current_kind ts ≡ k → at_kind k ts ≡ true
-unfolding at_kind
-at_kind_lem k ts e = eq-eqb (current_kind ts) k e
+  -- and past one that is there
+  pub next_ahead : 0 < length (drop c.token ts) → Did ts t₀ t₁ e₀ e₁ l c d next → c.token < d.token
+  unfolding next
+  next_ahead h a = ahead (go (drop c.token ts) h) a
+    where
+      go : (us : List Token) → 0 < length us → length (next us).rest < length us
+      go [] q = absurd (omega arith)
+      go (u ∷ us) q = omega arith

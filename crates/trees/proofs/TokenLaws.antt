@@ -9,7 +9,6 @@ use Rattle.lexer.specs.Lex.{Token, lex, token_rows}
 use Rattle.lexer.specs.Tokens.{joined}
 use Rattle.lexer.proofs.LexLaws.{lex_joined}
 use Rattle.lexer.proofs.ReadLaws.{token_rows_length}
-use Rattle.trees.specs.Look.{head_kind}
 use Rattle.trees.specs.Green.{width}
 use Rattle.trees.specs.Writing.{Ready}
 use Rattle.trees.specs.declared.Cursor.{Cursor}
@@ -67,10 +66,6 @@ module _ (ts : List Token) {tokens : List ℕ} (e : tokens ≡ token_rows 0 ts) 
 module _ {ts : List Token} {tokens : List ℕ} {c : Cursor} (r : Ready ts tokens c) where
   pub table_length : length tokens ≡ 3 * length ts
   table_length = rows_length ts r.rows
-
-  -- the kind of the next token, as the table and the definitions have it
-  pub head_kind_lem : 3 * c.token < length tokens → get_or tokens (3 * c.token) 0 ≡ head_kind (drop c.token ts)
-  head_kind_lem h = let w = row_in ts r.rows c.token h in w.kind ∙ rw w.here
 
 -- a token's bytes are a part of the rule
 joined_drop : (ts : List Token) (i : ℕ) → drop (width (take i ts)) (joined ts) ≡ joined (drop i ts)

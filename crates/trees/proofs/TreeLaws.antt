@@ -149,7 +149,7 @@ unfolding lex
 kinds_lex rule = kinds_from rule 0
 
 -- so has each token further on
-kinds_right : (xs ys : List Token) → Kinds (xs ++ ys) → Kinds ys
+pub kinds_right : (xs ys : List Token) → Kinds (xs ++ ys) → Kinds ys
 unfolding Kinds
 kinds_right [] ys k = k
 kinds_right (x ∷ xs) ys k = kinds_right xs ys k.1
@@ -171,19 +171,15 @@ kinds_skip (t ∷ ts) k = whether (is_blank t) (λ e. rw (e, skip_ws) (kinds_ski
 pub eat_rest : (ts : List Token) → (eat_ws ts).rest ≡ skip_ws ts
 unfolding eat_ws skip_ws
 eat_rest [] = refl
-eat_rest (t ∷ ts) =
-    let ih = eat_rest ts in
-    whether (is_blank t) (λ e. rw (e, eat_ws, skip_ws) ih) (λ e. rw (e, eat_ws, skip_ws))
+eat_rest (t ∷ ts) = whether (is_blank t) (λ e. rw (e, eat_ws, skip_ws) (eat_rest ts)) (λ e. rw (e, eat_ws, skip_ws))
 
 pub skip_twice : (ts : List Token) → skip_ws (skip_ws ts) ≡ skip_ws ts
 unfolding skip_ws
 skip_twice [] = refl
-skip_twice (t ∷ ts) =
-    let ih = skip_twice ts in
-    whether (is_blank t) (λ e. rw (e, skip_ws) ih) (λ e. rw (e, skip_ws, e, skip_ws))
+skip_twice (t ∷ ts) = whether (is_blank t) (λ e. rw (e, skip_ws) (skip_twice ts)) (λ e. rw (e, skip_ws, e, skip_ws))
 
 -- where no token is seen, blanks alone are left
-skip_none : (ts : List Token) → Kinds ts → current_kind ts ≡ NONE → skip_ws ts ≡ []
+pub skip_none : (ts : List Token) → Kinds ts → current_kind ts ≡ NONE → skip_ws ts ≡ []
 unfolding skip_ws Kinds
 skip_none [] k n = refl
 skip_none (t ∷ ts) k n =

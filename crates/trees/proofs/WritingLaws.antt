@@ -44,7 +44,7 @@ did_done r =
 -- the token at the cursor, as its row has it
 pub did_next : {rule tokens t₀ t₁ e : List ℕ} {l : ℕ} {c : Cursor} {r : Row} → Ready (lex rule) tokens c → Seen rule c.token r
     → t₁ ≡ sets t₀ c.row (r.kind ∷ l ∷ c.byte ∷ r.end ∷ [])
-    → Did (lex rule) t₀ t₁ e e l c (record { token = c.token + 1; byte = r.end; row = c.row + 4; error = c.error }) next
+    → Did (lex rule) t₀ t₁ e e l c (record c { token = c.token + 1; byte = r.end; row = c.row + 4 }) next
 unfolding next tree_rows error_rows size span
 did_next {t₀ = t₀} {l = l} {c = c} {r = r} a i w =
     let end : r.end ≡ c.byte + length i.token.text = omega (arith, i.first, i.end, a.byte) in
@@ -64,28 +64,23 @@ did_next {t₀ = t₀} {l = l} {c = c} {r = r} a i w =
           });
     }
 
+-- a parser for another that does the same here
+pub did_as : {ts : List Token} {t₀ t₁ e₀ e₁ : List ℕ} {l : ℕ} {c r : Cursor} {p q : Parser} → p (drop c.token ts) ≡ q (drop c.token ts)
+    → Did ts t₀ t₁ e₀ e₁ l c r q → Did ts t₀ t₁ e₀ e₁ l c r p
+did_as e a = record { wrote = rw e a.wrote }
+
 pub did_next_end : {ts : List Token} {tokens t e : List ℕ} {l : ℕ} {c : Cursor} → Ready ts tokens c → drop c.token ts ≡ [] → Did ts t t e e l c c next
-unfolding next tree_rows error_rows size span
-did_next_end {ts} {c = c} r h =
-    record {
-      wrote =
-          rw h (record {
-            tree = refl;
-            errors = refl;
-            row = omega arith;
-            error = omega arith;
-            rest = h;
-            ahead = omega arith;
-            within = r.within;
-            place = r.byte;
-            bytes = omega arith;
-          });
-    }
+unfolding next done
+did_next_end r h = did_as {q = done} (rw h) (did_done r)
+
+-- an error's row, at the tokens left
+abbrev pub error_row : (rule : List ℕ) (form k : ℕ) → List Token → List ℕ
+error_row rule form k us = error_rows (length rule) (record { form = form; expected = k; left = us } ∷ [])
 
 -- an error row: the place and the end of the token found, or the end of text
 module _ (rule : List ℕ) (i form k : ℕ) where
   pub error_here : {r : Row} → Seen rule i r
-      → error_rows (length rule) (record { form = form; expected = k; left = drop i (lex rule) } ∷ []) ≡ form ∷ k ∷ r.first ∷ r.end ∷ []
+      → error_row rule form k (drop i (lex rule)) ≡ form ∷ k ∷ r.first ∷ r.end ∷ []
   unfolding error_rows
   error_here {r} s =
       let first : length rule - width (drop i (lex rule)) ≡ r.first = omega (arith, width_split i (lex rule), width_lex rule, s.first) in
@@ -93,13 +88,13 @@ module _ (rule : List ℕ) (i form k : ℕ) where
       rw (first, end)
 
   pub error_end : drop i (lex rule) ≡ []
-      → error_rows (length rule) (record { form = form; expected = k; left = drop i (lex rule) } ∷ []) ≡ form ∷ k ∷ length rule ∷ length rule ∷ []
+      → error_row rule form k (drop i (lex rule)) ≡ form ∷ k ∷ length rule ∷ length rule ∷ []
   unfolding error_rows width
   error_end e = let z : length rule - 0 ≡ length rule = omega arith in let y : length rule - 0 + 0 ≡ length rule = omega arith in rw (e, y, z)
 
 module _ (rule : List ℕ) {tokens e₀ e₁ : List ℕ} {c : Cursor} (form k : ℕ) (r : Ready (lex rule) tokens c) where
-  reported : {us : List Token} (t : List ℕ) (l : ℕ) → e₁ ≡ sets e₀ c.error (error_rows (length rule) (record { form = form; expected = k; left = us } ∷ []))
-      → Wrote (lex rule) t t e₀ e₁ l c (record { token = c.token; byte = c.byte; row = c.row; error = c.error + 4 })
+  reported : {us : List Token} (t : List ℕ) (l : ℕ) → e₁ ≡ sets e₀ c.error (error_row rule form k us)
+      → Wrote (lex rule) t t e₀ e₁ l c (record c { error = c.error + 4 })
       (record { made = nil; errors = record { form = form; expected = k; left = us } ∷ []; rest = drop c.token (lex rule) })
   unfolding tree_rows error_rows size span
   reported t l w =
@@ -116,39 +111,38 @@ module _ (rule : List ℕ) {tokens e₀ e₁ : List ℕ} {c : Cursor} (form k : 
       }
 
   pub did_fail : (t : List ℕ) (l : ℕ)
-      → e₁ ≡ sets e₀ c.error (error_rows (length rule) (record { form = form; expected = k; left = drop c.token (lex rule) } ∷ []))
-      → Did (lex rule) t t e₀ e₁ l c (record { token = c.token; byte = c.byte; row = c.row; error = c.error + 4 }) (fails form k)
+      → e₁ ≡ sets e₀ c.error (error_row rule form k (drop c.token (lex rule)))
+      → Did (lex rule) t t e₀ e₁ l c (record c { error = c.error + 4 }) (fails form k)
   unfolding fails
   did_fail t l w = record { wrote = reported t l w }
 
 pub did_fail_ahead : (rule : List ℕ) {tokens e₀ e₁ : List ℕ} {c : Cursor} (form : ℕ) → Ready (lex rule) tokens c → (t : List ℕ) (l : ℕ)
-    → e₁ ≡ sets e₀ c.error (error_rows (length rule) (record { form = form; expected = 0; left = skip_ws (drop c.token (lex rule)) } ∷ []))
-    → Did (lex rule) t t e₀ e₁ l c (record { token = c.token; byte = c.byte; row = c.row; error = c.error + 4 }) (fails_ahead form)
+    → e₁ ≡ sets e₀ c.error (error_row rule form 0 (skip_ws (drop c.token (lex rule))))
+    → Did (lex rule) t t e₀ e₁ l c (record c { error = c.error + 4 }) (fails_ahead form)
 unfolding fails_ahead
 did_fail_ahead rule form r t l w = record { wrote = reported rule form 0 r t l w }
 
 -- ---- one after another
 
-wrote_join : {ts : List Token} {t₀ t₁ t₂ e₀ e₁ e₂ : List ℕ} {l : ℕ} {c d r : Cursor} {x y : Parsed} → Wrote ts t₀ t₁ e₀ e₁ l c d x → Wrote ts t₁ t₂ e₁ e₂ l d r y
-    → Wrote ts t₀ t₂ e₀ e₂ l c r (join x y)
-unfolding join
-wrote_join {t₀ = t₀} {e₀ = e₀} {l = l} {c = c} {x = x} {y = y} a b =
-    record {
-      tree = b.tree ∙ rw (a.tree, a.row, a.bytes, tree_rows-⊹, sets_append, tree_rows_length);
-      errors = b.errors ∙ rw (a.errors, a.error, error_rows_append, sets_append, error_rows_length);
-      row = omega (arith, size-⊹ x.made y.made, a.row, b.row);
-      error = omega (arith, length-append x.errors y.errors, a.error, b.error);
-      rest = b.rest;
-      ahead = omega (arith, a.ahead, b.ahead);
-      within = b.within;
-      place = b.place;
-      bytes = omega (arith, span-⊹ x.made y.made, a.bytes, b.bytes);
-    }
+module _ {ts : List Token} {t₀ t₁ t₂ e₀ e₁ e₂ : List ℕ} {l : ℕ} {c d r : Cursor} where
+  wrote_join : {x y : Parsed} → Wrote ts t₀ t₁ e₀ e₁ l c d x → Wrote ts t₁ t₂ e₁ e₂ l d r y → Wrote ts t₀ t₂ e₀ e₂ l c r (join x y)
+  unfolding join
+  wrote_join {x} {y} a b =
+      record {
+        tree = b.tree ∙ rw (a.tree, a.row, a.bytes, tree_rows-⊹, sets_append, tree_rows_length);
+        errors = b.errors ∙ rw (a.errors, a.error, error_rows_append, sets_append, error_rows_length);
+        row = omega (arith, size-⊹ x.made y.made, a.row, b.row);
+        error = omega (arith, length-append x.errors y.errors, a.error, b.error);
+        rest = b.rest;
+        ahead = omega (arith, a.ahead, b.ahead);
+        within = b.within;
+        place = b.place;
+        bytes = omega (arith, span-⊹ x.made y.made, a.bytes, b.bytes);
+      }
 
-pub did_then : {ts : List Token} {t₀ t₁ t₂ e₀ e₁ e₂ : List ℕ} {l : ℕ} {c d r : Cursor} {p q : Parser} → Did ts t₀ t₁ e₀ e₁ l c d p → Did ts t₁ t₂ e₁ e₂ l d r q
-    → Did ts t₀ t₂ e₀ e₂ l c r (p ▹ q)
-unfolding ◌▹◌
-did_then a b = let w = b.wrote in record { wrote = wrote_join a.wrote (rw a.wrote.rest at w) }
+  pub did_then : {p q : Parser} → Did ts t₀ t₁ e₀ e₁ l c d p → Did ts t₁ t₂ e₁ e₂ l d r q → Did ts t₀ t₂ e₀ e₂ l c r (p ▹ q)
+  unfolding ◌▹◌
+  did_then a b = let w = b.wrote in record { wrote = wrote_join a.wrote (rw a.wrote.rest at w) }
 
 module _ (p q : Parser) (ts : List Token) where
   then_size : size ((p ▹ q) ts).made ≡ size (p ts).made + size (q (p ts).rest).made
@@ -206,7 +200,7 @@ module _ {ts : List Token} {tokens t e : List ℕ} {l : ℕ} {c : Cursor} (p q :
 -- ---- a node
 
 abbrev inside : Cursor → Cursor
-inside c = record { token = c.token; byte = c.byte; row = c.row + 4; error = c.error }
+inside c = record c { row = c.row + 4 }
 
 set_sets : (t : List ℕ) (i j a : ℕ) (vs : List ℕ) → i < j → set (sets t j vs) i a ≡ sets (set t i a) j vs
 set_sets t i j a [] h = refl
@@ -221,7 +215,7 @@ node_rows t i k l b x body =
 
 wrote_node : {ts : List Token} {t₀ t₁ t₂ t₃ e₀ e₁ : List ℕ} {l : ℕ} {c r s : Cursor} {x : Parsed} (k : ℕ)
     → t₁ ≡ sets t₀ c.row (k ∷ l ∷ c.byte ∷ c.byte ∷ []) → Wrote ts t₁ t₂ e₀ e₁ (l + 1) (inside c) r x → Finished t₂ t₃ c.row r s
-    → Wrote ts t₀ t₃ e₀ e₁ l c s (record { made = node k x.made nil; errors = x.errors; rest = x.rest })
+    → Wrote ts t₀ t₃ e₀ e₁ l c s (record x { made = node k x.made nil })
 unfolding tree_rows size span
 wrote_node {t₀ = t₀} {t₂ = t₂} {l = l} {c = c} {r = r} {x = x} k o b f =
     rw f.cursor (record {
@@ -287,10 +281,6 @@ module _ {ts : List Token} {tokens t : List ℕ} {c : Cursor} {p q : Parser} (e 
 
   pub asks_as : {es : List ℕ} {l : ℕ} → Asks ts tokens t es l c p → Asks ts tokens t es l c q
   asks_as f = record { fits = fits_as f.fits; room = rw (← e) f.room; deep = rw (← e) f.deep }
-
-pub did_as : {ts : List Token} {t₀ t₁ e₀ e₁ : List ℕ} {l : ℕ} {c r : Cursor} {p q : Parser} → p (drop c.token ts) ≡ q (drop c.token ts)
-    → Did ts t₀ t₁ e₀ e₁ l c r q → Did ts t₀ t₁ e₀ e₁ l c r p
-did_as e a = record { wrote = rw e a.wrote }
 
 -- where two ways meet
 pub did_meet : {ts : List Token} {t₀ t₁ t₂ e₀ e₁ e₂ : List ℕ} {l : ℕ} {c r s : Cursor} {p : Parser} → t₁ ≡ t₂ → e₁ ≡ e₂ → r ≡ s → Did ts t₀ t₂ e₀ e₂ l c s p

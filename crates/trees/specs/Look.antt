@@ -17,7 +17,7 @@ abbrev pub head_kind : List Token → ℕ
 head_kind [] = NONE
 head_kind (t ∷ ts) = t.kind
 
--- the same where the end has no kind
+-- the kind of the next token, if there is one
 abbrev pub first_kind : List Token → Option ℕ
 first_kind [] = None
 first_kind (t ∷ ts) = Some (t.kind)

@@ -1,8 +1,10 @@
--- What the parser's functions ask of the tables and leave in them; no caller of the crate needs this file. Assumes nothing: these are definitions.
+-- What the parser's functions ask of the tables and leave in them; no caller of the crate needs this file. Assumes nothing: these are
+-- definitions.
 use Rattle.std.specs.Prelude.{◌≡◌, ℕ, ◌+◌, ◌*◌, ◌≤◌, ◌<◌, ◌^◌, List, [], ◌∷◌, length, take, drop, set}
 use Rattle.std.proofs.lemmas.List.Edits.{sets}
 use Rattle.syntax.specs.Kind.{AND_KW, OR_KW}
 use Rattle.lexer.specs.Lex.{Token, token_rows}
+use Rattle.lexer.specs.Read.{TREE_ROW, ERROR_ROW}
 use Rattle.trees.specs.Green.{size, height, width, span}
 use Rattle.trees.specs.Parse.{Parsed, Parser}
 use Rattle.trees.specs.Rows.{tree_rows, error_rows}
@@ -18,20 +20,20 @@ pub record Ready (ts : List Token) (tokens : List ℕ) (c : Cursor) : Type 0 whe
 -- and the tree table t has room for the rows of what p makes there
 pub record Fits (ts : List Token) (tokens t : List ℕ) (c : Cursor) (p : Parser) : Type 0 where
   pub ready : Ready ts tokens c
-  pub room : c.row + 4 * size (p (drop c.token ts)).made ≤ length t
+  pub room : c.row + TREE_ROW * size (p (drop c.token ts)).made ≤ length t
 
 -- and the error table e for its errors, and its levels are numbers of the table
 pub record Asks (ts : List Token) (tokens t e : List ℕ) (level : ℕ) (c : Cursor) (p : Parser) : Type 0 where
   pub fits : Fits ts tokens t c p
-  pub room : c.error + 4 * length (p (drop c.token ts)).errors ≤ length e
+  pub room : c.error + ERROR_ROW * length (p (drop c.token ts)).errors ≤ length e
   pub deep : level + height (p (drop c.token ts)).made < 2 ^ 32
 
 -- the reading x was written at a level: the tables went from t₀ and e₀ to t₁ and e₁, the cursor from c to r
 pub record Wrote (ts : List Token) (t₀ t₁ e₀ e₁ : List ℕ) (level : ℕ) (c r : Cursor) (x : Parsed) : Type 0 where
   pub tree : t₁ ≡ sets t₀ c.row (tree_rows level c.byte x.made)
   pub errors : e₁ ≡ sets e₀ c.error (error_rows (width ts) x.errors)
-  pub row : r.row ≡ c.row + 4 * size x.made
-  pub error : r.error ≡ c.error + 4 * length x.errors
+  pub row : r.row ≡ c.row + TREE_ROW * size x.made
+  pub error : r.error ≡ c.error + ERROR_ROW * length x.errors
   pub rest : drop r.token ts ≡ x.rest
   pub ahead : c.token ≤ r.token
   pub within : r.token ≤ length ts
@@ -45,7 +47,7 @@ pub record Did (ts : List Token) (t₀ t₁ e₀ e₁ : List ℕ) (level : ℕ) 
 -- a node's row was written at c, its end still its start; r is the cursor past it
 pub record Started (t₀ t₁ : List ℕ) (k level : ℕ) (c r : Cursor) : Type 0 where
   pub tree : t₁ ≡ sets t₀ c.row (k ∷ level ∷ c.byte ∷ c.byte ∷ [])
-  pub cursor : r ≡ record { token = c.token; byte = c.byte; row = c.row + 4; error = c.error }
+  pub cursor : r ≡ record { token = c.token; byte = c.byte; row = c.row + TREE_ROW; error = c.error }
 
 -- the end of the node's row at `at` was set to where r stands
 pub record Finished (t₀ t₁ : List ℕ) (at : ℕ) (r s : Cursor) : Type 0 where

@@ -11,7 +11,7 @@ pub struct Rows {
     pub errors: usize,
 }
 
-// Or the refusal.
+// The numbers of rows, or the refusal of a rule that is not read.
 pub type Reading = Result<Rows, Refusal>;
 
 // Where the parser stands: the next token and its first byte, and the next places of the tree and the error table.

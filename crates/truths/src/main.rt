@@ -6,9 +6,10 @@
 
 ghost use Rattle.std.specs.Prelude.{◌≤◌, length};
 
-use board::image;
 use board::image::Section;
+use board::{MAX_IMAGE, image};
 use cases::replay;
+use lexer::limits::TREE_ROW;
 use predicate::atom::Member;
 use rows::{ROWS, TOKENS};
 use std::io;
@@ -17,7 +18,7 @@ use syntax::kind::Kind;
 use syntax::refusal::Refusal;
 
 // The numbers of a collection table that every board has room in. Tables stand on the stack: the project has no heap.
-const COLLECTION: usize = 65536;
+const COLLECTION: usize = MAX_IMAGE;
 
 fn main(rt: HostRuntime) -> io::Result<()> {
     let mut input = [0u8; 262144];
@@ -58,7 +59,7 @@ impl<'a> cases::Replayed<'a> for Case<'a> {
                     if rows.errors != 0 {
                         return writeln!(out, "errors {}", rows.errors);
                     }
-                    print_truths(out, self, rows::first::<4>(&tree, rows.tree))
+                    print_truths(out, self, rows::first::<TREE_ROW>(&tree, rows.tree))
                 }
             },
         }
@@ -70,12 +71,12 @@ fn print_refusal<W: Write>(out: &mut W, refusal: Refusal) -> io::Result<()> {
 }
 
 // Prints the truths of the predicate that a tree's last call has.
-fn print_truths<W: Write>(out: &mut W, case: Case<'_>, rows: &[[u32; 4]]) -> io::Result<()> {
+fn print_truths<W: Write>(out: &mut W, case: Case<'_>, rows: &[[u32; TREE_ROW]]) -> io::Result<()> {
     let predicate = Predicate {
         rule: case.rule,
         image: case.image,
         tree: rows.as_flattened(),
-        at: 4 * predicate_row(rows),
+        at: TREE_ROW * predicate_row(rows),
     };
     match case.sort {
         0 => print_members(out, predicate, Section::Components)?,
@@ -86,7 +87,7 @@ fn print_truths<W: Write>(out: &mut W, case: Case<'_>, rows: &[[u32; 4]]) -> io:
 }
 
 // The index of the first row of a node past the last CALL_ARGS; past the rows, where no predicate is true, if there is none.
-fn predicate_row(rows: &[[u32; 4]]) -> usize
+fn predicate_row(rows: &[[u32; TREE_ROW]]) -> usize
     ensures { result ≤ length rows.now }
 {
     let from = past_last_arguments(rows);
@@ -97,7 +98,7 @@ fn predicate_row(rows: &[[u32; 4]]) -> usize
 }
 
 // The index of the row past the last CALL_ARGS; 0, the first row's, where there is none.
-fn past_last_arguments(rows: &[[u32; 4]]) -> usize
+fn past_last_arguments(rows: &[[u32; TREE_ROW]]) -> usize
     ensures { result ≤ length rows.now }
 {
     rows.iter()

@@ -4,19 +4,17 @@ use mathlib.Core.Bool.{true, false, cond}
 use mathlib.Core.List.{List, [], ◌∷◌, ◌++◌, append_assoc}
 use Prim.Native.Nat.{ℕ, zero, suc, ◌+◌, ◌*◌, ◌/◌, ◌-◌, ◌≤◌, ◌<◌}
 use native.Mathlib.Omega.{arith}
-use borrow.Author.Tests.{eq-eqb}
-use lib.Dec.{eqb}
-use lib.ListN.{length, get_or, drop, length-drop}
+use lib.ListN.{length, get_or, drop}
 use Rattle.std.specs.declared.option.Option.{Option}
 use Rattle.std.specs.declared.option.Option.TheVariants.{None, Some}
-use Rattle.syntax.specs.Kind.{IDENT, DOT_CALL, CALL_ARGS}
+use Rattle.syntax.specs.Kind.{IDENT, CALL_ARGS}
 use Rattle.syntax.specs.Text.{ascii, same, bytes_between}
 use Rattle.syntax.proofs.BoolLaws.{whether}
 use Rattle.syntax.proofs.TextLaws.{same_eq}
 use Rattle.predicate.specs.Truth.{first_text}
-use Rattle.predicate.specs.Rows.{ROW, kind_at, level_at, children_at, forest_from, of_kind, first_row}
-use Rattle.predicate.proofs.RowLaws.{drop_row, few, short_forest}
-use Rattle.witness.specs.Witness.{CALL_LEVEL, is_call, last_from, last_call, text_in, args_text, by_word, call_text, text_of, witness_text}
+use Rattle.predicate.specs.Rows.{ROW, level_at, children_at, of_kind, first_row}
+use Rattle.predicate.proofs.RowLaws.{drop_row, few}
+use Rattle.witness.specs.Witness.{is_call, last_from, last_call, text_in, args_text, by_word, call_text, text_of, witness_text}
 
 -- the last call among the rows from the i-th on, if one is there, and else the one found before
 abbrev after : List ℕ → ℕ → Option ℕ → Option ℕ
@@ -109,16 +107,3 @@ call_is rule tree call w b a = λ i. by_word (w i) (b i) (a i)
 pub witness_is : (rule tree : List ℕ) {found : Option ℕ} → found ≡ last_call tree → text_of rule tree found ≡ witness_text rule tree
 unfolding witness_text
 witness_is rule tree e = ap (text_of rule tree) e
-
--- a call past the table, where no row is, would have no text either
-pub past_table : (rule tree : List ℕ) → call_text rule tree (length tree) ≡ []
-unfolding call_text by_word first_text forest_from
-past_table rule tree =
-    let place = length tree + ROW in
-    let few : length (drop place tree) < ROW = omega (arith, length-drop place tree) in
-    rw (short_forest rule (level_at tree (length tree) + 1) (drop place tree) few)
-
--- a row that is a call is the last one found
-pub later_call_lem : (tree : List ℕ) (at : ℕ) (found : Option ℕ) {m k : ℕ} → m ≡ level_at tree at → m ≡ CALL_LEVEL → k ≡ kind_at tree at → k ≡ DOT_CALL
-    → Some at ≡ cond (is_call tree at) (Some at) found
-later_call_lem tree at found e l f h = sym (rw (eq-eqb (level_at tree at) CALL_LEVEL (sym e ∙ l), eq-eqb (kind_at tree at) DOT_CALL (sym f ∙ h)))

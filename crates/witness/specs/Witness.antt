@@ -1,5 +1,5 @@
--- The rule that names the members for which a quantifier failed: `C.where(not (P))` for `C.all(P)`, `C.where(P)` for `C.none(P)`, where C is
--- all that stands before the last call and (P) what stands behind its method. Demand 3 says that these are the members. Assumes nothing:
+-- The rule that names the members for which a quantifier failed: `C.where(not (P))` for `C.all(P)`, `C.where(P)` for `C.none(P)`, where C
+-- is all that stands before the last call and (P) what stands behind its method. Demand 3 says that these are the members. Assumes nothing:
 -- these are definitions.
 use Rattle.std.specs.Prelude.{ℕ, ◌+◌, Bool, cond, ◌&&◌, List, [], ◌∷◌, ◌++◌, eqb, get_or}
 use Rattle.std.specs.declared.option.Option.{Option}

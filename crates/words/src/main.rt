@@ -7,7 +7,9 @@ ghost use Rattle.std.specs.Prelude.{◌<◌, length};
 ghost use Rattle.std.specs.Iterator.{at_most};
 
 use board::image::Section;
+use board::{CATEGORIES, FEATURE_KINDS};
 use calls::value::{Outcome, Value, Verdict};
+use lexer::limits::ERROR_ROW;
 use message::ErrorRow;
 use report::{answer, error};
 use rows::{ROWS, TOKENS};
@@ -20,11 +22,6 @@ use texts::Writer;
 const IMAGE: usize = 575;
 
 const COMPONENTS: usize = 139;
-
-// How many categories and kinds of features there are.
-const CATEGORIES: u32 = 14;
-
-const KINDS: u32 = 10;
 
 fn main(rt: HostRuntime) -> io::Result<()> {
     let mut out = rt.stdout();
@@ -171,10 +168,10 @@ fn write_image(place: &mut [u8]) -> io::Result<()> {
 // A component for each category. The first ones have a feature each.
 fn write_components<W: Write>(out: &mut W) -> io::Result<()> {
     for category in 0..CATEGORIES {
-        if category < KINDS {
+        if category < FEATURE_KINDS {
             write_words(out, &[category, 0, category, 1, 0])?;
         } else {
-            write_words(out, &[category, 1, KINDS, 0, 1])?;
+            write_words(out, &[category, 1, FEATURE_KINDS, 0, 1])?;
         }
     }
     Ok(())
@@ -182,7 +179,7 @@ fn write_components<W: Write>(out: &mut W) -> io::Result<()> {
 
 // A feature for each kind, with names and directions in turn.
 fn write_features<W: Write>(out: &mut W) -> io::Result<()> {
-    for kind in 0..KINDS {
+    for kind in 0..FEATURE_KINDS {
         write_words(out, &[kind % 3, kind, kind % 4])?;
     }
     Ok(())
@@ -247,7 +244,7 @@ fn print_rule<W: Write>(out: &mut W, rule: &[u8]) -> io::Result<()> {
     let mut errors = [0; ROWS];
     match parser::parse_expr(rule, &mut tokens, &mut tree, &mut errors) {
         Ok(rows) => {
-            for row in rows::first::<4>(&errors, rows.errors) {
+            for row in rows::first::<ERROR_ROW>(&errors, rows.errors) {
                 print_error(out, rule, row)?;
             }
             if rows.errors == 0 {
@@ -265,7 +262,7 @@ fn print_witness<W: Write>(out: &mut W, rule: &[u8], tree: &[u32]) -> io::Result
     out.write_all(b"\n")
 }
 
-fn print_error<W: Write>(out: &mut W, rule: &[u8], row: &[u32; 4]) -> io::Result<()> {
+fn print_error<W: Write>(out: &mut W, rule: &[u8], row: &[u32; ERROR_ROW]) -> io::Result<()> {
     let row = ErrorRow::from(*row);
     print_lines(out, |lines| error::write_error(rule, row, lines))
 }

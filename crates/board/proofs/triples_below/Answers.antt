@@ -6,7 +6,8 @@ use Rattle.std.proofs.Common.{rules, tests}
 use Rattle.std.proofs.lemmas.Iterator.{YieldsList-from_range}
 use Rattle.std.proofs.lemmas.Iterator.Search.{all_from_yields_List}
 use Rattle.std.specs.List.{list_all, range_with_len}
-use Rattle.board.specs.CheckScan.{TRIPLE_SIZE, below_at}
+use Rattle.board.specs.Image.{TRIPLE_SIZE}
+use Rattle.board.specs.CheckScan.{below_at}
 use Rattle.board.proofs.CheckLaws.{each_of_range}
 use Rattle.board.proofs.triples_below.Goals as goal
 

@@ -1,14 +1,10 @@
 -- `count_openers` counts token by token. Assumes nothing.
 use mathlib.Core.Path.{sym, ◌∙◌}
-use native.Mathlib.Omega.{arith}
-use Rattle.lexer.proofs.ReadLaws.{lex_length, counted_start, counted_step, counted_skip, counted_end}
+use Rattle.lexer.proofs.ReadLaws.{counted_start, counted_step, counted_skip, counted_end}
 use Rattle.lexer.proofs.count_openers.Goals as goal
 
 pub loop-token-init : goal.loop-token-init
 loop-token-init c = counted_start (rw c.into_iter-token-iterator.ensures.into_iter_gives)
-
-pub overflow_add-n : goal.overflow_add-n
-overflow_add-n c = omega (arith, c.loop-token.invariant.fewer, lex_length c.args.rule.now)
 
 pub loop-token-preserved-then-is_opener : goal.loop-token-preserved-then-is_opener
 loop-token-preserved-then-is_opener c = counted_step c.loop-token.invariant (c.in-Some.ensures {u = tt}).steps (sym c.is_opener.ensures ∙ c.if-is_opener.true)

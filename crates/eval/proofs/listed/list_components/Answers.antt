@@ -1,5 +1,6 @@
 -- `list_components` writes the rows of all components: those before one are written. Assumes nothing.
-use Rattle.eval.proofs.ListedLaws.{listing_start, listing_on, listing_end, listing_room, lists_one, made_next, made_none, every_made}
+use Rattle.meaning.proofs.WalkLaws.{made_next, made_none}
+use Rattle.eval.proofs.ListedLaws.{listing_start, listing_on, listing_end, listing_room, lists_one, every_made}
 use Rattle.predicate.specs.declared.atom.Member.TheVariants.{Component}
 use native.Mathlib.Omega.{arith}
 use mathlib.Core.List.{◌∷◌, []}

@@ -1,5 +1,6 @@
 -- `list_features` writes the rows of a component's features: those before one are written. Assumes nothing.
-use Rattle.eval.proofs.ListedLaws.{listing_start, listing_on, listing_end, listing_room, lists_one, made_next, made_none, features_are}
+use Rattle.meaning.proofs.WalkLaws.{made_next, made_none}
+use Rattle.eval.proofs.ListedLaws.{listing_start, listing_on, listing_end, listing_room, lists_one, features_are}
 use Rattle.predicate.specs.declared.atom.Member.TheVariants.{Feature}
 use native.Mathlib.Omega.{arith}
 use mathlib.Core.List.{◌∷◌, []}

@@ -1,4 +1,5 @@
--- The functions that call each other follow their definitions, one step each, and their loops from each of their steps on; tokens left fall around the cycle. Assumes nothing.
+-- The functions that call each other follow their definitions, one step each, and their loops from each of their steps on; tokens left fall
+-- around the cycle. Assumes nothing.
 use Prim.Native.Nat.{◌+◌, ◌*◌}
 use lib.ListN.{length}
 use Rattle.trees.specs.Parse.{parse, OrRest, AndRest}

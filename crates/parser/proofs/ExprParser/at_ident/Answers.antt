@@ -5,19 +5,19 @@ use Rattle.parser.proofs.ParserLaws.{ident_here, ident_end, text_within}
 use Rattle.parser.proofs.ExprParser.at_ident.Goals as goal
 
 pub returns-in_default : goal.returns-in_default
-returns-in_default c = sym (ident_end c.requires c.args.text.now (sym c.in_default.is ∙ (rw (c.skip_ws.ensures.0, c.skip_ws.ensures.1, c.reader.ensures.0, c.reader.ensures.1) at c.row.ensures)))
+returns-in_default c = sym (ident_end c.requires _ _ c.reader.ensures c.skip_ws.ensures c.row.ensures _ c.in_default.is)
 
 pub returns-then-token : goal.returns-then-token
-returns-then-token c = sym (ident_here c.requires c.args.text.now (sym c.in-Some.is ∙ (rw (c.skip_ws.ensures.0, c.skip_ws.ensures.1, c.reader.ensures.0, c.reader.ensures.1) at c.row.ensures)) ∙ rw (ne_eqb _ _ c.if-token.true))
+returns-then-token c = sym (ident_here c.requires _ _ c.reader.ensures c.skip_ws.ensures c.row.ensures _ c.in-Some.is ∙ rw (ne_eqb _ _ c.if-token.true))
 
 pub slice_bounds-same-count : goal.slice_bounds-same-count
-slice_bounds-same-count c = (text_within c.requires (sym c.in-Some.is ∙ (rw (c.skip_ws.ensures.0, c.skip_ws.ensures.1, c.reader.ensures.0, c.reader.ensures.1) at c.row.ensures))).0
+slice_bounds-same-count c = (text_within c.requires _ _ c.reader.ensures c.skip_ws.ensures c.row.ensures c.in-Some.is).0
 
 pub slice_bounds-same-start : goal.slice_bounds-same-start
-slice_bounds-same-start c = (text_within c.requires (sym c.in-Some.is ∙ (rw (c.skip_ws.ensures.0, c.skip_ws.ensures.1, c.reader.ensures.0, c.reader.ensures.1) at c.row.ensures))).0
+slice_bounds-same-start c = (text_within c.requires _ _ c.reader.ensures c.skip_ws.ensures c.row.ensures c.in-Some.is).0
 
 pub slice_bounds-same-end : goal.slice_bounds-same-end
-slice_bounds-same-end c = (text_within c.requires (sym c.in-Some.is ∙ (rw (c.skip_ws.ensures.0, c.skip_ws.ensures.1, c.reader.ensures.0, c.reader.ensures.1) at c.row.ensures))).1
+slice_bounds-same-end c = (text_within c.requires _ _ c.reader.ensures c.skip_ws.ensures c.row.ensures c.in-Some.is).1
 
 pub returns : goal.returns
-returns c = c.same.ensures ∙ sym (ident_here c.requires c.args.text.now (sym c.in-Some.is ∙ (rw (c.skip_ws.ensures.0, c.skip_ws.ensures.1, c.reader.ensures.0, c.reader.ensures.1) at c.row.ensures)) ∙ rw (eq-eqb _ _ c.if-token.false))
+returns c = c.same.ensures ∙ sym (ident_here c.requires _ _ c.reader.ensures c.skip_ws.ensures c.row.ensures _ c.in-Some.is ∙ rw (eq-eqb _ _ c.if-token.false))

@@ -16,16 +16,16 @@ loop-i-init c =
     rw e record { from = c.requires.here.within; ending = ending_start ts }
 
 pub loop-i-preserved-then-kind : goal.loop-i-preserved-then-kind
-loop-i-preserved-then-kind c = record { from = omega (arith, c.loop-i-test.true); ending = ending_blank c.requires.here.rows (omega (arith, c.loop-i-test.true)) c.loop-i.invariant.ending c.if-kind.true }
+loop-i-preserved-then-kind c = record { from = omega arith; ending = ending_blank c.requires.here.rows (omega arith) c.loop-i.invariant.ending c.if-kind.true }
 
 pub returns-then-integer : goal.returns-then-integer
-returns-then-integer c = ends_compared c.requires.here.rows (omega (arith, c.loop-i-test.true)) c.loop-i.invariant.ending c.if-kind.false c.if-integer.true (compared_named _ _ c.try_from.ensures c.is_ok_and.ensures) _ c.loop-i-test.true
+returns-then-integer c = ends_compared c.requires.here.rows (omega arith) c.loop-i.invariant.ending c.if-kind.false c.if-integer.true (compared_named _ _ c.try_from.ensures c.is_ok_and.ensures) _ c.loop-i-test.true
 
 pub returns-then-kind-2 : goal.returns-then-kind-2
-returns-then-kind-2 c = ends_other c.requires.here.rows (omega (arith, c.loop-i-test.true)) c.loop-i.invariant.ending c.if-kind.false c.if-integer.false c.if-kind-2.true _ c.loop-i-test.true
+returns-then-kind-2 c = ends_other c.requires.here.rows (omega arith) c.loop-i.invariant.ending c.if-kind.false c.if-integer.false c.if-kind-2.true _ c.loop-i-test.true
 
 pub loop-i-preserved : goal.loop-i-preserved
-loop-i-preserved c = record { from = omega (arith, c.loop-i-test.true); ending = ending_integer c.requires.here.rows (omega (arith, c.loop-i-test.true)) c.loop-i.invariant.ending c.if-kind.false c.if-integer.false c.if-kind-2.false }
+loop-i-preserved c = record { from = omega arith; ending = ending_integer c.requires.here.rows (omega arith) c.loop-i.invariant.ending c.if-kind.false c.if-integer.false c.if-kind-2.false }
 
 pub returns : goal.returns
 returns c = ends_none c.loop-i.invariant.ending _ c.loop-i.invariant.from c.loop-i-test.false

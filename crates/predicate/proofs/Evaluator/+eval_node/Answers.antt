@@ -28,8 +28,8 @@ eval_node-returns-in-Ok-ParenExpr t c = evaluated_paren c.requires (search rules
 pub eval_node-returns : goal.eval_node-returns
 eval_node-returns t c =
     elim c.match-try_from.branch [
-      | eval_node-in-Ok w ↦ evaluated_atom c.requires (w.value-is ∙ w.eval_atom-value.ensures) c.skip_below.ensures
-      | eval_node-in-Err w ↦ evaluated_atom c.requires (w.value-is ∙ settled_none c.args.self.now c.args.at c.try_from.ensures w.in-Err.is) c.skip_below.ensures
+      | eval_node-in-Ok w ↦ evaluated_atom c.requires (w.value-is ∙ w.is_true-value.ensures ∙ w.find.ensures.so _ _) c.skip_below.ensures
+      | eval_node-in-Err w ↦ evaluated_atom c.requires (w.value-is ∙ settled_none c.args.self.now.rule.now c.args.self.now.tree.now c.args.at c.try_from.ensures w.in-Err.is _ _) c.skip_below.ensures
     ]
 
 pub eval_operand-overflow_add-after : goal.eval_operand-overflow_add-after

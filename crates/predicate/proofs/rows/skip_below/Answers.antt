@@ -9,8 +9,16 @@ use Rattle.std.specs.Simd.{first_chunks}
 use Rattle.predicate.proofs.RowLaws.{row_test, skips}
 use Rattle.predicate.proofs.rows.skip_below.Goals as goal
 
+-- `take_while` gives as many rows as are below the level, one after another
+counted : (c : goal.After-count) → c.count.result ≡ prefix_len (row_test c.args.level) c.as_chunks.result.0.now
+counted c =
+    count_from_yields_List c.take_while-below.result _ c.count.ensures.ran
+    (YieldsList-from_take_while _ (row_test c.args.level) (YieldsList-from_slice c.as_chunks.result.0.now cc) c.take_while-below.ensures.closure c.take_while-below.ensures.done (λ x b q k. search (rules, tests)))
+    ∙ length-prefix_len (row_test c.args.level) c.as_chunks.result.0.now
+
 pub returns : goal.returns
 returns c =
-    let t = row_test c.args.level in
-    let count : c.count.result ≡ prefix_len t c.as_chunks.result.0.now = count_from_yields_List c.take_while-below.result _ c.count.ensures.ran (YieldsList-from_take_while _ t (YieldsList-from_slice c.as_chunks.result.0.now (cc)) c.take_while-below.ensures.closure c.take_while-below.ensures.done (λ x b q k. search (rules, tests))) ∙ length-prefix_len t c.as_chunks.result.0.now in
-    skips c.args.tree.now c.args.level c.args.from (count ∙ ap (prefix_len t) c.as_chunks.ensures.front ∙ ap (λ (r : List ℕ). prefix_len t (first_chunks 4 (length r / 4) r)) c.tail.ensures)
+    skips c.args.tree.now c.args.level c.args.from
+    (counted c
+    ∙ ap (prefix_len (row_test c.args.level)) c.as_chunks.ensures.front
+    ∙ ap (λ (r : List ℕ). prefix_len (row_test c.args.level) (first_chunks 4 (length r / 4) r)) c.tail.ensures)

@@ -2,7 +2,7 @@
 use mathlib.Core.Path.{sym, ap, ◌∙◌}
 use mathlib.Core.Bool.{not}
 use native.Mathlib.Omega.{arith}
-use Rattle.predicate.proofs.RowLaws.{row_there, below_row}
+use Rattle.eval.proofs.CallLaws.{whole_below}
 use Rattle.eval.proofs.MarkedLaws.{tells_more, telling_on, telling_end}
 use Rattle.eval.proofs.marked.Sorts.asks_below.Goals as goal
 
@@ -25,7 +25,7 @@ pub returns : goal.returns
 returns c = telling_end c.loop-member.invariant (sym c.is_below.ensures ∙ c.loop-member-test.false)
 
 pub overflow_add-row-in-loop-member : goal.overflow_add-row-in-loop-member
-overflow_add-row-in-loop-member c = omega (arith, row_there _ _ (below_row _ _ _ (sym c.is_below.ensures ∙ c.loop-member-test.true)).0)
+overflow_add-row-in-loop-member c = omega (arith, whole_below _ _ _ c.is_below.ensures c.loop-member-test.true)
 
 pub loop-member-smaller : goal.loop-member-smaller
-loop-member-smaller c = omega (arith, row_there _ _ (below_row _ _ _ (sym c.is_below.ensures ∙ c.loop-member-test.true)).0)
+loop-member-smaller c = omega (arith, whole_below _ _ _ c.is_below.ensures c.loop-member-test.true)

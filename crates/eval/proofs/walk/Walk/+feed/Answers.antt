@@ -1,9 +1,7 @@
 -- A member through the calls from a place on, by itself or by its features: the calls left fall around the cycle. Assumes nothing.
 use Rattle.std.proofs.Common.{rules}
-use Rattle.eval.proofs.FeedLaws.{turn, over}
 use Rattle.eval.proofs.ListedLaws.{features_are}
-use Rattle.eval.proofs.SentLaws.{same_calls, here, going_profile, end_takes, end_listed, kept_sending, kept_sent, dropped_sent, owned_sending, owned_sent, owned_none, passed_sending, passed_sent, arriving, told_step, step_takes, step_sent, going_start, going_first, going_on, going_stop, going_end}
-use Rattle.predicate.specs.declared.atom.Member.TheVariants.{Feature}
+use Rattle.eval.proofs.SentLaws.{same_calls, here, going_profile, end_takes, end_listed, kept_sending, kept_sent, dropped_sent, owned_sending, owned_sent, owned_none, passed_sending, passed_sent, arriving, told_step, step_takes, step_sent, up_start, up_next, up_on, up_stop, up_end}
 use Rattle.profile.proofs.ProfileLaws.{feature_owned}
 use native.Mathlib.Omega.{arith}
 use mathlib.Core.Path.{sym, ◌∙◌}
@@ -46,19 +44,19 @@ pub feed_feature-send-requires : goal.feed_feature-send-requires
 feed_feature-send-requires t c = (omega (arith, c.decreases), (c.requires.0, feature_owned _ _ _ _ c.requires.1 c.owned_profile-profile.ensures))
 
 pub feed_features-loop-feature-init : goal.feed_features-loop-feature-init
-feed_features-loop-feature-init t c = going_start c.requires (features_are _ _ c.features-first.ensures.end c.features-first.ensures.first)
+feed_features-loop-feature-init t c = up_start c.requires (features_are _ _ c.features-first.ensures.end c.features-first.ensures.first)
 
 pub feed_features-feed_feature-requires : goal.feed_features-feed_feature-requires
-feed_features-feed_feature-requires t c = (omega (arith, c.decreases, same_calls c.loop-feature.invariant.same), (going_first c.loop-feature.invariant (turn _ _ (Feature c.args.component) _ _ c.loop-feature-test.true), going_profile c.loop-feature.invariant _ c.component_profile-owner.ensures))
+feed_features-feed_feature-requires t c = (omega (arith, c.decreases, same_calls c.loop-feature.invariant.going.same), (up_next c.loop-feature.invariant c.loop-feature-test.true, going_profile c.loop-feature.invariant.going _ c.component_profile-owner.ensures))
 
 pub feed_features-returns-then-is_decided : goal.feed_features-returns-then-is_decided
-feed_features-returns-then-is_decided t c = going_stop c.loop-feature.invariant (turn _ _ (Feature c.args.component) _ _ c.loop-feature-test.true) c.feed_feature.ensures c.is_decided.ensures c.if-is_decided.true
+feed_features-returns-then-is_decided t c = up_stop c.loop-feature.invariant c.loop-feature-test.true c.feed_feature.ensures c.is_decided.ensures c.if-is_decided.true
 
 pub feed_features-loop-feature-preserved : goal.feed_features-loop-feature-preserved
-feed_features-loop-feature-preserved t c = going_on c.loop-feature.invariant (turn _ _ (Feature c.args.component) _ _ c.loop-feature-test.true) c.feed_feature.ensures c.is_decided.ensures c.if-is_decided.false
+feed_features-loop-feature-preserved t c = up_on c.loop-feature.invariant c.loop-feature-test.true c.feed_feature.ensures c.is_decided.ensures c.if-is_decided.false
 
 pub feed_features-returns : goal.feed_features-returns
-feed_features-returns t c = going_end c.loop-feature.invariant (over _ _ (Feature c.args.component) _ _ (omega arith))
+feed_features-returns t c = up_end c.loop-feature.invariant (omega arith)
 
 pub send-take-requires : goal.send-take-requires
 send-take-requires t c = step_takes c.requires.0 (told_step c.requires.0 (sym c.place_of.ensures.is ∙ c.in-Some.is) c.step_of.ensures c.in-Some-step_of.is)

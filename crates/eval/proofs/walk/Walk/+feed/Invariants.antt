@@ -1,11 +1,9 @@
 -- `feed`, `feed_features`, `feed_feature` and `send` send members through the calls; the calls left fall around the cycle. Assumes nothing.
-use mathlib.Core.List.{map}
 use Prim.Native.Nat.{◌+◌, ◌*◌, ◌-◌}
 use lib.ListN.{length}
 use Rattle.predicate.specs.declared.atom.Member.TheVariants.{Feature}
-use Rattle.meaning.proofs.WalkLaws.{up_to}
 use Rattle.meaning.specs.Calls.{features_of}
-use Rattle.eval.proofs.SentLaws.{Going}
+use Rattle.eval.proofs.SentLaws.{GoingUp}
 use Rattle.eval.proofs.walk.Walk.+feed.Given as goal
 
 abbrev pub decreases-feed : goal.decreases-feed
@@ -22,4 +20,4 @@ decreases-feed_features l = 4 * (length l.self.now.pipeline.calls.now - l.i) + 3
 
 abbrev pub invariant-feed_features-loop-feature : goal.invariant-feed_features-loop-feature
 invariant-feed_features-loop-feature l =
-    Going l.initial.self l.i (features_of l.initial.self.pipeline.image.now l.component) (map (Feature l.component) (up_to l.feature l.end)) l.self
+    GoingUp l.initial.self l.i (features_of l.initial.self.pipeline.image.now l.component) (Feature l.component) l.feature l.end l.self

@@ -1,12 +1,10 @@
 -- `send_each_component` sends every component: those left come to what all come to. Assumes nothing.
-use mathlib.Core.List.{map}
 use Rattle.predicate.specs.declared.atom.Member.TheVariants.{Component}
-use Rattle.meaning.proofs.WalkLaws.{up_to}
 use Rattle.eval.specs.Listed.{every_component}
 use Rattle.eval.specs.Found.{FoundSo}
-use Rattle.eval.proofs.SentLaws.{Going}
+use Rattle.eval.proofs.SentLaws.{GoingUp}
 use Rattle.eval.proofs.walk.Walk.send_each_component.Given as goal
 
 abbrev pub invariant-loop-component : goal.invariant-loop-component
 invariant-loop-component l =
-    Going l.initial.self 0 (every_component l.initial.self.pipeline.image.now) (map Component (up_to l.component l.count)) l.self × FoundSo l.self 0 l.profiles.found
+    GoingUp l.initial.self 0 (every_component l.initial.self.pipeline.image.now) Component l.component l.count l.self × FoundSo l.self 0 l.profiles.found

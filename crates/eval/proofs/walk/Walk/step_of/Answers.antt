@@ -1,5 +1,5 @@
--- `step_of` goes on over `diagnostics` and each `where` that is noted as true, and tells what the first other call makes of a member. Assumes
--- nothing.
+-- `step_of` goes on over `diagnostics` and each `where` that is noted as true, and tells what the first other call makes of a member.
+-- Assumes nothing.
 use Rattle.std.proofs.Common.{rules}
 use Rattle.eval.proofs.StepLaws.{passing_on, passing_over, step_dropped, step_count, step_quantified, step_listed}
 use native.Mathlib.Omega.{arith}

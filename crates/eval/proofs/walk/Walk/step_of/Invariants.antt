@@ -1,5 +1,5 @@
--- `step_of` goes on over `diagnostics` and each `where` that is noted as true, and tells what the first other call makes of a member. Assumes
--- nothing.
+-- `step_of` goes on over `diagnostics` and each `where` that is noted as true, and tells what the first other call makes of a member.
+-- Assumes nothing.
 use Rattle.eval.proofs.StepLaws.{Passing}
 use Rattle.eval.proofs.walk.Walk.step_of.Given as goal
 
