@@ -1,13 +1,11 @@
-//! Finds the four Rust files, prepares the parser that also records where errors were found, and,
-//! with the feature `proved`, links the proved static library.
+//! Takes the four Rust files from where `oracle/source` puts them, prepares the parser that also records
+//! where errors were found, and links the proved static library.
 
 use std::env;
 use std::fs;
 use std::path::{Path, PathBuf};
 use std::process::exit;
 
-/// Where the four files stand below the source folder.
-const ASSERTION: &str = "crates/spar-cli/src/assertion";
 const FILES: [&str; 4] = ["syntax", "lexer", "parser", "eval"];
 
 /// A form of error: the function that gives it, how its message begins in `parser.rs`, and what is
@@ -61,15 +59,24 @@ pub(crate) fn parse_tokens(tokens: Vec<(ExprSyntaxKind, String)>) -> ParseResult
 ";
 
 fn main() {
-    let folder = source_folder();
+    let manifest = PathBuf::from(env::var_os("CARGO_MANIFEST_DIR").unwrap());
+    let target = manifest.parent().unwrap().join("target");
+    let source = target.join("spar");
+    for file in FILES {
+        need(&source.join(file).with_extension("rs"), "oracle/source");
+    }
     let out = PathBuf::from(env::var_os("OUT_DIR").unwrap());
     let placed = out.join("placed_parser.rs");
-    let parser = read(&folder.join("parser.rs"));
+    let parser = read(&source.join("parser.rs"));
     write(&placed, &(record_places(&parser) + PARSE_TOKENS));
-    write(&out.join("assertion.rs"), &modules(&folder, &placed));
-    if env::var_os("CARGO_FEATURE_PROVED").is_some() {
-        link_proved();
-    }
+    write(&out.join("assertion.rs"), &modules(&source, &placed));
+
+    println!("cargo::rerun-if-env-changed=PROVED_LIBRARY");
+    let library = match env::var_os("PROVED_LIBRARY") {
+        Some(given) => manifest.join(given),
+        None => target.join("staticlib"),
+    };
+    link_proved(&library);
 }
 
 /// Ends the build with one sentence. Cargo fails by it, and at another status repeats all output.
@@ -78,30 +85,15 @@ fn fail(sentence: &str) -> ! {
     exit(0)
 }
 
-/// A folder given by an environment variable, else one beside the manifest.
-fn folder(variable: &str, beside_manifest: &str) -> PathBuf {
-    println!("cargo::rerun-if-env-changed={variable}");
-    let manifest = PathBuf::from(env::var_os("CARGO_MANIFEST_DIR").unwrap());
-    match env::var_os(variable) {
-        Some(given) => manifest.join(given),
-        None => manifest.join(beside_manifest),
+/// Ends the build where a file is missing, and names the script that puts it there.
+fn need(file: &Path, script: &str) {
+    println!("cargo::rerun-if-changed={}", file.display());
+    if !file.is_file() {
+        fail(&format!(
+            "{} is missing: run `{script}` in the repository's root first",
+            file.display()
+        ));
     }
-}
-
-fn source_folder() -> PathBuf {
-    let source = folder("SPAR_SOURCE", "../../shared/docs/src");
-    let assertion = source.join(ASSERTION);
-    for file in FILES {
-        let path = assertion.join(file).with_extension("rs");
-        if !path.is_file() {
-            fail(&format!(
-                "the Rust files were looked for in {}, where {ASSERTION}/{file}.rs is missing: \
-                 set SPAR_SOURCE to the absolute path of the folder that holds {ASSERTION}",
-                source.display()
-            ));
-        }
-    }
-    assertion.canonicalize().unwrap()
 }
 
 fn read(path: &Path) -> String {
@@ -117,7 +109,6 @@ fn modules(folder: &Path, placed: &Path) -> String {
     let mut text = String::new();
     for file in FILES {
         let path = folder.join(file).with_extension("rs");
-        println!("cargo::rerun-if-changed={}", path.display());
         text += &format!("#[path = {path:?}]\npub(crate) mod {file};\n");
     }
     text + &format!("#[path = {placed:?}]\npub(crate) mod placed_parser;\n")
@@ -168,17 +159,9 @@ fn pushed_form(from: &str) -> Option<usize> {
     })
 }
 
-/// Links `libabi.a` from PROVED_LIBRARY or the repository's target folder.
-fn link_proved() {
-    let folder = folder("PROVED_LIBRARY", "../target/staticlib");
-    let archive = folder.join("libabi.a");
-    println!("cargo::rerun-if-changed={}", archive.display());
-    if !archive.is_file() {
-        fail(&format!(
-            "{} is missing: run `tools/staticlib` in the repository's root first",
-            archive.display()
-        ));
-    }
+/// Links `libabi.a` from a folder.
+fn link_proved(folder: &Path) {
+    need(&folder.join("libabi.a"), "tools/staticlib");
     println!("cargo::rustc-link-search=native={}", folder.display());
     println!("cargo::rustc-link-lib=static=abi");
 }

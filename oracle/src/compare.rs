@@ -5,7 +5,7 @@ use std::fmt;
 use crate::case::Case;
 use crate::generate::{Generator, Kind};
 use crate::sides::Sides;
-use crate::{exhaustive, proved, reading, sequences};
+use crate::{exhaustive, reading, sequences};
 
 /// Which cases are compared besides the short texts and the beginnings of characters.
 pub struct Wanted {
@@ -30,9 +30,7 @@ pub fn compare(wanted: &Wanted) -> Result<(), Box<Difference>> {
         total += generated(kind, share, wanted.seed, &mut sides)?;
     }
     agreed("total", total);
-    if proved::PARSES {
-        agreed("messages", sides.messages.agreed);
-    }
+    agreed("messages", sides.messages.agreed);
     Ok(())
 }
 
@@ -90,19 +88,17 @@ fn check(kind: &'static str, case: &Case, sides: &mut Sides) -> Result<(), Box<D
     checked.map_err(|sides| Difference::new(kind, case, sides))
 }
 
-/// What the Rust says of a case, as far as it was compared.
+/// What the Rust says of a case.
 fn said(case: &Case) -> String {
     let reading = match reading::read(case) {
         Ok(reading) => reading,
         Err(number) => return format!("refused {number}"),
     };
     let mut text = listed("tokens", &reading.tokens);
-    if proved::PARSES {
-        text += &listed("\ntree", &reading.tree);
-        text += &listed("\nerrors", &reading.errors);
-        for message in reading.messages() {
-            text += &format!("\n{message:?}");
-        }
+    text += &listed("\ntree", &reading.tree);
+    text += &listed("\nerrors", &reading.errors);
+    for message in reading.messages() {
+        text += &format!("\n{message:?}");
     }
     text
 }

@@ -106,9 +106,6 @@ oracle: the four Rust files beside the proved code
       of the tables and members, to FOLDER/stdout
   help
 
-compare and one need the proved code: build with --features proved for its
-tokens, with --features parse for its trees and messages too. compare-images and
-one-image need --features board, compare-runs, one-run and bench --features run.
 Exit status: 0 done or agreed; 1 a difference; 2 bad usage or a file's failure.
 ";
 
@@ -118,18 +115,6 @@ fn main() -> ExitCode {
         return usage();
     };
     let done = match (command.as_str(), words) {
-        ("compare" | "one", _) if !proved::LINKED => {
-            eprintln!("{command} needs the proved code: build with --features proved");
-            return ExitCode::from(2);
-        }
-        ("compare-images" | "one-image", _) if !proved::CHECKS_IMAGES => {
-            eprintln!("{command} needs the proved code: build with --features board");
-            return ExitCode::from(2);
-        }
-        ("compare-runs" | "one-run" | "bench", _) if !proved::RUNS => {
-            eprintln!("{command} needs the proved code: build with --features run");
-            return ExitCode::from(2);
-        }
         ("compare", _) => return compare(words),
         ("one", _) => return one(words),
         ("compare-images", _) => return compare_images(words),

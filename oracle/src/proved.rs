@@ -3,14 +3,6 @@
 use crate::case::ERROR_ROW;
 use crate::run_sides::Lent;
 
-/// Whether the proved code is part of this build, whether it has the parser and its messages, whether
-/// it has the check of board images, and whether it runs rules.
-pub const LINKED: bool = cfg!(feature = "proved");
-pub const PARSES: bool = cfg!(feature = "parse");
-pub const CHECKS_IMAGES: bool = cfg!(feature = "board");
-pub const RUNS: bool = cfg!(feature = "run");
-
-#[cfg(feature = "proved")]
 unsafe extern "C" {
     fn assertion_read_tokens(
         rule: *const u8,
@@ -21,10 +13,7 @@ unsafe extern "C" {
         errors_len: usize,
         count: *mut u32,
     ) -> u32;
-}
 
-#[cfg(feature = "parse")]
-unsafe extern "C" {
     fn assertion_parse_expr(
         rule: *const u8,
         rule_len: usize,
@@ -50,15 +39,9 @@ unsafe extern "C" {
         out_len: usize,
         written: *mut usize,
     ) -> u32;
-}
 
-#[cfg(feature = "board")]
-unsafe extern "C" {
     fn assertion_check_image(image: *const u8, image_len: usize, collection_len: usize) -> u32;
-}
 
-#[cfg(feature = "run")]
-unsafe extern "C" {
     fn spar_read(
         rule: *const u8,
         rule_len: usize,
@@ -92,7 +75,6 @@ unsafe extern "C" {
 
 /// Returns 0 with the token rows at the front of the table and their number in `count`, or the
 /// refusal's number with both as found.
-#[cfg(feature = "proved")]
 pub fn read_tokens(
     rule: &[u8],
     tokens: &mut [u32],
@@ -116,7 +98,6 @@ pub fn read_tokens(
 
 /// Returns 0 with token, tree and error rows at the front of the tables and their numbers in
 /// `counts`, or the refusal's number with all as found.
-#[cfg(feature = "parse")]
 pub fn parse_expr(
     rule: &[u8],
     tokens: &mut [u32],
@@ -145,7 +126,6 @@ pub fn parse_expr(
 
 /// Returns 0 with the message of an error row at the front of `out` and its length in `written`,
 /// or 1 with both as found where `out` is too short.
-#[cfg(feature = "parse")]
 pub fn message(rule: &[u8], error: [u32; ERROR_ROW], out: &mut [u8], written: &mut usize) -> u32 {
     let [form, expected, first, end] = error;
     // SAFETY: each pointer is valid for the length beside it, and nothing lent overlaps.
@@ -166,7 +146,6 @@ pub fn message(rule: &[u8], error: [u32; ERROR_ROW], out: &mut [u8], written: &m
 
 /// Returns 0, or the first of refusals 5 to 8 that holds. The collection is given by its length in
 /// numbers alone. No byte may be altered; the image is lent as if it might be, so that it can be seen.
-#[cfg(feature = "board")]
 pub fn check_image(image: &mut [u8], collection_len: usize) -> u32 {
     // SAFETY: the pointer is valid for the length beside it.
     unsafe { assertion_check_image(image.as_mut_ptr(), image.len(), collection_len) }
@@ -175,7 +154,6 @@ pub fn check_image(image: &mut [u8], collection_len: usize) -> u32 {
 /// Returns 1 with the answer's eight numbers at the front of the last slice and the tables as document
 /// 01 says, or 0 with all as found where there is no room for the answer. No byte of rule and image may
 /// be altered; they are lent as if they might be, so that it can be seen.
-#[cfg(feature = "run")]
 pub fn run(rule: &mut [u8], image: &mut [u8], lent: Lent) -> u32 {
     let [tokens, tree, errors, collection, answer] = lent;
     // SAFETY: each pointer is valid for the length beside it, and nothing lent overlaps.
@@ -201,7 +179,6 @@ pub fn run(rule: &mut [u8], image: &mut [u8], lent: Lent) -> u32 {
 
 /// Returns 1 with the answer's eight numbers at the front of the last slice and the tables as read, or 0
 /// with all as found where there is no room for the answer.
-#[cfg(feature = "run")]
 pub fn read(rule: &[u8], lent: [&mut [u32]; 4]) -> u32 {
     let [tokens, tree, errors, answer] = lent;
     // SAFETY: each pointer is valid for the length beside it, and nothing lent overlaps.
@@ -219,34 +196,4 @@ pub fn read(rule: &[u8], lent: [&mut [u32]; 4]) -> u32 {
             answer.len(),
         )
     }
-}
-
-#[cfg(not(feature = "proved"))]
-pub fn read_tokens(_: &[u8], _: &mut [u32], _: usize, _: usize, _: &mut u32) -> u32 {
-    unreachable!("whoever calls this asks LINKED first")
-}
-
-#[cfg(not(feature = "parse"))]
-pub fn parse_expr(_: &[u8], _: &mut [u32], _: &mut [u32], _: &mut [u32], _: &mut [u32; 3]) -> u32 {
-    unreachable!("whoever calls this asks PARSES first")
-}
-
-#[cfg(not(feature = "parse"))]
-pub fn message(_: &[u8], _: [u32; ERROR_ROW], _: &mut [u8], _: &mut usize) -> u32 {
-    unreachable!("whoever calls this asks PARSES first")
-}
-
-#[cfg(not(feature = "board"))]
-pub fn check_image(_: &mut [u8], _: usize) -> u32 {
-    unreachable!("whoever calls this asks CHECKS_IMAGES first")
-}
-
-#[cfg(not(feature = "run"))]
-pub fn run(_: &mut [u8], _: &mut [u8], _: Lent) -> u32 {
-    unreachable!("whoever calls this asks RUNS first")
-}
-
-#[cfg(not(feature = "run"))]
-pub fn read(_: &[u8], _: [&mut [u32]; 4]) -> u32 {
-    unreachable!("whoever calls this asks RUNS first")
 }
