@@ -82,7 +82,7 @@ impl Case {
 /// The command that runs the case again.
 impl fmt::Display for Case {
     fn fmt(&self, f: &mut fmt::Formatter<'_>) -> fmt::Result {
-        write!(f, "oracle one {}", self.words())
+        write!(f, "oracle/oracle one {}", self.words())
     }
 }
 

@@ -256,9 +256,10 @@ pub fn write_beside_program(image: &[u8]) -> io::Result<PathBuf> {
 
 impl fmt::Display for Difference {
     fn fmt(&self, f: &mut fmt::Formatter<'_>) -> fmt::Result {
+        let collection = self.collection;
         writeln!(f, "{} differs", self.kind)?;
         match &self.file {
-            Ok(file) => writeln!(f, "oracle one-image {} {}", file.display(), self.collection)?,
+            Ok(file) => writeln!(f, "oracle/oracle one-image {} {collection}", file.display())?,
             Err(error) => writeln!(f, "the image could not be written: {error}")?,
         }
         write!(f, "{}", self.sides)

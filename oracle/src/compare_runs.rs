@@ -224,7 +224,7 @@ impl Difference {
 impl fmt::Display for Difference {
     fn fmt(&self, f: &mut fmt::Formatter<'_>) -> fmt::Result {
         match &self.file {
-            Ok(file) => writeln!(f, "oracle one-run {} {}", file.display(), self.words)?,
+            Ok(file) => writeln!(f, "oracle/oracle one-run {} {}", file.display(), self.words)?,
             Err(error) => writeln!(f, "the image could not be written: {error}")?,
         }
         write!(f, "{}", self.sides)

@@ -61,52 +61,53 @@ use run::{RunBoard, RunCase};
 use run_sides::CalledRun;
 
 const HELP: &str = "\
-oracle: the four Rust files beside the proved code
+The four Rust files beside the proved code:
 
-  compare [--count N] [--seed S] [--sequences L]
+  oracle/oracle compare [--count N] [--seed S] [--sequences L]
       compares all short texts, all beginnings of characters, all sequences of
       up to L tokens (4; at most 8) and N generated cases (1000000), drawn from
       the seed S (1); stops at the first difference
-  one HEX TOKENS TREE ERRORS
+  oracle/oracle one HEX TOKENS TREE ERRORS
       runs one case, a rule in hex (- for none) and the three table lengths in
       numbers, and prints what both sides say
-  compare-images [--count N] [--seed S]
+  oracle/oracle compare-images [--count N] [--seed S]
       compares every small change of the example boards and N generated images
       (1000000), half of them damaged, drawn from the seed S (1); stops at the
       first difference
-  one-image FILE COLLECTION
+  oracle/oracle one-image FILE COLLECTION
       checks one image and a collection of so many numbers, and prints what
       both sides say
-  compare-runs [--count N] [--seed S]
+  oracle/oracle compare-runs [--count N] [--seed S]
       compares N runs of rules on boards (2000000), drawn from the seed S (1);
       stops at the first difference
-  one-run FILE HEX TOKENS TREE ERRORS COLLECTION ANSWER
+  oracle/oracle one-run FILE HEX TOKENS TREE ERRORS COLLECTION ANSWER
       runs a rule in hex (- for none) on an image, with tables and an answer of
       so many numbers, and prints what both sides say
-  images FOLDER
+  oracle/oracle images FOLDER
       writes boards A and B and other example boards to FOLDER
-  bench [--rounds N] [--only TEXT] [--instructions]
+  oracle/oracle bench [--rounds N] [--only TEXT] [--instructions]
       measures both sides on the same rules and boards, N times (31), and with
       --instructions counts their instructions with valgrind; TEXT is a part of
       the title or name of the rows that are wanted
-  tree [FILE]
+  oracle/oracle tree [FILE]
       reads a rule from FILE or standard input and prints its tree, the number
       of errors and their messages
-  run IMAGE [RULE]
+  oracle/oracle run IMAGE [RULE]
       runs a rule, from the file RULE or standard input, on a board image and
       prints what it comes to, its members or its errors, and the verdict
-  replay FOLDER
+  oracle/oracle replay FOLDER
       writes the fixed cases to FOLDER/stdin and their answers, tokens, trees,
       errors and messages, to FOLDER/stdout
-  replay-predicates FOLDER
+  oracle/oracle replay-predicates FOLDER
       writes the fixed cases about predicates to FOLDER/stdin and their answers,
       the members for which each is true, to FOLDER/stdout
-  replay-runs FOLDER
+  oracle/oracle replay-runs FOLDER
       writes the fixed runs to FOLDER/stdin and their answers, numbers, digests
       of the tables and members, to FOLDER/stdout
-  help
+  oracle/oracle help
 
-Exit status: 0 done or agreed; 1 a difference; 2 bad usage or a file's failure.
+Exit status: 0 done or agreed; 1 a difference; 2 bad usage, a file's failure,
+or the oracle could not be built.
 ";
 
 fn main() -> ExitCode {
