@@ -1,4 +1,5 @@
-// Reads a rule from standard input and prints its tree rows, the number of parse errors and their messages, or why it is refused.
+// Reads a rule from standard input and prints its tree rows, the number of parse errors and their messages, or why it is refused. Its exit
+// status is 0 where all of that was printed, whatever it says of the rule, and 4 where the rule could not be read or the answer not written.
 #![tactic(auto)]
 
 use lexer::limits::{ERROR_ROW, MAX_RULE, TREE_ROW};
@@ -6,13 +7,28 @@ use message::ErrorRow;
 use rows::{ROWS, TOKENS};
 use std::io;
 use std::io::Write;
+use std::process::ExitCode;
 use syntax::text;
 
 // One byte more than a rule may have: a rule that fills the buffer is too long, whatever follows. It stands on the stack, as the tables do:
 // the project has no heap.
 const BUFFER: usize = MAX_RULE + 1;
 
-fn main(rt: HostRuntime) -> io::Result<()> {
+// The exit status where nothing was read, or not all was printed.
+const NOT_PRINTED: u8 = 4;
+
+fn main(rt: HostRuntime) -> ExitCode {
+    match read_rule(&rt) {
+        Ok(()) => ExitCode::SUCCESS,
+        Err(error) => {
+            // Where standard error cannot be written either, the status alone is left to tell it.
+            let _ = writeln!(rt.stderr(), "tree: {error}");
+            ExitCode::from(NOT_PRINTED)
+        }
+    }
+}
+
+fn read_rule(rt: &HostRuntime) -> io::Result<()> {
     let mut input = rt.stdin();
     let mut buffer = [0u8; BUFFER];
     let n = streams::read_full(&mut input, &mut buffer)?;

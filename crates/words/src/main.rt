@@ -32,7 +32,7 @@ fn main(rt: HostRuntime) -> io::Result<()> {
     print_rules(&mut out, &mut rt.stdin())
 }
 
-// Prints what is written to an empty place; `rule` has the same with so much room as is asked for, and says why it is not shared.
+// Prints what is written to an empty place.
 fn print_lines<W: Write, F: FnOnce(&mut Writer<'_>)>(out: &mut W, write: F) -> io::Result<()>
     requires { F.IsAlwaysCallable write }
 {
