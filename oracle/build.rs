@@ -1,5 +1,5 @@
-//! Takes the four Rust files from where `oracle/source` puts them, prepares the parser that also records
-//! where errors were found, and links the proved static library.
+//! Takes the four Rust files from where `oracle/source` puts them, prepares the parser that also
+//! records where errors were found, and links the proved static library.
 
 use std::env;
 use std::fs;
@@ -104,7 +104,8 @@ fn write(path: &Path, text: &str) {
     fs::write(path, text).unwrap_or_else(|error| fail(&format!("{}: {error}", path.display())));
 }
 
-/// The module lines: the four files from where they stand, and the parser that records places.
+/// The module lines: the four files from where `oracle/source` puts them, and the parser that
+/// records places.
 fn modules(folder: &Path, placed: &Path) -> String {
     let mut text = String::new();
     for file in FILES {
