@@ -1,10 +1,13 @@
-// The first two lines: the verdict, and what the rule comes to.
+// The first two lines, the verdict and what the rule comes to; and the status by which a program tells the verdict.
 ghost use Rattle.std.specs.Prelude.{◌≡◌};
+ghost use Rattle.std.specs.Process.{exit_status};
+ghost use Rattle.calls.specs.Numbers.{verdict_number};
 ghost use Rattle.texts.specs.Append.{Wrote};
 ghost use Rattle.report.specs.Answer.{head_text, verdict_text, outcome_text, reason_text, refusal_text, value_text, truth_text, counted};
 
 use calls::value::{Outcome, Value, Verdict};
 use calls::verdict;
+use std::process::ExitCode;
 use syntax::refusal::Refusal;
 use texts::Writer;
 
@@ -28,6 +31,13 @@ pub fn write_verdict(verdict: Verdict, out: &mut Writer<'_>)
         Verdict::Refused => out.append(b"refused"),
         Verdict::Open => out.append(b"open"),
     }
+}
+
+/// The exit status by which a program tells a verdict: 0 pass, 1 fail, 2 refused, 3 open.
+pub fn exit_code(verdict: Verdict) -> ExitCode
+    ensures { exit_status result ≡ verdict_number verdict }
+{
+    ExitCode::from(verdict as u8)
 }
 
 // What a rule comes to, in words.

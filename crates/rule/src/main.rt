@@ -3,9 +3,7 @@
 // is the verdict's number, or 4 where no rule was run or its answer could not be printed.
 #![tactic(auto)]
 
-ghost use Rattle.std.specs.Prelude.{◌≡◌, ◌≤◌, length, IfOk};
-ghost use Rattle.std.specs.Process.{exit_status};
-ghost use Rattle.calls.specs.Numbers.{verdict_number};
+ghost use Rattle.std.specs.Prelude.{◌≤◌, length, IfOk};
 
 use board::MAX_IMAGE;
 use calls::value::{Outcome, Verdict};
@@ -81,14 +79,7 @@ fn run_argument(rt: &HostRuntime, path: &[u8]) -> Result<ExitCode, Failure> {
             Err(error) => Err(Failure::Output(error)),
         };
     }
-    Ok(status_of(run_on(rt, path)?))
-}
-
-// The exit status by which a verdict is told.
-fn status_of(verdict: Verdict) -> ExitCode
-    ensures { exit_status result ≡ verdict_number verdict }
-{
-    ExitCode::from(verdict as u8)
+    Ok(answer::exit_code(run_on(rt, path)?))
 }
 
 fn print_usage<W: Write>(out: &mut W) -> io::Result<()> {
