@@ -1,9 +1,9 @@
 -- Which components have a property or a feature of a name, as a mark for each. Assumes nothing: these are definitions.
-use Rattle.std.specs.Prelude.{ℕ, zero, suc, Bool, true, false, ◌&&◌, cond, List, [], ◌∷◌, eqb, ltb, get_or, set}
+use Rattle.std.specs.Prelude.{ℕ, zero, suc, ◌≡◌, ◌<◌, Bool, true, false, ◌&&◌, cond, List, [], ◌∷◌, eqb, ltb, get_or, set}
 use Rattle.syntax.specs.Text.{same}
 use Rattle.board.specs.Image.{text, property_component, property_set, property_name}
 use Rattle.matching.specs.Search.{property_set_of, property_name_of}
-use Rattle.instance.specs.Instance.{has_property, has_feature}
+use Rattle.instance.specs.Instance.{has_property, feature_is, has_feature}
 
 -- the mark of a component that has the property, and of one that has the feature alone
 abbrev pub OF_PROPERTY : ℕ
@@ -49,6 +49,10 @@ feature_marks image name n c (mark ∷ marks) = feature_mark image name n c mark
 -- the marks once one component was looked at
 unfoldable pub featured : List ℕ → List ℕ → ℕ → List ℕ → List ℕ
 featured image name c marks = cond (eqb (get_or marks c 0) 0 && has_feature image c name) (set marks c OF_FEATURE) marks
+
+-- no feature before one has a name; what private functions ask and give
+abbrev pub NoneBefore : (image name : List ℕ) (before : ℕ) → Type 0
+NoneBefore image name before = (n : ℕ) → n < before → feature_is image name n ≡ false
 
 -- the mark of a component by whether it has the property that a text names, and a feature of which the text is the name
 abbrev pub mark_by : Bool → Bool → ℕ

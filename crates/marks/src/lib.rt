@@ -1,12 +1,11 @@
-// Which components have a property or a feature of a name, as a mark for each: one pass over the properties, and for features one over all
-// and one over each component's, where `instance::has_property` takes a pass for each component. Any image, text and slice of marks is
-// taken.
+// Which components have a property or a feature of a name, as a mark for each: one pass over the properties, and one over the features,
+// where `instance::has_property` takes a pass for each component. Any image, text and slice of marks is taken.
 #![tactic(auto)]
 
-ghost use Rattle.std.specs.Prelude.{◌≡◌, ◌-◌, length, set};
-ghost use Rattle.board.specs.Image.{component_count, property_component};
+ghost use Rattle.std.specs.Prelude.{◌≡◌, ◌-◌, length, set, IfSome, IfNone};
+ghost use Rattle.board.specs.Image.{component_count, feature_count, property_component};
 ghost use Rattle.instance.specs.Instance.{some, feature_is, has_feature};
-ghost use Rattle.marks.specs.Marks.{property_marks, marks_of, featured, feature_marks};
+ghost use Rattle.marks.specs.Marks.{property_marks, marks_of, featured, feature_marks, NoneBefore};
 ghost use Rattle.marks.specs.Marks as meant;
 
 use board::compared::Compared;
@@ -33,37 +32,56 @@ pub fn mark_properties(image: &[u8], value: &[u8], marks: &mut [u8])
     mark_named(image, set, name, marks);
 }
 
-// Marks the components that have no mark yet and have a feature of this name. Where no feature at all has it there are none.
+// Marks the components that have no mark yet and have a feature of this name. Features before the first that has it are not asked twice,
+// and where none has it no component is looked at.
 pub fn mark_features(image: &[u8], name: &[u8], marks: &mut [u8])
     ensures { marks.new ≡ feature_marks image.now name.now (component_count image.now) 0 marks.old }
 {
     let mut names = Compared::new(image, name);
-    if !some_named(&mut names, 0, image::record_count(image, Section::Features)) {
+    let Some(found) = first_named(&mut names) else {
         return;
-    }
+    };
     for component in 0..image::record_count(image, Section::Components) {
-        mark_feature(&mut names, component, marks);
+        mark_feature(&mut names, found, component, marks);
     }
 }
 
-// Marks a component if it has no mark yet and has a feature of the name.
-fn mark_feature(names: &mut Compared<'_, KNOWN>, component: u32, marks: &mut [u8])
+// A feature before which none has the name: the first that has it, where there is one.
+fn first_named(names: &mut Compared<'_, KNOWN>) -> Option<u32>
+    ensures some { IfSome result (λ before. NoneBefore names.old.image.now names.old.bytes.now before) }
+    ensures none { IfNone result (NoneBefore names.old.image.now names.old.bytes.now (feature_count names.old.image.now)) }
+    ensures names { (names.new.image ≡ names.old.image) × (names.new.bytes ≡ names.old.bytes) }
+{
+    let image = names.image;
+    let features = image::section_offset(image, Section::Features) as usize;
+    for feature in 0..image::record_count(image, Section::Features) {
+        if names.is(image::word(image, features + TRIPLE_SIZE * (feature as usize))) {
+            return Some(feature);
+        }
+    }
+    None
+}
+
+// Marks a component if it has no mark yet and has a feature of the name, which no feature before one has.
+fn mark_feature(names: &mut Compared<'_, KNOWN>, before: u32, component: u32, marks: &mut [u8])
+    requires { NoneBefore names.old.image.now names.old.bytes.now before }
     ensures marks { marks.new ≡ featured names.old.image.now names.old.bytes.now component marks.old }
     ensures names { (names.new.image ≡ names.old.image) × (names.new.bytes ≡ names.old.bytes) }
 {
     let place = component as usize;
-    if place < marks.len() && marks[place] == 0 && has_feature(names, component) {
+    if place < marks.len() && marks[place] == 0 && has_feature(names, before, component) {
         marks[place] = OF_FEATURE;
     }
 }
 
-// Whether a component has a feature of the name.
-fn has_feature(names: &mut Compared<'_, KNOWN>, component: u32) -> bool
+// Whether a component has a feature of the name, which no feature before one has.
+fn has_feature(names: &mut Compared<'_, KNOWN>, before: u32, component: u32) -> bool
+    requires { NoneBefore names.old.image.now names.old.bytes.now before }
     ensures has { result ≡ has_feature names.old.image.now component names.old.bytes.now }
     ensures names { (names.new.image ≡ names.old.image) × (names.new.bytes ≡ names.old.bytes) }
 {
     let (first, end) = instance::features(names.image, component);
-    some_named(names, first, end)
+    some_named(names, first.max(before), end)
 }
 
 // Whether a feature from one on and before another has the name.
