@@ -1,12 +1,12 @@
 -- Texts appended one after the other, with whatever is cut, and loops that append. Assumes nothing.
 use mathlib.Core.Path.{◌≡◌, refl, sym, ap, ◌∙◌}
-use mathlib.Core.List.{List, [], ◌∷◌, ◌++◌, append_assoc}
+use mathlib.Core.List.{List, [], ◌∷◌, ◌++◌}
 use Prim.Native.Nat.{ℕ, suc, ◌+◌, ◌-◌, min, ◌≤◌, ◌<◌}
 use native.Mathlib.Omega.{arith}
 use borrow.Author.Tests.{leb-true, leb-false}
 use lib.Dec.{leb}
-use lib.ListN.{length, get_or, take, drop, length-append, take-append-drop, drop_of_length-le}
-use lib.Seq.{sets, sets-eq, length-sets, set_out, take-length, length-take-le, drop-drop}
+use lib.ListN.{length, get_or, set, take, drop, length-append, take-append-drop, drop_of_length-le}
+use lib.Seq.{sets, length-sets, set_out, take-suc, take-length, length-take-le}
 use Rattle.syntax.proofs.BoolLaws.{whether}
 use Rattle.syntax.proofs.TextLaws.{from}
 use Rattle.syntax.proofs.TableLaws.{sets_append}
@@ -44,26 +44,27 @@ appended_then x y w =
     sets_append x y a at ∙ sets_past y (sets a at x) (at + length x) beyond ∙ sym (sets_past y (sets a at x) next past)) in
     λ i. record { bytes = bytes i; at = place i }
 
--- as much of a text as there is room for, copied to its place
-pub appended_part : (piece : List ℕ) (w : Written) {n k : ℕ} {part : List ℕ} → w.at ≤ length w.bytes → n ≡ min (length piece) (length w.bytes - w.at) → k ≡ n → part ≡ take n piece
-    → record { bytes = take w.at w.bytes ++ (part ++ drop k (drop w.at w.bytes)); at = w.at + n } ≡ appended piece w
+-- one byte more of a text is stored behind those before it
+pub sets_more : (s out : List ℕ) (at i : ℕ) → i < length s → set (sets out at (take i s)) (at + i) (get_or s i 0) ≡ sets out at (take (i + 1) s)
+sets_more s out at i h =
+    let long : length (take i s) ≡ i = length-take-le i s (omega arith) in
+    let one : i + 1 ≡ suc i = omega arith in
+    rw (one, take-suc s i 0 h, sets_append (take i s) (get_or s i 0 ∷ []) out at, long)
+
+-- as much of a text as there is room for, stored at its place
+pub appended_part : (piece : List ℕ) (w : Written) {n : ℕ} → n ≡ min (length piece) (length w.bytes - w.at) → record { bytes = sets w.bytes w.at (take n piece); at = w.at + n } ≡ appended piece w
 unfolding appended
-appended_part piece w {n} {k} {part} within few all e =
+appended_part piece w {n} few =
     let at = w.at in
     let a = w.bytes in
-    let long : length part ≡ n = rw e (length-take-le n piece (omega arith)) in
-    let place : at + length part ≡ at + n = ap (λ (m : ℕ). at + m) long in
-    let fits : at + length part ≤ length a = omega arith in
-    let stored : take at a ++ (part ++ drop k (drop at a)) ≡ sets a at part =
-    sym (sets-eq part a at fits ∙ append_assoc (take at a) part (drop (at + length part) a) ∙ ap (λ (m : ℕ). take at a ++ (part ++ drop m a)) place ∙ rw (all, drop-drop n at a)) in
-    let whole : sets a at piece ≡ sets a at part =
-    rw e
-    (ap (sets a at) (sym (take-append-drop n piece))
+    let long : length (take n piece) ≡ n = length-take-le n piece (omega arith) in
+    let whole : sets a at piece ≡ sets a at (take n piece) =
+    ap (sets a at) (sym (take-append-drop n piece))
     ∙ sets_append (take n piece) (drop n piece) a at
     ∙ whether (leb (length piece) n)
     (λ t. rw (drop_of_length-le piece (leb-true (length piece) n t)))
-    (λ t. sets_past (drop n piece) (sets a at (take n piece)) (at + length (take n piece)) (rw (length-sets a at (take n piece), ← e) (omega (arith, leb-false (length piece) n t))))) in
-    λ i. record { bytes = (stored ∙ sym whole) i; at = ap (λ (m : ℕ). at + m) few i }
+    (λ t. sets_past (drop n piece) (sets a at (take n piece)) (at + length (take n piece)) (rw (length-sets a at (take n piece), long) (omega (arith, leb-false (length piece) n t)))) in
+    λ i. record { bytes = sym whole i; at = ap (λ (m : ℕ). at + m) few i }
 
 -- the same of a writer
 pub wrote_none : {a : Writer} → Wrote [] a a

@@ -3,8 +3,8 @@
 
 pub mod place;
 
-ghost use Rattle.std.specs.Prelude.{◌≡◌, [], ◌∷◌, ◌++◌, ◌≤◌, length, map, take};
-ghost use Rattle.texts.specs.Items.{item};
+ghost use Rattle.std.specs.Prelude.{◌≡◌, [], ◌∷◌, ◌++◌, ◌≤◌, length, map, min, take};
+ghost use Rattle.texts.specs.Items.{item, item_of};
 ghost use Rattle.texts.specs.Text.{number_text, shown_byte, shown};
 
 // A lent place of bytes, and the number of them that are written.
@@ -27,6 +27,16 @@ impl<'a> Writer<'a> {
         Writer { out, at: 0 }
     }
 
+    // A writer over a place of which `at` bytes are written already. Where `at` is past the end, nothing is written.
+    pub fn at(out: &'a mut [u8], at: usize) -> Writer<'a>
+        ensures same_reference { result.out.ghost_name ≡ out.entry.ghost_name }
+        ensures same_bytes { result.out.now ≡ out.old }
+        ensures written { result.at ≡ min at (length out.old) }
+    {
+        let at = at.min(out.len());
+        Writer { out, at }
+    }
+
     // What is written.
     pub fn written(&self) -> &[u8]
         ensures { result.now ≡ take self.now.at self.now.out.now }
@@ -34,12 +44,21 @@ impl<'a> Writer<'a> {
         &self.out[..self.at]
     }
 
-    // Copies a piece.
+    // How many bytes are written: the place past them. What was cut doesn't count.
+    pub fn place(&self) -> usize
+        ensures { result ≡ self.now.at }
+    {
+        self.written().len()
+    }
+
+    // Copies a piece, byte by byte: `copy_from_slice` would have the library for C ask for `memmove`.
     pub fn append(&mut self, piece: &[u8])
         ensures { Wrote piece.now self.old self.new }
     {
         let n = piece.len().min(self.out.len() - self.at);
-        self.out[self.at..self.at + n].copy_from_slice(&piece[..n]);
+        for (i, &b) in piece[..n].iter().enumerate() {
+            self.out[self.at + i] = b;
+        }
         self.at += n;
     }
 
@@ -78,6 +97,16 @@ impl<'a> Writer<'a> {
         ensures { Wrote (item n (map (λ text. text.now) items.now)) self.old self.new }
     {
         match items.get(n as usize) {
+            Some(text) => self.append(text),
+            None => self.append(b"?"),
+        }
+    }
+
+    // The n-th of the items that bars part in a text, from 0; `?` where there are fewer.
+    pub fn write_item_of(&mut self, items: &[u8], n: u32)
+        ensures { Wrote (item_of n items.now) self.old self.new }
+    {
+        match items.split(|b| *b == b'|').nth(n as usize) {
             Some(text) => self.append(text),
             None => self.append(b"?"),
         }
