@@ -60,9 +60,9 @@ impl<'a> cases::Case<'a> for Case<'a> {
 impl<'a> cases::Replayed<'a> for Case<'a> {
     // Reads the rule into tables of so many numbers.
     fn run<W: Write>(self, out: &mut W) -> io::Result<()> {
-        let mut tokens = noise::table::<TOKENS>(SEED);
-        let mut tree = noise::table::<ROWS>(SEED);
-        let mut errors = noise::table::<ROWS>(SEED);
+        let mut tokens = [0; TOKENS];
+        let mut tree = [0; ROWS];
+        let mut errors = [0; ROWS];
         run_in(
             out,
             self.rule,
@@ -73,6 +73,7 @@ impl<'a> cases::Replayed<'a> for Case<'a> {
     }
 }
 
+// Only what is lent is filled: most cases are lent a small part of the largest tables.
 fn run_in<W: Write>(
     out: &mut W,
     rule: &[u8],
@@ -80,6 +81,9 @@ fn run_in<W: Write>(
     tree: &mut [u32],
     errors: &mut [u32],
 ) -> io::Result<()> {
+    noise::fill(tokens, SEED);
+    noise::fill(tree, SEED);
+    noise::fill(errors, SEED);
     match parser::parse_expr(rule, tokens, tree, errors) {
         Ok(rows) => {
             print_tokens(out, tokens, rows.tokens)?;

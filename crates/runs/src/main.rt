@@ -111,16 +111,17 @@ impl<'a> cases::Case<'a> for Case<'a> {
 fn run_case<W: Write>(out: &mut W, image: &[u8], case: &Case<'_>, seed: usize) -> io::Result<()>
     requires { seed < 65536 }
 {
-    let mut tokens = noise::table::<TOKENS>(seed);
-    let mut tree = noise::table::<ROWS>(seed + 8);
-    let mut errors = noise::table::<ROWS>(seed + 16);
-    let mut collection = noise::table::<COLLECTION>(seed + 24);
+    let mut tokens = [0; TOKENS];
+    let mut tree = [0; ROWS];
+    let mut errors = [0; ROWS];
+    let mut collection = [0; COLLECTION];
     let mut tables = Tables {
         tokens: &mut tokens[..case.tokens],
         tree: &mut tree[..case.tree],
         errors: &mut errors[..case.errors],
         collection: &mut collection[..case.collection],
     };
+    tables.fill(seed);
     tables.print_run(out, case.rule.unwrap_or(&[]), image)
 }
 
@@ -134,6 +135,16 @@ struct Tables<'a> {
 }
 
 impl Tables<'_> {
+    // Only what is lent is filled: most runs are lent a small part of the largest tables.
+    fn fill(&mut self, seed: usize)
+        requires { seed < 65536 }
+    {
+        noise::fill(self.tokens, seed);
+        noise::fill(self.tree, seed + 8);
+        noise::fill(self.errors, seed + 16);
+        noise::fill(self.collection, seed + 24);
+    }
+
     fn run(&mut self, rule: &[u8], image: &[u8]) -> Answer {
         eval::run(
             rule,
@@ -189,9 +200,19 @@ fn print_members<W: Write>(out: &mut W, members: &[[u32; 2]]) -> io::Result<()> 
     Ok(())
 }
 
-// A digest of all numbers of a table, in their order. It stays below 2 ^ 32, so that nothing wraps.
+// A digest of all numbers of a table, in their order.
 fn digest(table: &[u32]) -> u64 {
-    table.iter().fold(1u64, |sum, number| {
-        sum.wrapping_mul(1_000_003).wrapping_add(u64::from(*number)) % 4_294_967_291
-    })
+    let mut sum = 1;
+    for number in table {
+        sum = digest_on(sum, *number);
+    }
+    sum
+}
+
+// The digest with one number more. It stays below 2 ^ 32, so that no product wraps.
+fn digest_on(sum: u64, number: u32) -> u64
+    requires { sum ≤ 4294967290 }
+    ensures { result ≤ 4294967290 }
+{
+    (sum * 1_000_003 + u64::from(number)) % 4_294_967_291
 }
