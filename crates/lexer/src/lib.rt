@@ -376,10 +376,14 @@ fn is_ident_start(b: u8) -> bool
     b.is_ascii_alphabetic() || b == b'_'
 }
 
+// Small letters are asked for first, by themselves, as most bytes of a rule are such: otherwise they cost nearly twice as much.
 #[tactic(auto, unfolding(crate::specs::Bytes::is_ident_continue))]
 fn is_ident_continue(b: u8) -> bool
     ensures { result ≡ is_ident_continue b }
 {
+    if b.is_ascii_lowercase() {
+        return true;
+    }
     is_ident_start(b) || is_ascii_digit(b)
 }
 

@@ -40,6 +40,13 @@ module _ (rule tree : Bor (List ℕ)) (at : ℕ) where
     pub first_inside : (image : List ℕ) (m : Member) → truth image m (node_at rule.now tree.now first) ≡ truth image m (children_at rule.now tree.now at)
     first_inside image m = sym (inner_found (of image m) _ _ _ found)
 
+    -- `not` and brackets around what is inside
+    pub inside_not : kind_at tree.now first ≡ UNARY_EXPR → (image : List ℕ) (m : Member) → not (truth image m (children_at rule.now tree.now first)) ≡ truth image m (children_at rule.now tree.now at)
+    inside_not k image m = sym (truth_unary (of image m) _ found.whole k) ∙ first_inside image m
+
+    pub inside_paren : kind_at tree.now first ≡ PAREN_EXPR → (image : List ℕ) (m : Member) → truth image m (children_at rule.now tree.now first) ≡ truth image m (children_at rule.now tree.now at)
+    inside_paren k image m = sym (truth_paren (of image m) _ found.whole k) ∙ first_inside image m
+
     pub asked_atom : {a : Atom} → AtomAt rule.now tree.now first a → AskedAt rule.now tree.now at (record { atom = a; not = false })
     unfolding asked_truth
     asked_atom p = record { so = λ image m. p.so image m ∙ sym (node_truth (of image m) _ found.whole) ∙ first_inside image m }

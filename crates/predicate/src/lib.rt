@@ -100,10 +100,7 @@ impl<'a> Predicate<'a> {
             tree: self.tree,
             member,
         };
-        match node::first_child(self.tree, self.at) {
-            Some(predicate) => evaluator.eval_node(predicate).value,
-            None => false,
-        }
+        evaluator.eval_inside(self.at)
     }
 }
 
@@ -136,6 +133,21 @@ fn find_atom<'a>(rule: &'a [u8], tree: &[u32], at: usize) -> Option<Asked<'a>>
 }
 
 impl Evaluator<'_> {
+    // The truth of the first node inside the one whose row is at a place; false where there is none. Nothing comes after it, so `not` and
+    // brackets around it are entered without passing over the rows behind them.
+    fn eval_inside(&self, at: usize) -> bool
+        ensures { result ≡ truth self.now.image.now self.now.member (children_at self.now.rule.now self.now.tree.now at) }
+    {
+        let Some(first) = node::first_child(self.tree, at) else {
+            return false;
+        };
+        match rows::kind_at(self.tree, first) {
+            Ok(Kind::ParenExpr) => self.eval_inside(first),
+            Ok(Kind::UnaryExpr) => !self.eval_inside(first),
+            _ => self.eval_node(first).value,
+        }
+    }
+
     // The truth of a node, and where the rows after it begin.
     #[cycle(eval_node)]
     fn eval_node(&self, at: usize) -> Truth
