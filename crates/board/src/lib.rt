@@ -146,8 +146,8 @@ impl<'a> Sectioned<'a> {
         next == letters
     }
 
-    // Whether each string is UTF-8, of strings that lie in the letters. It is not inlined: beside its loop the one over the pairs is slower,
-    // and so is the check of a board of ASCII alone, by up to a twentieth.
+    // Whether each string is UTF-8, of strings that lie in the letters. Inlined, it makes the loop of `strings_laid` slower,
+    // and so the check of a board of ASCII alone, by up to a twentieth.
     #[inline(never)]
     fn strings_utf8(self) -> bool
         requires { strings_laid self.image.now ≡ true }

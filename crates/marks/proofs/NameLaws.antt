@@ -50,10 +50,7 @@ unfolding some
 some_none_of p n zero f = refl
 some_none_of p n (suc m) f = rw (f n (omega arith) (omega arith)) (some_none_of p (suc n) m (λ k h l. f k (omega arith) (omega arith)))
 
--- none is asked yet, and one more was asked
-pub none_start : (image name : List ℕ) → NoneBefore image name 0
-none_start image name n h = absurd (omega (arith, h))
-
+-- one more was asked
 pub none_next : (image name : List ℕ) {n : ℕ} → NoneBefore image name n → feature_is image name n ≡ false → NoneBefore image name (n + 1)
 none_next image name {n} f e k h = elim (cases_eq k n) [ inl here ↦ ap (feature_is image name) here ∙ e | inr past ↦ f k (omega (arith, h, past)) ]
 
