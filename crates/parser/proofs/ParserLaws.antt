@@ -7,7 +7,7 @@ use native.Mathlib.Omega.{arith}
 use lib.Dec.{eqb}
 use lib.ListN.{length, take, drop, length-drop}
 use lib.Seq.{sets}
-use Rattle.std.specs.Option.{is_some}
+use Rattle.std.specs.Option.{option_map}
 use Rattle.std.specs.Prelude.{Option, Some, None, Result, Ok, Err, MatchResult}
 use borrow.Author.Tests.{ne_eqb}
 use Rattle.syntax.specs.Text.{ascii, same}
@@ -18,7 +18,7 @@ use Rattle.reader.specs.declared.Reader.{Reader}
 use Rattle.reader.specs.Reader.{row_at, kind_at, past_ws}
 use Rattle.reader.specs.Reader as reader
 use Rattle.trees.specs.Look.{skip_ws, at_kind, at_ident, first_kind, tail_of, current_text, is_comparison, at_text, at_predicate_method, at_plain_method}
-use Rattle.trees.specs.Parse.{Parser, done, next, bump, fails, fails_ahead, ◌▹◌, in_node, choose, eat_ws, next_is_ident, parse_dot_call, parse, OrExpr}
+use Rattle.trees.specs.Parse.{Parser, done, next, next_is, bump, fails, fails_ahead, ◌▹◌, in_node, choose, eat_ws, next_is_ident, parse_dot_call, parse, OrExpr}
 use Rattle.trees.specs.Rows.{error_rows}
 use Rattle.trees.proofs.PlaceLaws.{tail_drop, past_here, past_within, kind_is, current_is, Seen, seen, unseen}
 use Rattle.trees.proofs.LookLaws as looks
@@ -83,6 +83,10 @@ module _ {s n : ExprParser} {found : Bool} where
 module _ {s n : ExprParser} (d : Did s n eat_ws) where
   eaten : skip_ws (left n) ≡ left n
   eaten = let r : left n ≡ skip_ws (left s) = rw d.keeps.rule (d.did.wrote.rest ∙ eat_rest (left s)) in ap skip_ws r ∙ skip_twice (left s) ∙ sym r
+
+  pub eaten_kind : {found : Bool} (k : Kind) → found ≡ next_is (number k) (left n) → found ≡ at_kind (number k) (left n)
+  unfolding at_kind next_is
+  eaten_kind k e = rw eaten e
 
   pub eaten_ident : {found : Bool} (w : List ℕ) → found ≡ at_ident w (left n) → found ≡ next_is_ident w (left n)
   unfolding at_ident next_is_ident
@@ -171,6 +175,10 @@ pub record Ongoing (s d : ExprParser) (p q : Parser) : Type 0 where
   pub rest : (r : ExprParser) → Did d r q → Did s r p
   pub fewer : length (left d) ≤ length (left s)
 
+-- s with c for its place
+abbrev pub with_place : ExprParser → Cursor → ExprParser
+with_place s c = record { rule = s.rule; tokens = s.tokens; tree = s.tree; errors = s.errors; level = s.level; at = c; ops = s.ops }
+
 pub ongoing_start : {s : ExprParser} {p : Parser} → Asks s p → Ongoing s s p p
 ongoing_start a = record { asks = a; rest = λ r d. d; fewer = omega arith }
 
@@ -215,12 +223,16 @@ module _ {s : ExprParser} (r : Ready s) where
   next_here = kind_is (lex s.rule.now) r.here.rows s.at.token
 
   -- whether a token is left, as the code finds it
-  module _ {kind : Option ℕ} (e : kind ≡ kind_at s.tokens.now s.at.token) where
-    pub some_left : true ≡ is_some kind → 0 < length (left s)
-    some_left t = looks.some_there (left s) (sym (rw (e, next_here) at t))
+  module _ {found : Option Row} (f : found ≡ row_at s.tokens.now s.at.token) where
+    kind_left : option_map (λ (row : Row). row.kind) found ≡ first_kind (left s)
+    unfolding kind_at
+    kind_left = rw f next_here
 
-    pub none_left : false ≡ is_some kind → length (left s) ≤ 0
-    none_left t = looks.none_there (left s) (sym (rw (e, next_here) at t))
+    pub some_left : {row : Row} → found ≡ Some row → 0 < length (left s)
+    some_left e = looks.some_there (left s) (rw (← kind_left, e) refl)
+
+    pub none_left : found ≡ None → length (left s) ≤ 0
+    none_left e = looks.none_there (left s) (rw (← kind_left, e) refl)
 
   -- the place past blanks
   pub ahead_here : drop (past_ws s.tokens.now s.at.token) (lex s.rule.now) ≡ skip_ws (left s)
@@ -295,10 +307,10 @@ module _ {s : ExprParser} {row : Row} {found : Option Row} (a : Asks s next) (f 
   pub token_small : s.at.token + 1 < 2 ^ 64
   token_small = place_small a.ready s.at.token a.ready.here.within
 
-  pub did_token : {t : List ℕ} → t ≡ sets s.tree.now s.at.row (row.kind ∷ s.level ∷ s.at.byte ∷ row.end ∷ [])
-      → Rattle.trees.specs.Writing.Did (lex s.rule.now) s.tree.now t s.errors.now s.errors.now s.level s.at
-      (record { token = s.at.token + 1; byte = row.end; row = s.at.row + 4; error = s.at.error }) next
-  did_token w = writing.did_next a.ready.here token_there w
+  pub did_token : {t : List ℕ} {c : Cursor} → t ≡ sets s.tree.now s.at.row (row.kind ∷ s.level ∷ s.at.byte ∷ row.end ∷ [])
+      → c ≡ record { token = s.at.token + 1; byte = row.end; row = s.at.row + 4; error = s.at.error }
+      → Rattle.trees.specs.Writing.Did (lex s.rule.now) s.tree.now t s.errors.now s.errors.now s.level s.at c next
+  did_token w p = rw p (writing.did_next a.ready.here token_there w)
 
 pub did_end : {s : ExprParser} {found : Option Row} → Ready s → found ≡ row_at s.tokens.now s.at.token → found ≡ None → Did s s next
 did_end {s} r f e = record { keeps = keeps_same; level = refl; did = writing.did_next_end r.here (unseen s.rule.now r.here.rows _ (sym e ∙ f)) }

@@ -1,7 +1,7 @@
 // parser.rs: the green tree of a rule, as rows of a lent table, and the parse errors, as rows of another.
 #![tactic(auto)]
 
-ghost use Rattle.std.specs.Prelude.{◌≡◌, ◌+◌, ◌≤◌, ◌<◌, ◌^◌, ◌&&◌, leb, length, drop};
+ghost use Rattle.std.specs.Prelude.{◌≡◌, ◌∷◌, [], ◌+◌, ◌≤◌, ◌<◌, ◌^◌, ◌&&◌, leb, length, drop};
 ghost use Rattle.std.proofs.lemmas.List.Edits.{sets};
 ghost use Rattle.syntax.specs.Kind.{NONE};
 ghost use Rattle.syntax.specs.Kinds.{number};
@@ -123,6 +123,19 @@ fn put_row(table: &mut [u32], at: usize, row: [u32; TREE_ROW])
     ensures { table.new ≡ sets table.old at row }
 {
     table[at..at + TREE_ROW].copy_from_slice(&row);
+}
+
+// Writes the token at a place as a leaf of a level; the place is then the one past it.
+fn put_leaf(tree: &mut [u32], level: u32, at: &mut Cursor, token: Row)
+    requires room { at.old.row + TREE_ROW ≤ length tree.old }
+    requires small { at.old.token + 1 < 2 ^ 64 }
+    ensures leaf { tree.new ≡ sets tree.old at.old.row (token.kind ∷ level ∷ at.old.byte ∷ token.end ∷ []) }
+    ensures past { at.new ≡ record { token = at.old.token + 1; byte = token.end; row = at.old.row + TREE_ROW; error = at.old.error } }
+{
+    put_row(tree, at.row, [token.kind, level, at.byte, token.end]);
+    at.token += 1;
+    at.byte = token.end;
+    at.row += TREE_ROW;
 }
 
 // `>= > <= < == !=`
@@ -319,14 +332,17 @@ impl ExprParser<'_> {
         }
     }
 
-    // All tokens left.
+    // All tokens left. Tokens and place are values on the way: in the parser both would be read, and the place written, for each token.
     fn take_remaining(&mut self)
         requires { Asks self.old remaining }
         ensures { Did self.old self.new remaining }
     {
-        while self.next_kind().is_some() {
-            self.put_token();
+        let tokens = self.tokens;
+        let mut at = self.at;
+        while let Some(token) = Reader::new(tokens, at.token).row() {
+            put_leaf(self.tree, self.level, &mut at, token);
         }
+        self.at = at;
     }
 
     // The next token, as a leaf; at the end of text nothing.
@@ -334,14 +350,9 @@ impl ExprParser<'_> {
         requires { Asks self.old next }
         ensures { Did self.old self.new next }
     {
-        let Some(token) = self.next_row() else {
-            return;
-        };
-        let row = [token.kind, self.level, self.at.byte, token.end];
-        put_row(self.tree, self.at.row, row);
-        self.at.token += 1;
-        self.at.byte = token.end;
-        self.at.row += TREE_ROW;
+        if let Some(token) = self.next_row() {
+            put_leaf(self.tree, self.level, &mut self.at, token);
+        }
     }
 
     // A node's row, whose end `finish_node` sets; what comes next stands inside it.
@@ -383,9 +394,7 @@ impl ExprParser<'_> {
         self.put_error(form, None, found);
     }
 
-    // An error row at the token `found`, or at the end of text. It stands apart, so that reading a rule without errors stays short.
-    #[cold]
-    #[inline(never)]
+    // An error row at the token `found`, or at the end of text.
     fn put_error(&mut self, form: Form, expected: Option<Kind>, found: usize)
         requires ready { Ready self.old }
         requires room { self.old.at.error + ERROR_ROW ≤ length self.old.errors.now }
@@ -498,7 +507,7 @@ impl ExprParser<'_> {
     {
         loop {
             self.eat_ws();
-            if !self.at_kind(Kind::Dot) {
+            if !self.next_is(Kind::Dot) {
                 break;
             }
             self.parse_dot_call();

@@ -1,12 +1,13 @@
 -- `take_remaining` writes all tokens left, and going on from each place ends as the whole does. Assumes nothing.
+use mathlib.Core.Path.{◌≡◌}
 use lib.ListN.{length}
 use Rattle.trees.specs.Parse.{remaining}
 use Rattle.parser.specs.Parser.{left}
-use Rattle.parser.proofs.ParserLaws.{Ongoing}
+use Rattle.parser.proofs.ParserLaws.{Ongoing, with_place}
 use Rattle.parser.proofs.ExprParser.take_remaining.Given as goal
 
-abbrev pub invariant-loop-self : goal.invariant-loop-self
-invariant-loop-self l = Ongoing l.initial.self l.self remaining remaining
+abbrev pub invariant-loop-token : goal.invariant-loop-token
+invariant-loop-token l = (l.self.tokens ≡ l.initial.self.tokens) × Ongoing l.initial.self (with_place l.self l.at) remaining remaining
 
-abbrev pub decreases-loop-self : goal.decreases-loop-self
-decreases-loop-self l = length (left l.self)
+abbrev pub decreases-loop-token : goal.decreases-loop-token
+decreases-loop-token l = length (left (with_place l.self l.at))
