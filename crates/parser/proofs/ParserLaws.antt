@@ -14,7 +14,6 @@ use Rattle.syntax.specs.Text.{ascii, same}
 use Rattle.lexer.specs.Lex.{Token, lex}
 use Rattle.lexer.proofs.ReadLaws.{lex_length}
 use Rattle.reader.specs.declared.Row.{Row}
-use Rattle.reader.specs.declared.Reader.{Reader}
 use Rattle.reader.specs.Reader.{row_at, kind_at, past_ws}
 use Rattle.reader.specs.Reader as reader
 use Rattle.trees.specs.Look.{skip_ws, at_kind, at_ident, first_kind, tail_of, current_text, is_comparison, at_text, at_predicate_method, at_plain_method}
@@ -32,7 +31,7 @@ use Rattle.syntax.specs.declared.kind.Kind.{Kind}
 use Rattle.syntax.specs.declared.kind.UnknownKind.{UnknownKind}
 use Rattle.trees.proofs.WritingLaws as writing
 use Rattle.parser.specs.declared.ExprParser.{ExprParser}
-use Rattle.parser.specs.Parser.{left, Ready, Asks, Keeps, Did, Started, Finished, Inside, Reported, is_predicate_method, is_plain_method}
+use Rattle.parser.specs.Parser.{left, token_ahead, Ready, Asks, Keeps, Did, Started, Finished, Inside, Reported, is_predicate_method, is_plain_method}
 
 pub keeps_same : {s : ExprParser} → Keeps s s
 keeps_same = record { rule = refl; tokens = refl; ops = refl; tree = refl; errors = refl }
@@ -247,16 +246,12 @@ module _ {s : ExprParser} (r : Ready s) where
       current_is (lex s.rule.now) r.here.rows (i + 1) ∙ ap (λ (us : List Token). first_kind (skip_ws us)) (tail_drop (lex s.rule.now) i ∙ ap tail_of ahead_here)
 
   -- the row of the first token that is no blank, as the code looks for it
-  module _ {o : Option Row} (here past : Reader) (at : (here.rows ≡ s.tokens) × (here.place ≡ s.at.token)) (skipped : (past.rows ≡ here.rows) × (past.place ≡ past_ws here.rows.now here.place))
-      (found : o ≡ row_at past.rows.now past.place) where
-    row_ahead : o ≡ row_at s.tokens.now (past_ws s.tokens.now s.at.token)
-    row_ahead = rw (skipped.0, skipped.1, at.0, at.1) at found
-
+  module _ {o : Option Row} (found : o ≡ token_ahead s) where
     text_there : {row : Row} → o ≡ Some row → Seen s.rule.now (past_ws s.tokens.now s.at.token) row
-    text_there e = seen s.rule.now r.here.rows _ (sym e ∙ row_ahead)
+    text_there e = seen s.rule.now r.here.rows _ (sym e ∙ found)
 
     none_there : o ≡ None → skip_ws (left s) ≡ []
-    none_there e = sym ahead_here ∙ unseen s.rule.now r.here.rows _ (sym e ∙ row_ahead)
+    none_there e = sym ahead_here ∙ unseen s.rule.now r.here.rows _ (sym e ∙ found)
 
     pub text_here : {row : Row} → o ≡ Some row → take (row.end - row.first) (drop row.first s.rule.now) ≡ current_text (left s)
     text_here e = let w = text_there e in w.text ∙ sym (rw (← ahead_here, w.here))

@@ -6,6 +6,8 @@ use Rattle.syntax.specs.declared.kind.Kind.{Kind}
 use Rattle.std.proofs.lemmas.List.Edits.{sets}
 use Rattle.lexer.specs.Lex.{Token, lex}
 use Rattle.lexer.specs.Read.{TREE_ROW, ERROR_ROW}
+use Rattle.reader.specs.declared.Row.{Row}
+use Rattle.reader.specs.Reader.{row_at, past_ws}
 use Rattle.trees.specs.Parse.{Parser}
 use Rattle.trees.specs.Rows.{error_rows}
 use Rattle.trees.specs.Writing.{NoOpsFrom}
@@ -15,6 +17,10 @@ use Rattle.parser.specs.declared.ExprParser.{ExprParser}
 -- the tokens left
 abbrev pub left : ExprParser → List Token
 left s = drop s.at.token (lex s.rule.now)
+
+-- the first of them that is no blank, as its row has it
+abbrev pub token_ahead : ExprParser → Option Row
+token_ahead s = row_at s.tokens.now (past_ws s.tokens.now s.at.token)
 
 -- s stands at a token of its rule, or at their end
 pub record Ready (s : ExprParser) : Type 0 where

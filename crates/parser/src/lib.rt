@@ -1,7 +1,7 @@
 // parser.rs: the green tree of a rule, as rows of a lent table, and the parse errors, as rows of another.
 #![tactic(auto)]
 
-ghost use Rattle.std.specs.Prelude.{◌≡◌, ◌∷◌, [], ◌+◌, ◌≤◌, ◌<◌, ◌^◌, ◌&&◌, leb, length, drop};
+ghost use Rattle.std.specs.Prelude.{◌≡◌, ℕ, ◌∷◌, [], ◌+◌, ◌≤◌, ◌<◌, ◌^◌, ◌&&◌, leb, length, drop};
 ghost use Rattle.std.proofs.lemmas.List.Edits.{sets};
 ghost use Rattle.syntax.specs.Kind.{NONE};
 ghost use Rattle.syntax.specs.Kinds.{number};
@@ -14,7 +14,7 @@ ghost use Rattle.trees.specs.Parse.{Parser, in_node, next, next_is, fails, fails
 ghost use Rattle.trees.specs.Read.{check_tables, Reads};
 ghost use Rattle.trees.specs.Writing.{NoneFrom, NoOpsFrom};
 ghost use Rattle.trees.specs.Writing as tables;
-ghost use Rattle.parser.specs.Parser.{left, Ready, Asks, Did, Started, Inside, Finished, Reported, expected_number, is_predicate_method, is_plain_method};
+ghost use Rattle.parser.specs.Parser.{left, token_ahead, Ready, Asks, Did, Started, Inside, Finished, Reported, expected_number, is_predicate_method, is_plain_method};
 
 use lexer::limits::{ERROR_ROW, MAX_RULE, TOKEN_ROW, TREE_ROW};
 use reader::{Reader, Row};
@@ -189,12 +189,19 @@ impl<'a> ExprParser<'a> {
         self.reader().current_kind()
     }
 
+    // That token.
+    fn token_ahead(&self) -> Option<Row>
+        ensures { result ≡ token_ahead self.now }
+    {
+        self.reader().skip_ws().row()
+    }
+
     // Its bytes; at the end of text it has none.
     fn current_text(&self) -> &'a [u8]
         requires { Ready self.now }
         ensures { result.now ≡ current_text (left self.now) }
     {
-        let Some(row) = self.reader().skip_ws().row() else {
+        let Some(row) = self.token_ahead() else {
             return b"";
         };
         &self.rule[row.first as usize..row.end as usize]
@@ -208,18 +215,27 @@ impl<'a> ExprParser<'a> {
         self.current_kind() == Some(u32::from(kind))
     }
 
-    // Whether that token is this word: one look serves its kind and its text.
+    // Whether that token is this word.
     fn at_ident(&self, text: &[u8]) -> bool
         requires { Ready self.now }
         ensures { result ≡ at_ident text.now (left self.now) }
     {
-        let Some(token) = self.reader().skip_ws().row() else {
+        self.is_ident(self.token_ahead(), text)
+    }
+
+    // The same of that token where it is known: one look serves its kind and its text, and more than one word.
+    fn is_ident(&self, token: Option<Row>, text: &[u8]) -> bool
+        requires ready { Ready self.now }
+        requires ahead { token ≡ token_ahead self.now }
+        ensures { result ≡ at_ident text.now (left self.now) }
+    {
+        let Some(row) = token else {
             return false;
         };
-        if token.kind != Kind::Ident as u32 {
+        if row.kind != Kind::Ident as u32 {
             return false;
         }
-        text::same(&self.rule[token.first as usize..token.end as usize], text)
+        text::same(&self.rule[row.first as usize..row.end as usize], text)
     }
 
     fn at_eof(&self) -> bool
@@ -231,11 +247,12 @@ impl<'a> ExprParser<'a> {
 
     // `message` with a `.` after it: `peek_kind(1)`, the kind of the second token that is no blank, is asked.
     #[tactic(auto, using(trees::proofs::LookLaws::head_test), unfolding(trees::specs::Look::at_message_dot, trees::specs::Look::peek_kind))]
-    fn at_message_dot(&self) -> bool
-        requires { Ready self.now }
+    fn at_message_dot(&self, token: Option<Row>) -> bool
+        requires ready { Ready self.now }
+        requires ahead { token ≡ token_ahead self.now }
         ensures { result ≡ at_message_dot (left self.now) }
     {
-        self.at_ident(b"message") && self.peek_kind() == Some(Kind::Dot as u32)
+        self.is_ident(token, b"message") && self.peek_kind() == Some(Kind::Dot as u32)
     }
 
     // The kind of the second token that is no blank.
@@ -382,7 +399,7 @@ impl ExprParser<'_> {
         requires { Asks self.old (fails (forms.number form) (expected_number expected)) }
         ensures { Did self.old self.new (fails (forms.number form) (expected_number expected)) }
     {
-        self.put_error(form, expected, self.at.token);
+        self.put_error(form, expected, self.next_row());
     }
 
     // An error at the first token that is no blank, or at the end of text.
@@ -390,20 +407,19 @@ impl ExprParser<'_> {
         requires { Asks self.old (fails_ahead (forms.number form)) }
         ensures { Did self.old self.new (fails_ahead (forms.number form)) }
     {
-        let found = self.reader().skip_ws().place;
-        self.put_error(form, None, found);
+        self.put_error(form, None, self.token_ahead());
     }
 
-    // An error row at the token `found`, or at the end of text.
-    fn put_error(&mut self, form: Form, expected: Option<Kind>, found: usize)
+    // An error row at a token, or at the end of text.
+    fn put_error(&mut self, form: Form, expected: Option<Kind>, token: Option<Row>)
         requires ready { Ready self.old }
         requires room { self.old.at.error + ERROR_ROW ≤ length self.old.errors.now }
-        ensures { Reported self.old self.new (forms.number form) (expected_number expected) (drop found (lex self.old.rule.now)) }
+        ensures { (i : ℕ) → token ≡ row_at self.old.tokens.now i → Reported self.old self.new (forms.number form) (expected_number expected) (drop i (lex self.old.rule.now)) }
     {
         let form = u32::from(form);
         let expected = expected_number(expected);
         let end = self.rule.len() as u32;
-        let row = match Reader::new(self.tokens, found).row() {
+        let row = match token {
             Some(token) => [form, expected, token.first, token.end],
             None => [form, expected, end, end],
         };
@@ -679,12 +695,12 @@ impl ExprParser<'_> {
         ensures { Did self.old self.new (parse Atom) }
     {
         self.eat_ws();
-        if self.at_kind(Kind::NotKw) {
+        if self.next_is(Kind::NotKw) {
             let node = self.start_node(Kind::UnaryExpr);
             self.bump();
             self.parse_atom();
             self.finish_node(node);
-        } else if self.at_kind(Kind::LParen) {
+        } else if self.next_is(Kind::LParen) {
             let node = self.start_node(Kind::ParenExpr);
             self.bump();
             self.parse_or_expr();
@@ -700,13 +716,14 @@ impl ExprParser<'_> {
         requires { Asks self.old simple_atom }
         ensures { Did self.old self.new simple_atom }
     {
-        if self.at_ident(b"has") {
+        let token = self.token_ahead();
+        if self.is_ident(token, b"has") {
             self.call_expr();
-        } else if self.at_ident(b"connected") {
+        } else if self.is_ident(token, b"connected") {
             self.ident_expr();
-        } else if self.at_message_dot() {
+        } else if self.at_message_dot(token) {
             self.contains_expr();
-        } else if self.at_field() {
+        } else if self.at_field(token) {
             self.compare_expr();
         } else {
             self.fail_ahead(Form::Atom);
@@ -714,15 +731,16 @@ impl ExprParser<'_> {
     }
 
     #[tactic(auto, unfolding(trees::specs::Look::at_field))]
-    fn at_field(&self) -> bool
-        requires { Ready self.now }
+    fn at_field(&self, token: Option<Row>) -> bool
+        requires ready { Ready self.now }
+        requires ahead { token ≡ token_ahead self.now }
         ensures { result ≡ at_field (left self.now) }
     {
-        self.at_ident(b"category")
-            || self.at_ident(b"kind")
-            || self.at_ident(b"direction")
-            || self.at_ident(b"severity")
-            || self.at_ident(b"message")
+        self.is_ident(token, b"category")
+            || self.is_ident(token, b"kind")
+            || self.is_ident(token, b"direction")
+            || self.is_ident(token, b"severity")
+            || self.is_ident(token, b"message")
     }
 
     // has('..') and analysis('..')

@@ -6,7 +6,7 @@ use lib.ListN.{length}
 use Rattle.syntax.specs.declared.kind.Kind.{Kind}
 use Rattle.trees.proofs.ParseLaws.{atom_here_is}
 use Rattle.trees.proofs.CycleLaws.{alone, or_step, and_step, atom_step, or_more, or_end, and_more, and_end}
-use Rattle.parser.proofs.ParserLaws.{asks_is, asks_as, asks_node, asks_first, asks_then, asks_true, asks_false, inside, did_is, did_as, did_node, did_then, did_true, did_false, ongoing_start, ongoing_as, ongoing_asks, ongoing_next, ongoing_end, no_more, bump_fewer, node_fewer, started_left}
+use Rattle.parser.proofs.ParserLaws.{asks_is, asks_as, asks_node, asks_first, asks_then, asks_true, asks_false, inside, did_is, did_as, did_node, did_then, did_true, did_false, ongoing_start, ongoing_as, ongoing_asks, ongoing_next, ongoing_end, no_more, bump_fewer, node_fewer, started_left, eaten_kind}
 use Rattle.parser.proofs.ExprParser.+parse_or_expr.Goals as goal
 
 pub parse_and_expr-parse_atom-requires : goal.parse_and_expr-parse_atom-requires
@@ -85,40 +85,40 @@ pub parse_atom-eat_ws-requires : goal.parse_atom-eat_ws-requires
 parse_atom-eat_ws-requires t c = asks_first _ (asks_as (atom_step _) c.requires)
 
 pub parse_atom-start_node-node-requires : goal.parse_atom-start_node-node-requires
-parse_atom-start_node-node-requires t c = (_, asks_true _ _ c.at_kind.ensures c.if-at_kind.true (asks_is atom_here_is (asks_then (asks_as (atom_step _) c.requires) c.eat_ws.ensures)))
+parse_atom-start_node-node-requires t c = (_, asks_true _ _ (eaten_kind c.eat_ws.ensures Kind.NotKw c.next_is.ensures) c.if-next_is.true (asks_is atom_here_is (asks_then (asks_as (atom_step _) c.requires) c.eat_ws.ensures)))
 
 pub parse_atom-bump-requires : goal.parse_atom-bump-requires
-parse_atom-bump-requires t c = asks_first _ (asks_node (asks_true _ _ c.at_kind.ensures c.if-at_kind.true (asks_is atom_here_is (asks_then (asks_as (atom_step _) c.requires) c.eat_ws.ensures))) c.start_node-node.ensures)
+parse_atom-bump-requires t c = asks_first _ (asks_node (asks_true _ _ (eaten_kind c.eat_ws.ensures Kind.NotKw c.next_is.ensures) c.if-next_is.true (asks_is atom_here_is (asks_then (asks_as (atom_step _) c.requires) c.eat_ws.ensures))) c.start_node-node.ensures)
 
 pub parse_atom-parse_atom-requires : goal.parse_atom-parse_atom-requires
-parse_atom-parse_atom-requires t c = (omega (arith, no_more c.eat_ws.ensures, node_fewer Kind.NotKw c.at_kind.ensures c.if-at_kind.true c.start_node-node.ensures c.bump.ensures), asks_then (asks_node (asks_true _ _ c.at_kind.ensures c.if-at_kind.true (asks_is atom_here_is (asks_then (asks_as (atom_step _) c.requires) c.eat_ws.ensures))) c.start_node-node.ensures) c.bump.ensures)
+parse_atom-parse_atom-requires t c = (omega (arith, no_more c.eat_ws.ensures, node_fewer Kind.NotKw (eaten_kind c.eat_ws.ensures Kind.NotKw c.next_is.ensures) c.if-next_is.true c.start_node-node.ensures c.bump.ensures), asks_then (asks_node (asks_true _ _ (eaten_kind c.eat_ws.ensures Kind.NotKw c.next_is.ensures) c.if-next_is.true (asks_is atom_here_is (asks_then (asks_as (atom_step _) c.requires) c.eat_ws.ensures))) c.start_node-node.ensures) c.bump.ensures)
 
 pub parse_atom-finish_node-requires : goal.parse_atom-finish_node-requires
-parse_atom-finish_node-requires t c = inside (asks_true _ _ c.at_kind.ensures c.if-at_kind.true (asks_is atom_here_is (asks_then (asks_as (atom_step _) c.requires) c.eat_ws.ensures))) c.start_node-node.ensures (did_then c.bump.ensures c.parse_atom.ensures)
+parse_atom-finish_node-requires t c = inside (asks_true _ _ (eaten_kind c.eat_ws.ensures Kind.NotKw c.next_is.ensures) c.if-next_is.true (asks_is atom_here_is (asks_then (asks_as (atom_step _) c.requires) c.eat_ws.ensures))) c.start_node-node.ensures (did_then c.bump.ensures c.parse_atom.ensures)
 
-pub parse_atom-returns-then-at_kind : goal.parse_atom-returns-then-at_kind
-parse_atom-returns-then-at_kind t c = did_as (atom_step _) (did_then c.eat_ws.ensures (did_is atom_here_is (did_true _ _ c.at_kind.ensures c.if-at_kind.true (did_node c.start_node-node.ensures (did_then c.bump.ensures c.parse_atom.ensures) c.finish_node.ensures))))
+pub parse_atom-returns-then-next_is : goal.parse_atom-returns-then-next_is
+parse_atom-returns-then-next_is t c = did_as (atom_step _) (did_then c.eat_ws.ensures (did_is atom_here_is (did_true _ _ (eaten_kind c.eat_ws.ensures Kind.NotKw c.next_is.ensures) c.if-next_is.true (did_node c.start_node-node.ensures (did_then c.bump.ensures c.parse_atom.ensures) c.finish_node.ensures))))
 
-pub parse_atom-start_node-node-requires-then-at_kind-2 : goal.parse_atom-start_node-node-requires-then-at_kind-2
-parse_atom-start_node-node-requires-then-at_kind-2 t c = (_, asks_true _ _ c.at_kind-else-at_kind.ensures c.if-at_kind-2.true (asks_false _ _ c.at_kind.ensures c.if-at_kind.false (asks_is atom_here_is (asks_then (asks_as (atom_step _) c.requires) c.eat_ws.ensures))))
+pub parse_atom-start_node-node-requires-then-next_is-2 : goal.parse_atom-start_node-node-requires-then-next_is-2
+parse_atom-start_node-node-requires-then-next_is-2 t c = (_, asks_true _ _ (eaten_kind c.eat_ws.ensures Kind.LParen c.next_is-else-next_is.ensures) c.if-next_is-2.true (asks_false _ _ (eaten_kind c.eat_ws.ensures Kind.NotKw c.next_is.ensures) c.if-next_is.false (asks_is atom_here_is (asks_then (asks_as (atom_step _) c.requires) c.eat_ws.ensures))))
 
-pub parse_atom-bump-requires-then-at_kind-2 : goal.parse_atom-bump-requires-then-at_kind-2
-parse_atom-bump-requires-then-at_kind-2 t c = asks_first _ (asks_first _ (asks_node (asks_true _ _ c.at_kind-else-at_kind.ensures c.if-at_kind-2.true (asks_false _ _ c.at_kind.ensures c.if-at_kind.false (asks_is atom_here_is (asks_then (asks_as (atom_step _) c.requires) c.eat_ws.ensures)))) c.start_node-node-then-at_kind-2.ensures))
+pub parse_atom-bump-requires-then-next_is-2 : goal.parse_atom-bump-requires-then-next_is-2
+parse_atom-bump-requires-then-next_is-2 t c = asks_first _ (asks_first _ (asks_node (asks_true _ _ (eaten_kind c.eat_ws.ensures Kind.LParen c.next_is-else-next_is.ensures) c.if-next_is-2.true (asks_false _ _ (eaten_kind c.eat_ws.ensures Kind.NotKw c.next_is.ensures) c.if-next_is.false (asks_is atom_here_is (asks_then (asks_as (atom_step _) c.requires) c.eat_ws.ensures)))) c.start_node-node-then-next_is-2.ensures))
 
 pub parse_atom-parse_or_expr-requires : goal.parse_atom-parse_or_expr-requires
-parse_atom-parse_or_expr-requires t c = (omega (arith, no_more c.eat_ws.ensures, node_fewer Kind.LParen c.at_kind-else-at_kind.ensures c.if-at_kind-2.true c.start_node-node-then-at_kind-2.ensures c.bump-then-at_kind-2.ensures), asks_then (asks_first _ (asks_node (asks_true _ _ c.at_kind-else-at_kind.ensures c.if-at_kind-2.true (asks_false _ _ c.at_kind.ensures c.if-at_kind.false (asks_is atom_here_is (asks_then (asks_as (atom_step _) c.requires) c.eat_ws.ensures)))) c.start_node-node-then-at_kind-2.ensures)) c.bump-then-at_kind-2.ensures)
+parse_atom-parse_or_expr-requires t c = (omega (arith, no_more c.eat_ws.ensures, node_fewer Kind.LParen (eaten_kind c.eat_ws.ensures Kind.LParen c.next_is-else-next_is.ensures) c.if-next_is-2.true c.start_node-node-then-next_is-2.ensures c.bump-then-next_is-2.ensures), asks_then (asks_first _ (asks_node (asks_true _ _ (eaten_kind c.eat_ws.ensures Kind.LParen c.next_is-else-next_is.ensures) c.if-next_is-2.true (asks_false _ _ (eaten_kind c.eat_ws.ensures Kind.NotKw c.next_is.ensures) c.if-next_is.false (asks_is atom_here_is (asks_then (asks_as (atom_step _) c.requires) c.eat_ws.ensures)))) c.start_node-node-then-next_is-2.ensures)) c.bump-then-next_is-2.ensures)
 
 pub parse_atom-expect-requires : goal.parse_atom-expect-requires
-parse_atom-expect-requires t c = asks_then (asks_node (asks_true _ _ c.at_kind-else-at_kind.ensures c.if-at_kind-2.true (asks_false _ _ c.at_kind.ensures c.if-at_kind.false (asks_is atom_here_is (asks_then (asks_as (atom_step _) c.requires) c.eat_ws.ensures)))) c.start_node-node-then-at_kind-2.ensures) (did_then c.bump-then-at_kind-2.ensures c.parse_or_expr.ensures)
+parse_atom-expect-requires t c = asks_then (asks_node (asks_true _ _ (eaten_kind c.eat_ws.ensures Kind.LParen c.next_is-else-next_is.ensures) c.if-next_is-2.true (asks_false _ _ (eaten_kind c.eat_ws.ensures Kind.NotKw c.next_is.ensures) c.if-next_is.false (asks_is atom_here_is (asks_then (asks_as (atom_step _) c.requires) c.eat_ws.ensures)))) c.start_node-node-then-next_is-2.ensures) (did_then c.bump-then-next_is-2.ensures c.parse_or_expr.ensures)
 
-pub parse_atom-finish_node-requires-then-at_kind-2 : goal.parse_atom-finish_node-requires-then-at_kind-2
-parse_atom-finish_node-requires-then-at_kind-2 t c = inside (asks_true _ _ c.at_kind-else-at_kind.ensures c.if-at_kind-2.true (asks_false _ _ c.at_kind.ensures c.if-at_kind.false (asks_is atom_here_is (asks_then (asks_as (atom_step _) c.requires) c.eat_ws.ensures)))) c.start_node-node-then-at_kind-2.ensures (did_then (did_then c.bump-then-at_kind-2.ensures c.parse_or_expr.ensures) c.expect.ensures)
+pub parse_atom-finish_node-requires-then-next_is-2 : goal.parse_atom-finish_node-requires-then-next_is-2
+parse_atom-finish_node-requires-then-next_is-2 t c = inside (asks_true _ _ (eaten_kind c.eat_ws.ensures Kind.LParen c.next_is-else-next_is.ensures) c.if-next_is-2.true (asks_false _ _ (eaten_kind c.eat_ws.ensures Kind.NotKw c.next_is.ensures) c.if-next_is.false (asks_is atom_here_is (asks_then (asks_as (atom_step _) c.requires) c.eat_ws.ensures)))) c.start_node-node-then-next_is-2.ensures (did_then (did_then c.bump-then-next_is-2.ensures c.parse_or_expr.ensures) c.expect.ensures)
 
-pub parse_atom-returns-then-at_kind-2 : goal.parse_atom-returns-then-at_kind-2
-parse_atom-returns-then-at_kind-2 t c = did_as (atom_step _) (did_then c.eat_ws.ensures (did_is atom_here_is (did_false _ _ c.at_kind.ensures c.if-at_kind.false (did_true _ _ c.at_kind-else-at_kind.ensures c.if-at_kind-2.true (did_node c.start_node-node-then-at_kind-2.ensures (did_then (did_then c.bump-then-at_kind-2.ensures c.parse_or_expr.ensures) c.expect.ensures) c.finish_node-then-at_kind-2.ensures)))))
+pub parse_atom-returns-then-next_is-2 : goal.parse_atom-returns-then-next_is-2
+parse_atom-returns-then-next_is-2 t c = did_as (atom_step _) (did_then c.eat_ws.ensures (did_is atom_here_is (did_false _ _ (eaten_kind c.eat_ws.ensures Kind.NotKw c.next_is.ensures) c.if-next_is.false (did_true _ _ (eaten_kind c.eat_ws.ensures Kind.LParen c.next_is-else-next_is.ensures) c.if-next_is-2.true (did_node c.start_node-node-then-next_is-2.ensures (did_then (did_then c.bump-then-next_is-2.ensures c.parse_or_expr.ensures) c.expect.ensures) c.finish_node-then-next_is-2.ensures)))))
 
 pub parse_atom-simple_atom-requires : goal.parse_atom-simple_atom-requires
-parse_atom-simple_atom-requires t c = asks_false _ _ c.at_kind-else-at_kind.ensures c.if-at_kind-2.false (asks_false _ _ c.at_kind.ensures c.if-at_kind.false (asks_is atom_here_is (asks_then (asks_as (atom_step _) c.requires) c.eat_ws.ensures)))
+parse_atom-simple_atom-requires t c = asks_false _ _ (eaten_kind c.eat_ws.ensures Kind.LParen c.next_is-else-next_is.ensures) c.if-next_is-2.false (asks_false _ _ (eaten_kind c.eat_ws.ensures Kind.NotKw c.next_is.ensures) c.if-next_is.false (asks_is atom_here_is (asks_then (asks_as (atom_step _) c.requires) c.eat_ws.ensures)))
 
-pub parse_atom-returns-else-at_kind-2 : goal.parse_atom-returns-else-at_kind-2
-parse_atom-returns-else-at_kind-2 t c = did_as (atom_step _) (did_then c.eat_ws.ensures (did_is atom_here_is (did_false _ _ c.at_kind.ensures c.if-at_kind.false (did_false _ _ c.at_kind-else-at_kind.ensures c.if-at_kind-2.false c.simple_atom.ensures))))
+pub parse_atom-returns-else-next_is-2 : goal.parse_atom-returns-else-next_is-2
+parse_atom-returns-else-next_is-2 t c = did_as (atom_step _) (did_then c.eat_ws.ensures (did_is atom_here_is (did_false _ _ (eaten_kind c.eat_ws.ensures Kind.NotKw c.next_is.ensures) c.if-next_is.false (did_false _ _ (eaten_kind c.eat_ws.ensures Kind.LParen c.next_is-else-next_is.ensures) c.if-next_is-2.false c.simple_atom.ensures))))

@@ -6,4 +6,4 @@ pub put_error-requires-clause-room : goal.put_error-requires-clause-room
 put_error-requires-clause-room c = fail_room _ _ c.requires
 
 pub returns : goal.returns
-returns c = did_fail _ _ c.requires.ready c.put_error.ensures
+returns c = did_fail _ _ c.requires.ready (c.put_error.ensures _ c.next_row.ensures)

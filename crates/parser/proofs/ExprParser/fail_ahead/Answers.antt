@@ -6,4 +6,6 @@ pub put_error-requires-clause-room : goal.put_error-requires-clause-room
 put_error-requires-clause-room c = fail_ahead_room _ c.requires
 
 pub returns : goal.returns
-returns c = did_fail_ahead _ c.requires.ready (rw (rw (c.reader.ensures.0, c.reader.ensures.1) at c.skip_ws-found.ensures.1, ahead_here c.requires.ready) at c.put_error.ensures)
+returns c =
+    let e = c.put_error.ensures _ c.token_ahead.ensures in
+    did_fail_ahead _ c.requires.ready (rw (ahead_here c.requires.ready) at e)

@@ -8,14 +8,13 @@ use Rattle.parser.proofs.ExprParser.put_error.Goals.{in-Some, in-None}
 use Rattle.parser.proofs.ExprParser.put_error.Goals as goal
 
 pub returns : goal.returns
-returns c =
+returns c i look =
     let form = forms.number c.args.form in
     let k = expected_number c.args.expected in
-    let look = rw (c.new.ensures.0, c.new.ensures.1) at c.row.ensures in
-    let e : c.match-row.row ≡ error_of c.requires.ready c.args.found form k =
-    elim c.match-row.branch [
-      | in-Some w ↦ w.row-is ∙ rw (c.from-form.ensures, c.expected_number-expected.ensures) (error_here c.requires.ready c.args.found form k (sym w.in-Some.is ∙ look))
-      | in-None w ↦ w.row-is ∙ rw (c.from-form.ensures, c.expected_number-expected.ensures) (error_end c.requires.ready c.args.found form k (sym w.in-None.is ∙ look))
+    let e : c.match-token.row ≡ error_of c.requires.ready i form k =
+    elim c.match-token.branch [
+      | in-Some w ↦ w.row-is ∙ rw (c.from-form.ensures, c.expected_number-expected.ensures) (error_here c.requires.ready i form k (sym w.in-Some.is ∙ look))
+      | in-None w ↦ w.row-is ∙ rw (c.from-form.ensures, c.expected_number-expected.ensures) (error_end c.requires.ready i form k (sym w.in-None.is ∙ look))
     ] in
     record {
       keeps = search rules;
